@@ -1,5 +1,5 @@
 -- The place after a text, by its bytes.
-use Rattle.std.proofs.Common.{◌≡◌, ℕ, zero, suc, ◌+◌, ◌/◌, ◌%◌, ◌<◌, ◌≤◌, ◌==◌, nat_lt, Bool, true, false, cond, List, [], ◌∷◌, ◌++◌, length, drop, slice_index, refl, ap, sym, ◌∙◌, arith, IsUtf8}
+use Rattle.std.proofs.Common.{◌≡◌, ℕ, zero, suc, ◌+◌, ◌<◌, ◌≤◌, ◌==◌, Bool, true, false, cond, List, [], ◌∷◌, ◌++◌, length, drop, slice_index, refl, ap, sym, ◌∙◌, arith, IsUtf8}
 use Rattle.std.proofs.lemmas.Bool.Decides.{nat_tests}
 use Rattle.std.proofs.lemmas.List.Sums.{sum_by-cons}
 use Rattle.std.specs.List.{count_by}
@@ -27,43 +27,17 @@ first_byte : (p : Place) (b : ℕ) → (b == 10) ≡ false → begins_character 
 first_byte p b other begins = ap (λ t. by_tests p t (begins_character b)) other ∙ ap (stepped p) begins
 
 next_byte : (p : Place) (b : ℕ) → (128 ≤ b) × (b < 192) → next_by_byte p b ≡ p
-next_byte p b within =
-    let low = within.0 in
-    let high = within.1 in
-    let other : (b == 10) ≡ false = grind (arith, nat_tests, low) in
-    let inner : begins_character b ≡ false = grind (arith, nat_tests, low, high) in
-    ap (λ t. by_tests p t (begins_character b)) other ∙ ap (stepped p) inner ∙ ap (λ n. record { line = p.line; column = n }) {y = p.column} (omega arith)
+next_byte p b within = grind arith
 
 of_one : (p : Place) (c : ℕ) → c < 128 → next_by_byte p c ≡ next_place p c
 of_one p c low = let begins : begins_character c ≡ true = grind (arith, nat_tests, low) in ap (by_tests p (c == 10)) begins
 
 of_more : (p : Place) (c : ℕ) → 128 ≤ c → record { line = p.line; column = p.column + 1 } ≡ next_place p c
-of_more p c high =
-    let other : (c == 10) ≡ false = grind (arith, nat_tests, high) in
-    sym (ap (λ t. cond {A = Place} t (record { line = p.line + 1; column = 1 }) (record { line = p.line; column = p.column + 1 })) other)
+of_more p c high = grind arith
 
 one_character : (p : Place) (c : ℕ) → place_by_bytes p (encode c) ≡ next_place p c
 unfolding encode
-one_character p c = by (nat_lt c 128) (nat_lt c 2048) (nat_lt c 65536) refl refl refl
-  where
-    first : (b : ℕ) → 192 ≤ b → next_by_byte p b ≡ record { line = p.line; column = p.column + 1 }
-    first b high = first_byte p b (grind (arith, nat_tests, high)) (grind (arith, nat_tests, high))
-
-    by : (x y z : Bool) → nat_lt c 128 ≡ x → nat_lt c 2048 ≡ y → nat_lt c 65536 ≡ z
-        → place_by_bytes p (cond x (c ∷ []) (cond y ((192 + c / 64) ∷ (128 + c % 64) ∷ [])
-        (cond z ((224 + c / 4096) ∷ (128 + (c / 64) % 64) ∷ (128 + c % 64) ∷ []) ((240 + c / 262144) ∷ (128 + (c / 4096) % 64) ∷ (128 + (c / 64) % 64) ∷ (128 + c % 64) ∷ []))))
-        ≡ next_place p c
-    by true y z e f g = of_one p c (grind (arith, nat_tests, e))
-    by false true z e f g = next_byte (next_by_byte p (192 + c / 64)) (128 + c % 64) (omega arith, omega arith) ∙ first (192 + c / 64) (omega arith) ∙ of_more p c (grind (arith, nat_tests, e))
-    by false false true e f g =
-        next_byte (next_by_byte (next_by_byte p (224 + c / 4096)) (128 + (c / 64) % 64)) (128 + c % 64) (omega arith, omega arith)
-        ∙ next_byte (next_by_byte p (224 + c / 4096)) (128 + (c / 64) % 64) (omega arith, omega arith)
-        ∙ first (224 + c / 4096) (omega arith) ∙ of_more p c (grind (arith, nat_tests, e))
-    by false false false e f g =
-        next_byte (next_by_byte (next_by_byte (next_by_byte p (240 + c / 262144)) (128 + (c / 4096) % 64)) (128 + (c / 64) % 64)) (128 + c % 64) (omega arith, omega arith)
-        ∙ next_byte (next_by_byte (next_by_byte p (240 + c / 262144)) (128 + (c / 4096) % 64)) (128 + (c / 64) % 64) (omega arith, omega arith)
-        ∙ next_byte (next_by_byte p (240 + c / 262144)) (128 + (c / 4096) % 64) (omega arith, omega arith)
-        ∙ first (240 + c / 262144) (omega arith) ∙ of_more p c (grind (arith, nat_tests, e))
+one_character p c = grind (arith, first_byte, of_one, next_byte, of_more)
 
 by_characters : (p : Place) (cs : List ℕ) → place_by_bytes p (encodes cs) ≡ place_past p cs
 by_characters p [] = refl

@@ -1,6 +1,6 @@
 -- What the gatherer holds is what the definitions say of what was emitted.
 use Rattle.std.proofs.Math.Bool.{and-true, and-false}
-use Rattle.std.proofs.Common.{◌≡◌, ℕ, ◌+◌, ◌-◌, ◌<◌, ◌^◌, ◌||◌, ◌&&◌, ◌==◌, min, not, nat_lt, Bool, true, false, cond, List, [], ◌∷◌, ◌++◌, length, take, drop, refl, sym, ap, ◌∙◌, arith, append_assoc, append-nil, length-append, encode_utf8, codes}
+use Rattle.std.proofs.Common.{◌≡◌, ℕ, ◌+◌, ◌-◌, ◌<◌, ◌^◌, ◌||◌, ◌&&◌, ◌==◌, min, not, nat_lt, Bool, true, false, cond, List, [], ◌∷◌, ◌++◌, length, refl, sym, ap, ◌∙◌, arith, append_assoc, append-nil, length-append, encode_utf8, codes}
 use Rattle.std.specs.List.{list_any, sum_by, flat_map}
 use lib.Utf8.{encode}
 use Rattle.std.proofs.Math.Seq.{take-append-add, drop-append-add}
@@ -28,15 +28,11 @@ use Rattle.gabc_score.proofs.building.FirstKinds.{part_seam, first_more}
 -- ---- cut texts
 
 cond_after : (b : Bool) (e t p : List ℕ) → cond b (e ++ t) (e ++ p) ≡ e ++ cond b t p
-cond_after true e t p = refl
-cond_after false e t p = refl
+cond_after b e t p = grind arith
 
 -- a text is cut within its last part
 cut_append : (e p : List ℕ) (n : ℕ) → prefix_of (length e + n) (e ++ p) ≡ e ++ prefix_of n p
-cut_append e p n =
-    ap (λ d. cond (is_seam d) (take (length e + n) (e ++ p)) (e ++ p)) (drop-append-add e p n)
-    ∙ ap (λ t. cond (is_seam (drop n p)) t (e ++ p)) (take-append-add e p n)
-    ∙ cond_after (is_seam (drop n p)) e (take n p) p
+cut_append e p n = grind (arith, drop-append-add, take-append-add, cond_after)
 
 -- ---- one syllable more
 
@@ -46,9 +42,7 @@ over_by limit made = list_any (λ (m : UnplacedSyllable). is_longer limit m.kept
 canonicals_push : (first : Bool) (ms : List UnplacedSyllable) (m : UnplacedSyllable)
     → canonicals first (ms ++ m ∷ []) ≡ canonicals first ms ++ canonical ((first && is_none ms) || m.text.word_start) m ∷ []
 canonicals_push first [] m = ap (λ b. canonical (b || m.text.word_start) m ∷ []) (sym (and-true first))
-canonicals_push first (n ∷ ms) m =
-    ap (λ (l : List (List ℕ)). canonical (first || n.text.word_start) n ∷ l)
-    (canonicals_push false ms m ∙ ap (λ b. canonicals false ms ++ canonical (b || m.text.word_start) m ∷ []) (sym (and-false first)))
+canonicals_push first (n ∷ ms) m = grind (arith, canonicals_push false ms m, and-false)
 
 module _ (limit : ℕ) (ms : List UnplacedSyllable) (m : UnplacedSyllable) where
   abbrev text_of : List ℕ
@@ -57,16 +51,8 @@ module _ (limit : ℕ) (ms : List UnplacedSyllable) (m : UnplacedSyllable) where
   bytes_push : canonical_bytes (ms ++ m ∷ []) ≡ canonical_bytes ms + length text_of
   bytes_push = ap (sum_by (λ (t : List ℕ). length t)) (canonicals_push true ms m) ∙ sum_by_push (λ (t : List ℕ). length t) (canonicals true ms) text_of
 
-  pub any_push : {X : Type 0} (p : X → Bool) (xs : List X) (x : X) → list_any p (xs ++ x ∷ []) ≡ (list_any p xs || (p x || false))
-  any_push p xs x = list_any-append p xs (x ∷ [])
-
 or_shuffle : (a b k c : Bool) → ((a || b) || (k || c)) ≡ ((a || (k || false)) || (b || (c || false)))
-or_shuffle true b k c = refl
-or_shuffle false true true c = refl
-or_shuffle false true false c = refl
-or_shuffle false false true c = refl
-or_shuffle false false false true = refl
-or_shuffle false false false false = refl
+or_shuffle a b k c = grind arith
 
 lt_min : (limit n m : ℕ) → limit < m → nat_lt limit (min n m) ≡ nat_lt limit n
 lt_min limit n m h = grind arith
@@ -82,9 +68,9 @@ module _ (limit : ℕ) (ms : List UnplacedSyllable) (m : UnplacedSyllable) where
   over_push h =
       ap (λ b. over_by limit ms || (is_longer limit m.kept || b)) (lt_min limit size_of (2 ^ 64 - 1) h)
       ∙ or_shuffle (list_any (λ (n : UnplacedSyllable). is_longer limit n.kept) ms) (list_any (λ t. is_longer limit t) (canonicals true ms)) (is_longer limit m.kept) (nat_lt limit size_of)
-      ∙ ap (λ b. b || (list_any (λ t. is_longer limit t) (canonicals true ms) || (nat_lt limit size_of || false))) (sym (any_push limit ms m (λ (n : UnplacedSyllable). is_longer limit n.kept) ms m))
+      ∙ ap (λ b. b || (list_any (λ t. is_longer limit t) (canonicals true ms) || (nat_lt limit size_of || false))) (sym (list_any-append (λ (n : UnplacedSyllable). is_longer limit n.kept) ms (m ∷ [])))
       ∙ ap (λ b. list_any (λ (n : UnplacedSyllable). is_longer limit n.kept) (ms ++ m ∷ []) || b)
-      (sym (any_push limit ms m (λ t. is_longer limit t) (canonicals true ms) (text_of limit ms m)) ∙ ap (list_any (λ t. is_longer limit t)) (sym (canonicals_push true ms m)))
+      (sym (list_any-append (λ t. is_longer limit t) (canonicals true ms) (text_of limit ms m ∷ [])) ∙ ap (list_any (λ t. is_longer limit t)) (sym (canonicals_push true ms m)))
 
 -- ---- the gatherer
 
@@ -109,9 +95,7 @@ open_with ended part view snippets = record { kept = ended ++ part; from = lengt
 
 marked_is : (ended part mark : List ℕ) (view : ViewContent) (snippets : List Snippet)
     → record { kept = (ended ++ part) ++ mark; from = length ((ended ++ part) ++ mark); view = view; snippets = snippets } ≡ open_with (ended ++ (part ++ mark)) [] view snippets
-marked_is ended part mark view snippets =
-    ap (λ k. record { kept = k; from = length k; view = view; snippets = snippets }) (append_assoc ended part mark)
-    ∙ ap (λ k. record { kept = k; from = length (ended ++ (part ++ mark)); view = view; snippets = snippets }) (sym (append-nil (ended ++ (part ++ mark))))
+marked_is ended part mark view snippets = grind (arith, append_assoc, append-nil)
 
 snippet_is : (ended part : List ℕ) (view : ViewContent) (snippets : List Snippet) (line count mark : ℕ)
     → past_snippet (open_with ended part view snippets) line count mark
@@ -123,8 +107,7 @@ snippet_is ended part view snippets line count mark =
     ∙ marked_is ended (prefix_of count part) (encode_utf8 mark) view (snippets ++ snippet_at line (length ended) (prefix_of count part) ∷ [])
 
 twice : (b : Bool) → not (not b) ≡ b
-twice true = refl
-twice false = refl
+twice b = grind arith
 
 some_made : (ms : List UnplacedSyllable) (m : UnplacedSyllable) → true ≡ not (is_none (ms ++ m ∷ []))
 some_made [] m = refl
@@ -146,11 +129,7 @@ module _ (limit head : ℕ) (before : List BodyEvent) (small : limit < 2 ^ 64 - 
   -- which came first in GABC, with the snippet that ends
   first_as : (line count mark : ℕ) → is_seam (encode_utf8 mark) ≡ true → first_past now.first_kind line (span_of now.builder line count) (past_snippet now.builder line count mark).kept
       ≡ first_note_or_clef (flat_map (λ kept. items_of kept) (cond (line == 0) (gabc_ended before ++ prefix_of count (part_of (since_close before)) ∷ []) (gabc_ended before)))
-  first_as line count mark h =
-      let ended = ended_parts_of (since_close before) in
-      let part = part_of (since_close before) in
-      ap (λ k. first_past now.first_kind line (record { from = length ended; to = length k }) (k ++ encode_utf8 mark)) (cut_append ended part count)
-      ∙ first_more (gabc_ended before) ended part (encode_utf8 mark) line count (part_seam (since_close before)) h
+  first_as line count mark h = grind (arith, cut_append, first_more, part_seam)
 
   pub made_is : (m : UnplacedSyllable) → with_made now m
       ≡ record now {
@@ -161,14 +140,8 @@ module _ (limit head : ℕ) (before : List BodyEvent) (small : limit < 2 ^ 64 - 
         over = over_by limit (all_syllables before ++ m ∷ []);
       }
   made_is m =
-      ap (λ b. record (with_made now m) { total = min (now.total + min (length (canonical (b || m.text.word_start) m)) (2 ^ 64 - 1)) (2 ^ 64 - 1); over = now.over || (is_longer limit m.kept || nat_lt limit (min (length (canonical (b || m.text.word_start) m)) (2 ^ 64 - 1))) })
-      (twice (is_none (all_syllables before)))
-      ∙ ap (λ n. record now { builder = record { kept = []; from = 0; view = view_of []; snippets = [] }; made = all_syllables before ++ m ∷ []; follows = true; total = n; over = now.over || (is_longer limit m.kept || nat_lt limit (min (size_of limit (all_syllables before) m) (2 ^ 64 - 1))) })
-      (total_push limit (all_syllables before) m head)
-      ∙ ap (λ b. record now { builder = record { kept = []; from = 0; view = view_of []; snippets = [] }; made = all_syllables before ++ m ∷ []; follows = true; total = min (head + canonical_bytes (all_syllables before ++ m ∷ [])) (2 ^ 64 - 1); over = b })
-      (over_push limit (all_syllables before) m small)
-      ∙ ap (λ b. record now { builder = record { kept = []; from = 0; view = view_of []; snippets = [] }; made = all_syllables before ++ m ∷ []; follows = b; total = min (head + canonical_bytes (all_syllables before ++ m ∷ [])) (2 ^ 64 - 1); over = over_by limit (all_syllables before ++ m ∷ []) })
-      (some_made (all_syllables before) m)
+      let made = all_syllables before in
+      rw (twice (is_none made), total_push limit made m head, over_push limit made m small, ← some_made made m) refl
 
   pub gathered_step : (t : BodyEvent) → with_event now t ≡ gathered limit head (t ∷ before)
   unfolding encode

@@ -1,11 +1,9 @@
 -- What is counted of a syllable goes on with the events of a part.
-use Rattle.std.proofs.Common.{◌≡◌, ℕ, ◌+◌, ◌*◌, ◌≤◌, ◌||◌, Bool, true, false, cond, List, [], ◌∷◌, ◌++◌, map, length, take, drop, encode_utf8, refl, sym, ap, subst, ◌∙◌, arith, length-append, length-take}
+use Rattle.std.proofs.Common.{◌≡◌, ℕ, ◌+◌, ◌*◌, ◌≤◌, ◌||◌, true, false, List, [], ◌∷◌, ◌++◌, map, length, encode_utf8, refl, sym, ap, subst, ◌∙◌, arith, length-append, length-take}
 use Rattle.std.specs.List.{list_any}
 use Rattle.std.proofs.lemmas.Str.{length-encode, len_utf8_bounds}
 use Rattle.gabc_places.specs.declared.place.Place.{Place}
 use Rattle.gabc_text.specs.declared.stage.TextStage.{TextStage}
-use Rattle.gabc_text.specs.declared.text_event.TextEnd.TheVariants as text_end
-use Rattle.gabc_text.specs.declared.text_event.TextPart.TheVariants as text_part
 use Rattle.gabc_text.specs.declared.text_event.TextEvent.{TextEvent}
 use Rattle.gabc_text.specs.declared.text_event.TextEvent.TheVariants as text
 use Rattle.gabc_text.specs.BuiltText.{kept_in}
@@ -18,13 +16,13 @@ use Rattle.gabc_score.specs.declared.events.BodyEvent.TheVariants as event
 use Rattle.gabc_score.specs.declared.body_stage.BodyPart.{BodyPart}
 use Rattle.gabc_score.specs.declared.body_stage.BodyPart.TheVariants as part
 use Rattle.gabc_score.specs.Events.{after_mark, is_close, note_event}
-use Rattle.gabc_score.specs.Syllable.{prefix_of, is_seam}
+use Rattle.gabc_score.specs.Syllable.{prefix_of}
 use Rattle.gabc_score.specs.machine.BodyBuilder.{with_all}
 use Rattle.gabc_score.specs.machine.Gatherer.{Gathered, with_text, with_event, with_snippet}
 use Rattle.gabc_score.specs.machine.PartCounts.{CountsInNotes, CountsHold, PartGoesOn}
 use Rattle.gabc_score.specs.machine.PartPushes.{EndsLast}
 use Rattle.gabc_score.specs.machine.Slot.{FitsEvent, FitsText, FitEach}
-use Rattle.gabc_score.specs.machine.SyllableBuilder.{OpenSyllable, nothing_open, snippet_from}
+use Rattle.gabc_score.specs.machine.SyllableBuilder.{OpenSyllable, nothing_open}
 use Rattle.gabc_places.specs.declared.place.Char.{Char}
 use Rattle.gabc_text.specs.TextStage.{fresh_stage}
 use Rattle.gabc_score.specs.machine.PartSteps.{IsBounded, PartSteps, SnippetSteps}
@@ -35,7 +33,7 @@ bytes_of : (c : ℕ) → (1 ≤ length (encode_utf8 c)) × (length (encode_utf8 
 bytes_of c = rw (length-encode c) (len_utf8_bounds c)
 
 kept_more : (kept : List ℕ) (c : ℕ) → (length kept + 1 ≤ length (kept ++ encode_utf8 c)) × (length (kept ++ encode_utf8 c) ≤ length kept + 4)
-kept_more kept c = let b = bytes_of c in let l = length-append kept (encode_utf8 c) in let low = b.0 in let high = b.1 in (omega (arith, low, l), omega (arith, high, l))
+kept_more kept c = let b = bytes_of c in let l = length-append kept (encode_utf8 c) in (omega arith, omega arith)
 
 -- ---- texts
 
@@ -53,28 +51,16 @@ unmoved : (o p : OpenSyllable) (n : ℕ) → p.kept ≡ o.kept → p.from ≡ o.
 unmoved o p n k f s e = record { pieces_are = e; kept_grows = rw k (omega arith); from_stays = λ h. rw (k, f) h; snippets_stay = s }
 
 grows_one : (g : Gathered) (e : TextEvent) → TextGrows g.builder (with_text g e).builder (pieces_in (e ∷ [])) (length (kept_in (e ∷ [])))
-grows_one g (text.Kept c) =
-    let b = (kept_more g.builder.kept c.c).0 in record { pieces_are = omega arith; kept_grows = b; from_stays = λ h. omega (arith, h, b); snippets_stay = refl }
-grows_one g (text.Part (text_part.Piece p)) = unmoved _ _ 1 refl refl refl (length-append g.builder.view.pieces (p ∷ []))
-grows_one g (text.Ended text_end.Notes) =
-    let b = (kept_more g.builder.kept 40).0 in record { pieces_are = omega arith; kept_grows = omega (arith, b); from_stays = λ h. omega arith; snippets_stay = refl }
-grows_one g _ = unmoved _ _ 0 refl refl refl (omega arith)
+grows_one g e = grind (arith, kept_more, unmoved, length-append)
 
 grows_then : (o p q : OpenSyllable) (a b c d : ℕ) → TextGrows o p a b → TextGrows p q c d → TextGrows o q (a + c) (b + d)
-grows_then o p q a b c d h k = record {
-  pieces_are = let x = h.pieces_are in let y = k.pieces_are in omega (arith, x, y);
-  kept_grows = let x = h.kept_grows in let y = k.kept_grows in omega (arith, x, y);
-  from_stays = λ e. k.from_stays (h.from_stays e);
-  snippets_stay = k.snippets_stay ∙ h.snippets_stay;
-}
+grows_then o p q a b c d h k = grind arith
 
 pieces_cons : (e : TextEvent) (es : List TextEvent) → pieces_in (e ∷ es) ≡ pieces_in (e ∷ []) + pieces_in es
-pieces_cons (text.Part text_part.WordStart) es = omega arith
-pieces_cons _ es = omega arith
+pieces_cons e es = grind arith
 
 kept_cons : (e : TextEvent) (es : List TextEvent) → length (kept_in (e ∷ es)) ≡ length (kept_in (e ∷ [])) + length (kept_in es)
-kept_cons (text.Kept c) es = omega arith
-kept_cons _ es = omega arith
+kept_cons e es = grind arith
 
 grows_all : (g : Gathered) (es : List TextEvent) → TextGrows g.builder (with_all g (of_texts es)).builder (pieces_in es) (length (kept_in es))
 grows_all g [] = unmoved _ _ 0 refl refl refl (omega arith)
@@ -87,19 +73,13 @@ record TextAdds (g h : Gathered) : Type 0 where
   pieces : length h.builder.view.pieces ≤ length g.builder.view.pieces + 1
 
 adds_one : (g : Gathered) (e : TextEvent) → TextAdds g (with_text g e)
-adds_one g (text.Kept c) = record { limit = refl; kept = (kept_more g.builder.kept c.c).1; pieces = omega arith }
-adds_one g (text.Part (text_part.Piece p)) = record { limit = refl; kept = omega arith; pieces = let l = length-append g.builder.view.pieces (p ∷ []) in omega (arith, l) }
-adds_one g (text.Ended text_end.Notes) = record { limit = refl; kept = (kept_more g.builder.kept 40).1; pieces = omega arith }
-adds_one g _ = record { limit = refl; kept = omega arith; pieces = omega arith }
+adds_one g e = grind (arith, kept_more, length-append)
 
 texts_fit : (g : Gathered) (es : List TextEvent) → length g.builder.kept + 4 * length es ≤ g.limit + 32 → length g.builder.view.pieces + length es ≤ g.limit + 32 → FitEach g (of_texts es)
 texts_fit g [] k p = tt
 texts_fit g (e ∷ es) k p =
     let a = adds_one g e in
-    let l = a.limit in
-    let more = a.kept in
-    let one = a.pieces in
-    (one_fits e, texts_fit (with_text g e) es (omega (arith, k, l, more)) (omega (arith, p, l, one)))
+    (one_fits e, texts_fit (with_text g e) es (omega arith) (omega arith))
   where
     one_fits : (e : TextEvent) → FitsText g.limit g.builder e
     one_fits (text.Kept c) = omega (arith, k)
@@ -108,13 +88,12 @@ texts_fit g (e ∷ es) k p =
     one_fits (text.Ended h) = omega (arith, k)
 
 pub text_fits : (s : TextStage) (es : List TextEvent) → length es ≤ 8 → (g : Gathered) → CountsHold (part.Text s) g.builder → length g.builder.kept ≤ g.limit → FitEach g (of_texts es)
-text_fits s es few g h k = let pieces = h.0 in texts_fit g es (omega (arith, few, k)) (omega (arith, few, k, pieces))
+text_fits s es few g h k = texts_fit g es (omega arith) (omega arith)
 
 module _ (s t : TextStage) (es : List TextEvent) (few : length es ≤ 8) (paid : PiecesArePaid s es t) where
   pub text_goes : PartGoesOn (part.Text s) (part.Text t) (of_texts es)
   text_goes = record {
-    counts = λ g h. let r = grows_all g es in let p = r.pieces_are in let k = r.kept_grows in let pieces = h.0 in
-        (omega (arith, p, k, pieces, paid), (r.from_stays h.1.0, r.snippets_stay ∙ h.1.1));
+    counts = λ g h. let r = grows_all g es in (omega arith, (r.from_stays h.1.0, r.snippets_stay ∙ h.1.1));
     fit = text_fits s es few;
   }
 
@@ -129,11 +108,7 @@ module _ (s t : TextStage) (es : List TextEvent) (few : length es ≤ 8) (paid :
 
 -- a prefix of a kept text that ends in a seam, or the text
 pub prefix_between : (from count : ℕ) (kept : List ℕ) → from ≤ length kept → (from ≤ length (prefix_of (from + count) kept)) × (length (prefix_of (from + count) kept) ≤ length kept)
-prefix_between from count kept h = by (is_seam (drop (from + count) kept))
-  where
-    by : (b : Bool) → (from ≤ length (cond b (take (from + count) kept) kept)) × (length (cond b (take (from + count) kept) kept) ≤ length kept)
-    by true = let l = length-take (from + count) kept in (omega (arith, h, l), omega (arith, l))
-    by false = (h, omega arith)
+prefix_between from count kept h = let l = length-take (from + count) kept in (grind (arith, h, l), grind (arith, l))
 
 -- what one event of a snippet adds
 record NoteAdds (g h : Gathered) : Type 0 where
@@ -146,26 +121,10 @@ abbrev of_note : ℕ → Place → NoteEvent → BodyEvent
 of_note line opened e = note_event line opened e
 
 snippet_adds : (g : Gathered) (line count mark : ℕ) → CountsInNotes g.builder → NoteAdds g (with_snippet g line count mark)
-snippet_adds g line count mark h =
-    let b = prefix_between g.builder.from count g.builder.kept h.1 in
-    let low = b.0 in
-    let high = b.1 in
-    let m = kept_more (prefix_of (g.builder.from + count) g.builder.kept) mark in
-    let least = m.0 in
-    let most = m.1 in
-    let before = h.0 in
-    let l = length-append g.builder.snippets (snippet_from g.builder line (prefix_of (g.builder.from + count) g.builder.kept) ∷ []) in
-    record {
-      limit = refl;
-      kept = omega (arith, high, most);
-      snippets = omega (arith, l);
-      counts = (omega (arith, l, before, low, least), omega arith);
-    }
+snippet_adds g line count mark h = grind (arith, prefix_between, kept_more, length-append)
 
 note_adds : (line : ℕ) (opened : Place) (g : Gathered) (e : NoteEvent) → CountsInNotes g.builder → NoteAdds g (with_event g (of_note line opened e))
-note_adds line opened g (note.Kept c) h =
-    let m = kept_more g.builder.kept c.c in let low = m.0 in let from = h.1 in
-    record { limit = refl; kept = m.1; snippets = omega arith; counts = (h.0, omega (arith, low, from)) }
+note_adds line opened g (note.Kept c) h = grind (arith, kept_more)
 note_adds line opened g (note.Ended note_end.Next n) h = snippet_adds g line n 124 h
 note_adds line opened g (note.Ended note_end.Close n) h = record { limit = refl; kept = omega arith; snippets = omega arith; counts = (omega arith, omega arith) }
 note_adds line opened g _ h = record { limit = refl; kept = omega arith; snippets = omega arith; counts = h }
@@ -179,10 +138,7 @@ module _ (line : ℕ) (opened : Place) where
   notes_fit g [] h k s = tt
   notes_fit g (e ∷ es) h k s =
       let a = note_adds line opened g e h in
-      let l = a.limit in
-      let more = a.kept in
-      let one = a.snippets in
-      (one_fits e, notes_fit (with_event g (of_note line opened e)) es a.counts (omega (arith, k, l, more)) (omega (arith, s, l, one)))
+      (one_fits e, notes_fit (with_event g (of_note line opened e)) es a.counts (omega arith) (omega arith))
     where
       one_fits : (e : NoteEvent) → FitsEvent g.limit g.builder (note_event line opened e)
       one_fits (note.Kept c) = omega (arith, k)
@@ -200,17 +156,14 @@ module _ (line : ℕ) (opened : Place) where
     where
       by : (y : NoteEvent) → x ≡ y → (is_close x ≡ false → (with_all (with_event g (of_note line opened x)) (of_notes es)).builder ≡ nothing_open)
           → (with_all (with_event g (of_note line opened x)) (of_notes es)).builder ≡ nothing_open
-      by (note.Kept c) p later = later (ap is_close p)
-      by (note.Found f) p later = later (ap is_close p)
-      by (note.Ended note_end.Next n) p later = later (ap is_close p)
       by (note.Ended note_end.Close n) p later =
           ap (λ ys. (with_all (with_event g (of_note line opened x)) (of_notes ys)).builder) (h.0 (ap is_close p))
           ∙ ap (λ y. (with_event g (of_note line opened y)).builder) p
-      by (note.Ended (note_end.Cut q) n) p later = later (ap is_close p)
+      by y p later = later (ap is_close p)
 
   module _ (before : BodyPart) (es : List NoteEvent) (few : length es ≤ 3) (in_notes : (o : OpenSyllable) → CountsHold before o → CountsInNotes o) where
     pub all_fit : (g : Gathered) → CountsHold before g.builder → length g.builder.kept ≤ g.limit → FitEach g (of_notes es)
-    all_fit g h k = let n = in_notes g.builder h in let s = n.0 in let f = n.1 in notes_fit g es n (omega (arith, few, k)) (omega (arith, few, k, s, f))
+    all_fit g h k = let n = in_notes g.builder h in notes_fit g es n (omega arith) (omega arith)
 
     pub notes_go : (after : BodyPart) → ((o : OpenSyllable) → CountsInNotes o → CountsHold after o) → PartGoesOn before after (of_notes es)
     notes_go after into = record { counts = λ g h. into (with_all g (of_notes es)).builder (notes_count g es (in_notes g.builder h)); fit = all_fit }
@@ -224,9 +177,7 @@ fresh_counts : (at : Place) (o : OpenSyllable) → o ≡ nothing_open → Counts
 fresh_counts at o e = subst (CountsHold (part.Text (fresh_stage at))) (sym e) (omega arith, (omega arith, refl))
 
 begun_counts : {lines macros line : ℕ} {opened : Place} (after : BodyPart) → step.Begins lines macros line opened after → (o : OpenSyllable) → CountsInNotes o → CountsHold after o
-begun_counts (part.Notes p s) b o h = h
-begun_counts (part.Nabc l p s) b o h = h
-begun_counts _ b o h = absurd (let e = b.reads [] in cc)
+begun_counts after b o h = grind arith
 
 -- in the part of a snippet the same is counted before and after
 record CountsAlike (before after : BodyPart) : Type 0 where
@@ -234,14 +185,11 @@ record CountsAlike (before after : BodyPart) : Type 0 where
   into : (o : OpenSyllable) → CountsInNotes o → CountsHold after o
 
 counts_alike : {x : Char} {line : ℕ} {opened : Place} {before after : BodyPart} {es : List NoteEvent} → SnippetSteps x line opened before es after → CountsAlike before after
-counts_alike (step.in_gabc h) = record { out = λ o c. c; into = λ o c. c }
-counts_alike (step.in_nabc h) = record { out = λ o c. c; into = λ o c. c }
+counts_alike h = grind arith
 
 pub counts_go_on : {lines macros : ℕ} {x : Char} {before after : BodyPart} {now : List BodyEvent} (s : PartSteps lines macros x before now after) → IsBounded s → PartGoesOn before after now
 counts_go_on (step.in_front h) k = record { counts = λ g c. c; fit = λ g c k. tt }
-counts_go_on {x = x} (step.leaves_front h s) k =
-    let on = counts_go_on s k in
-    record { counts = λ g c. on.counts g (fresh_counts x.place g.builder c); fit = λ g c k. on.fit g (fresh_counts x.place g.builder c) k }
+counts_go_on {x = x} (step.leaves_front h s) k = grind (arith, counts_go_on s k, fresh_counts)
 counts_go_on (step.text_goes {s} {t} {es} h e) k = text_goes s t es k.few k.pieces
 counts_go_on (step.text_ends {s} {t} {es} {after} h e b) k = text_ends s t es k.few k.pieces after (begun_counts after b)
 counts_go_on (step.snippet_goes {line} {opened} {before} {after} {es} s n c) k = let l = counts_alike s in notes_go line opened before es k.few l.out after l.into

@@ -1,31 +1,28 @@
 -- The end of a body: the last text, the fault and the findings of the end.
-use Rattle.std.proofs.Math.Bool.{or-true}
-use Rattle.std.proofs.Common.{◌≡◌, ℕ, ◌+◌, ◌-◌, ◌<◌, ◌^◌, ◌||◌, ◌&&◌, not, min, nat_lt, Bool, true, false, cond, List, [], ◌∷◌, ◌++◌, Option, Some, None, refl, sym, ap, ◌∙◌, arith}
+use Rattle.std.proofs.lemmas.List.Folds.{list_any-append}
+use Rattle.std.proofs.Common.{◌≡◌, ℕ, ◌+◌, ◌-◌, ◌<◌, ◌^◌, ◌||◌, nat_lt, Bool, true, false, cond, List, [], ◌∷◌, ◌++◌, Option, refl, sym, ap, ◌∙◌, arith}
 use Rattle.std.specs.List.{list_any}
-use Rattle.std.specs.Option.{option_map}
-use Rattle.gabc_places.specs.declared.code.Code.TheVariants.{F5, F7}
 use Rattle.gabc_places.specs.declared.limits.Limits.{Limits}
 use Rattle.gabc_places.specs.declared.place.Place.{Place}
 use Rattle.gabc_score.specs.declared.events.BodyEvent.{BodyEvent}
 use Rattle.gabc_score.specs.Syllable.{UnplacedSyllable, since_close, kept_of, is_eu, is_nlba, all_syllables}
 use Rattle.gabc_score.specs.Canonical.{canonicals, canonical_bytes}
-use Rattle.gabc_score.specs.Body.{is_longer, is_none, code_by, cut_of, has_last, last_syllable, all_units, fault_at, fault_of_end}
+use Rattle.gabc_score.specs.Body.{is_longer, code_by, cut_of, last_syllable, all_units, fault_of_end}
 use Rattle.gabc_score.specs.machine.Gatherer.{Gathered, with_syllable, with_no_notes, with_last}
 use Rattle.gabc_score.specs.machine.BodyBuilder.{code_in, end_fault_by, end_fault}
-use Rattle.gabc_score.proofs.building.BuilderHoldsDefinition.{gathered, over_by, any_push, made_is}
+use Rattle.gabc_score.proofs.building.BuilderHoldsDefinition.{gathered, over_by, made_is}
 use Rattle.gabc_score.proofs.building.EventsOfOnePoint.{code_is, lt_total}
 
 -- a kept text that is a syllable's counts there
 over_shuffle : (a k c n : Bool) → n ≡ false → (n || ((a || (k || false)) || c)) ≡ (k || ((a || (k || false)) || c))
-over_shuffle a true c n h = rw h (ap (λ (b : Bool). b || c) (or-true a))
-over_shuffle a false c n h = rw h refl
+over_shuffle a k c n h = grind arith
 
 pub none_longer : (limit : ℕ) → nat_lt limit 0 ≡ false
 none_longer limit = grind arith
 
 over_last : (limit : ℕ) (ms : List UnplacedSyllable) (m : UnplacedSyllable) → (is_longer limit [] || over_by limit (ms ++ m ∷ [])) ≡ (is_longer limit m.kept || over_by limit (ms ++ m ∷ []))
 over_last limit ms m =
-    let a = any_push limit ms m (λ (n : UnplacedSyllable). is_longer limit n.kept) ms m in
+    let a = list_any-append (λ (n : UnplacedSyllable). is_longer limit n.kept) ms (m ∷ []) in
     let c = list_any (λ text. is_longer limit text) (canonicals true (ms ++ m ∷ [])) in
     ap (λ b. is_longer limit [] || (b || c)) a
     ∙ over_shuffle (list_any (λ (n : UnplacedSyllable). is_longer limit n.kept) ms) (is_longer limit m.kept) c (is_longer limit []) (none_longer limit)
@@ -49,26 +46,19 @@ module _ (limits : Limits) (head : ℕ) (small : limits.syllable < 2 ^ 64 - 1) (
   code_by_last true =
       let units = all_syllables all ++ last_syllable all ∷ [] in
       ap (code_in limits) (made_is limits.syllable head all small (last_syllable all))
-      ∙ ap (λ b. cond b (Some F5) (cond (not (is_none units) && nat_lt limits.input (min (head + canonical_bytes units) (2 ^ 64 - 1) + 1)) (Some F7) None)) (over_last limits.syllable (all_syllables all) (last_syllable all))
-      ∙ ap (λ b. cond (is_longer limits.syllable kept || over_by limits.syllable units) (Some F5) (cond (not (is_none units) && b) (Some F7) None)) (lt_total limits.input (head + canonical_bytes units) (2 ^ 64 - 1) low)
+      ∙ rw (over_last limits.syllable (all_syllables all) (last_syllable all), lt_total limits.input (head + canonical_bytes units) (2 ^ 64 - 1) low) refl
 
   pub made_by_last : (b : Bool) → (last_by b).made ≡ units_by b
-  made_by_last true = refl
-  made_by_last false = refl
+  made_by_last b = grind arith
 
   pub cut_by_last : (b : Bool) → (last_by b).cut ≡ cut_of all
-  cut_by_last true = refl
-  cut_by_last false = refl
+  cut_by_last b = grind arith
 
   pub open_by_last : (b : Bool) → ((last_by b).eu || (last_by b).nlba) ≡ (is_eu all || is_nlba all)
-  open_by_last true = refl
-  open_by_last false = refl
+  open_by_last b = grind arith
 
   fault_by_cut : (at : Place) (g : Gathered) → code_in limits g ≡ code_by limits head (all_units all) kept → (o : Option Place) → end_fault_by limits at g o ≡ fault_of_end limits head at all o
-  fault_by_cut at g h (Some place) = refl
-  fault_by_cut at g h None = ap (option_map (fault_at at)) h
+  fault_by_cut at g h o = grind arith
 
   pub fault_is : (at : Place) → end_fault limits at (with_last holds) ≡ fault_of_end limits head at all (cut_of all)
-  fault_is at =
-      ap (end_fault_by limits at (with_last holds)) (cut_by_last (has_last all))
-      ∙ fault_by_cut at (with_last holds) (code_by_last (has_last all)) (cut_of all)
+  fault_is at = grind (arith, cut_by_last, fault_by_cut, code_by_last)

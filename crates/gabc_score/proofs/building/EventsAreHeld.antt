@@ -1,19 +1,13 @@
 -- Events are held one after the other.
-use Rattle.std.proofs.Common.{◌≡◌, ◌≢◌, ℕ, ◌+◌, ◌<◌, ◌||◌, Bool, true, false, List, [], ◌∷◌, ◌++◌, map, length, take, drop, get_or, refl, sym, ap, subst, ◌∙◌, arith, append_assoc, length-append, length-drop}
-use Rattle.std.specs.List.{list_any}
+use Rattle.std.proofs.Common.{◌≡◌, ◌≢◌, ℕ, ◌+◌, ◌<◌, Bool, false, List, [], ◌∷◌, ◌++◌, map, length, take, drop, get_or, refl, sym, ap, subst, ◌∙◌, arith, append_assoc, length-append, length-drop}
 use Rattle.std.proofs.lemmas.List.{drop_more, length-map, map-append, take_more}
 use Rattle.std.proofs.lemmas.List.Folds.{list_any-append}
 use Rattle.gabc_places.specs.BoundedList.{BoundedList}
 use Rattle.gabc_places.specs.declared.code.Finding.{Finding}
 use Rattle.gabc_score.specs.declared.events.BodyEvent.{BodyEvent}
 use Rattle.gabc_score.specs.declared.slot_pair.SlotUse.{SlotUse}
-use Rattle.gabc_score.specs.declared.slot_pair.SlotUse.TheVariants.{Filling, Made, Lent}
-use Rattle.gabc_score.specs.Body.{events_onto, findings_of}
-use Rattle.gabc_score.specs.Syllable.{closes}
-use Rattle.gabc_score.specs.machine.BodyBuilder.{with_found}
-use Rattle.gabc_score.specs.machine.Gatherer.{Gathered, with_event}
+use Rattle.gabc_score.specs.declared.slot_pair.SlotUse.TheVariants.{Filling, Lent}
 use Rattle.gabc_score.specs.machine.HoldsEvents.{CanHold, HoldsEvents}
-use Rattle.gabc_score.specs.machine.Slot.{FitEach}
 use Rattle.gabc_score.specs.machine.SlotPair.{SlotPairState, used_by}
 use Rattle.gabc_score.proofs.building.EventsOfOnePoint.{found_then, with_all_append}
 use Rattle.gabc_score.proofs.score_events.EventsStayWithinBounds.{found_few}
@@ -21,43 +15,21 @@ use Rattle.gabc_score.proofs.score_events.EventsStayWithinBounds.{found_few}
 -- ---- the first of them
 
 pub never_lent : (used : SlotUse) (b : Bool) → used ≡ used_by b → used ≢ Lent
-never_lent used true e = λ f. absurd (let p : Made ≡ Lent = sym e ∙ f in cc p)
-never_lent used false e = λ f. absurd (let p : Filling ≡ Lent = sym e ∙ f in cc p)
+never_lent used b e = grind arith
 
 pub none_closes : (used : SlotUse) (b : Bool) → used ≡ used_by b → used ≡ Filling → b ≡ false
-none_closes used true e f = absurd (let p : Made ≡ Filling = sym e ∙ f in cc p)
-none_closes used false e f = refl
+none_closes used b e f = grind arith
 
 module _ {t : BodyEvent} {ts : List BodyEvent} {p : SlotPairState} {r : BoundedList Finding} (h : CanHold (t ∷ ts) p r) where
   first_fits : CanHold (t ∷ []) p r
   first_fits = record { reads = h.reads; fits = (h.fits.0, tt); once = ((λ e. refl), tt); room = (let room = h.room in omega (arith, room)) }
 
   rest_fits : {q : SlotPairState} {s : BoundedList Finding} → HoldsEvents (t ∷ []) p r q s → 0 < length ts → CanHold ts q s
-  rest_fits {q} {s} g some = record {
-    reads = g.used ∙ by (closes t) h.once.0;
-    fits = subst (λ (k : Gathered). FitEach k ts) (sym g.gathered) h.fits.1;
-    once = h.once.1;
-    room =
-        let limit = ap (λ (b : BoundedList Finding). b.limit) g.found in
-        let items = ap (λ (b : BoundedList Finding). length b.items) g.found in
-        let room = h.room in
-        omega (arith, limit, items, room, length-append r.items (findings_of (t ∷ [])), found_few (t ∷ []) []);
-  }
-    where
-      by : (b : Bool) → (b ≡ true → ts ≡ []) → used_by (b || false) ≡ Filling
-      by true last = absurd (let none = ap length (last refl) in omega (arith, none, some))
-      by false last = refl
+  rest_fits g some = grind (arith, length-append, found_few)
 
   -- what was gathered before it, and it
   one_more : {es : List BodyEvent} {first : SlotPairState} {found : BoundedList Finding} {q : SlotPairState} {s : BoundedList Finding} → HoldsEvents es first found p r → HoldsEvents (t ∷ []) p r q s → HoldsEvents (es ++ t ∷ []) first found q s
-  one_more {es} {first} {found} done g = record {
-    gathered = g.gathered ∙ ap (λ (k : Gathered). with_event k t) done.gathered ∙ sym (with_all_append first.gathered es (t ∷ []));
-    held = g.held ∙ done.held;
-    used = g.used ∙ ap used_by (ap (λ (b : Bool). b || list_any closes (t ∷ [])) (sym (none_closes p.used (list_any closes es) done.used h.reads)) ∙ sym (list_any-append closes es (t ∷ [])));
-    found =
-        g.found ∙ ap (λ (b : BoundedList Finding). with_found b (t ∷ [])) done.found
-        ∙ ap (λ fs. record found { items = fs }) (append_assoc found.items (findings_of (events_onto es [])) (findings_of (t ∷ [])) ∙ ap (λ fs. found.items ++ fs) (found_then es t));
-  }
+  one_more done g = grind (arith, with_all_append, none_closes, list_any-append, append_assoc, found_then)
 
 -- ---- in other words
 

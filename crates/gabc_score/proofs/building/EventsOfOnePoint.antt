@@ -1,19 +1,13 @@
 -- What is emitted at a point: what the gatherer holds after it, what was found, and which limit is passed.
-use Rattle.std.proofs.Common.{◌≡◌, ℕ, ◌+◌, ◌-◌, ◌<◌, ◌^◌, ◌||◌, ◌&&◌, not, min, nat_lt, Bool, true, false, cond, List, [], ◌∷◌, ◌++◌, length, take, Some, None, refl, sym, ap, ◌∙◌, arith, append_assoc, append-nil}
+use Rattle.std.proofs.Common.{◌≡◌, ℕ, ◌+◌, ◌-◌, ◌<◌, ◌^◌, min, nat_lt, Bool, true, false, cond, List, [], ◌∷◌, ◌++◌, length, take, refl, sym, ap, ◌∙◌, arith, append_assoc, append-nil}
 use Rattle.std.proofs.lemmas.List.{take_at}
-use Rattle.gabc_places.specs.declared.code.Code.TheVariants.{F5, F7}
-use Rattle.gabc_places.specs.declared.code.Finding.{Finding}
 use Rattle.gabc_places.specs.declared.limits.Limits.{Limits}
-use Rattle.gabc_text.specs.declared.text_event.TextEvent.TheVariants as text
-use Rattle.gabc_notes.specs.declared.stage.NoteEvent.TheVariants as note
 use Rattle.gabc_score.specs.declared.events.BodyEvent.{BodyEvent}
-use Rattle.gabc_score.specs.declared.events.BodyEvent.TheVariants as event
-use Rattle.gabc_score.specs.Syllable.{UnplacedSyllable, closes, since_close, kept_of, syllable_by, is_eu, is_nlba, all_syllables}
-use Rattle.gabc_score.specs.Canonical.{canonical_bytes}
-use Rattle.gabc_score.specs.Body.{is_longer, is_none, events_onto, code_at, findings_with, findings_of}
+use Rattle.gabc_score.specs.Syllable.{UnplacedSyllable, closes, since_close, syllable_by, is_eu, is_nlba, all_syllables}
+use Rattle.gabc_score.specs.Body.{events_onto, code_at, findings_of}
 use Rattle.gabc_score.specs.machine.Gatherer.{Gathered, with_event}
 use Rattle.gabc_score.specs.machine.BodyBuilder.{with_all, code_in}
-use Rattle.gabc_score.proofs.building.BuilderHoldsDefinition.{gathered, gathered_step, over_by}
+use Rattle.gabc_score.proofs.building.BuilderHoldsDefinition.{gathered, gathered_step}
 use Rattle.gabc_score.proofs.building.EventsOfSyllableParts.{onto_append}
 
 -- ---- lists
@@ -28,20 +22,10 @@ pub gathered_all : (limit head : ℕ) (before : List BodyEvent) → limit < 2 ^ 
 gathered_all limit head before h [] = refl
 gathered_all limit head before h (t ∷ now) = ap (λ g. with_all g now) (gathered_step limit head before h t) ∙ gathered_all limit head (t ∷ before) h now
 
-found_with : (found fs : List Finding) (t : BodyEvent) → findings_with (found ++ fs) t ≡ found ++ findings_with fs t
-found_with found fs (event.Text (text.Found f)) = append_assoc found fs (f ∷ [])
-found_with found fs (event.Notes line (note.Found f)) = append_assoc found fs (f ∷ [])
-found_with found fs _ = refl
-
 -- what is found at a point comes after what was found before
 pub found_on : (before now : List BodyEvent) → findings_of (events_onto now before) ≡ findings_of before ++ findings_of (events_onto now [])
 found_on before [] = sym (append-nil (findings_of before))
-found_on before (t ∷ now) =
-    found_on (t ∷ before) now
-    ∙ ap (λ fs. findings_with fs t ++ findings_of (events_onto now [])) (sym (append-nil (findings_of before)))
-    ∙ ap (λ fs. fs ++ findings_of (events_onto now [])) (found_with (findings_of before) [] t)
-    ∙ append_assoc (findings_of before) (findings_with [] t) (findings_of (events_onto now []))
-    ∙ ap (λ fs. findings_of before ++ fs) (sym (found_on (t ∷ []) now))
+found_on before (t ∷ now) = grind (arith, found_on (t ∷ before) now, found_on (t ∷ []) now, append-nil, append_assoc)
 
 -- what is found among the events of a part, one after the other
 pub found_then : (xs : List BodyEvent) (t : BodyEvent) → findings_of (events_onto xs []) ++ findings_of (t ∷ []) ≡ findings_of (events_onto (xs ++ t ∷ []) [])
@@ -51,23 +35,19 @@ pub lt_total : (limit n m : ℕ) → limit < m → nat_lt limit (min n m + 1) �
 lt_total limit n m h = grind arith
 
 pub code_is : (limits : Limits) (head : ℕ) (before : List BodyEvent) → limits.input < 2 ^ 64 - 1 → code_in limits (gathered limits.syllable head before) ≡ code_at limits head before
-code_is limits head before h =
-    ap (λ b. cond (is_longer limits.syllable (kept_of (since_close before)) || over_by limits.syllable (all_syllables before)) (Some F5) (cond (not (is_none (all_syllables before)) && b) (Some F7) None))
-    (lt_total limits.input (head + canonical_bytes (all_syllables before)) (2 ^ 64 - 1) h)
+code_is limits head before h = grind (arith, lt_total)
 
 -- ---- the syllables that were made before a point
 
-made_more : (t : BodyEvent) (before : List BodyEvent) → (more : List UnplacedSyllable) × (all_syllables (t ∷ before) ≡ all_syllables before ++ more)
-made_more t before = by (closes t)
-  where
-    by : (b : Bool) → (more : List UnplacedSyllable) × (cond b (all_syllables before ++ syllable_by (t ∷ since_close before) (is_eu before) (is_nlba before) ∷ []) (all_syllables before) ≡ all_syllables before ++ more)
-    by true = (syllable_by (t ∷ since_close before) (is_eu before) (is_nlba before) ∷ [], refl)
-    by false = ([], sym (append-nil (all_syllables before)))
+-- one more or not
+pub pushed_more : {X : Type 0} (b : Bool) (xs : List X) (x : X) → (more : List X) × (cond b (xs ++ x ∷ []) xs ≡ xs ++ more)
+pushed_more true xs x = (x ∷ [], refl)
+pushed_more false xs x = ([], sym (append-nil xs))
 
 pub made_after : (now before : List BodyEvent) → (more : List UnplacedSyllable) × (all_syllables (events_onto now before) ≡ all_syllables before ++ more)
 made_after [] before = ([], sym (append-nil (all_syllables before)))
 made_after (t ∷ now) before =
-    let first = made_more t before in
+    let first = pushed_more (closes t) (all_syllables before) (syllable_by (t ∷ since_close before) (is_eu before) (is_nlba before)) in
     let rest = made_after now (t ∷ before) in
     (first.0 ++ rest.0, rest.1 ∙ ap (λ (ms : List UnplacedSyllable). ms ++ rest.0) first.1 ∙ append_assoc (all_syllables before) first.0 rest.0)
 

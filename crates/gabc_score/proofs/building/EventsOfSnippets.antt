@@ -1,5 +1,5 @@
 -- What a part emits of a character, and the part after it.
-use Rattle.std.proofs.Common.{◌≡◌, ◌≤◌, ◌==◌, ℕ, Bool, true, false, if◌then◌else◌, List, ◌∷◌, map, length, refl, sym, ap, ◌∙◌, arith}
+use Rattle.std.proofs.Common.{◌≡◌, ◌≤◌, ◌==◌, ℕ, Bool, true, false, if◌then◌else◌, List, ◌∷◌, map, length, refl, ◌∙◌, arith}
 use Rattle.std.proofs.lemmas.Bool.{eq-eqb, ne_eqb}
 use Rattle.std.proofs.lemmas.List.{length-map}
 use Rattle.std.specs.List.{list_any}
@@ -14,7 +14,7 @@ use Rattle.gabc_score.specs.declared.body_stage.BodyPart.TheVariants as part
 use Rattle.gabc_score.specs.declared.events.BodyEvent.{BodyEvent}
 use Rattle.gabc_score.specs.declared.events.BodyEvent.TheVariants as event
 use Rattle.gabc_score.specs.witness.BodyStage.{BodyStageState, part_with, running_events_left, texts_by_stage}
-use Rattle.gabc_score.specs.Events.{PartAhead, InComment, InText, InNotes, events_from, events_in, after_mark, is_next, is_close, is_text_end, note_event, next_line, part_after_character, snippet_from, text_from}
+use Rattle.gabc_score.specs.Events.{PartAhead, InComment, events_from, events_in, after_mark, is_next, is_close, is_text_end, note_event, next_line, part_after_character, snippet_from, text_from}
 use Rattle.gabc_score.specs.machine.PartKeeps.{text_events}
 use Rattle.gabc_score.specs.machine.PartPushes.{Emits}
 use Rattle.gabc_score.specs.machine.PartSteps.{IsBounded, PartSteps, SnippetSteps, TakesChar}
@@ -35,19 +35,13 @@ module _ (lines macros : ℕ) (x : Char) where
 
   text_emits : (s t : TextStage) (es : List TextEvent) → text.Steps s x es t → (next : List Char → PartAhead) → ((xs : List Char) → next xs ≡ (if list_any is_text_end es then snippet_from lines macros 0 x.place xs else part_with (part.Text t) xs))
       → (xs : List Char) → left (part.Text s) (x ∷ xs) ≡ text_events es ∷ events_from texts_by_stage lines macros (next xs) xs
-  text_emits s t es h next n xs =
-      ap (λ lists. events_from texts_by_stage lines macros (InText lists) (x ∷ xs)) (h.emits xs)
-      ∙ ap (λ p. text_events es ∷ events_from texts_by_stage lines macros p xs) (sym (n xs))
+  text_emits s t es h next n xs = grind arith
 
   snippet_emits : {line : ℕ} {opened : Place} {b after : BodyPart} {es : List NoteEvent} → SnippetSteps x line opened b es after → (next : List Char → PartAhead)
       → ((xs : List Char) → next xs ≡ part_then lines macros line opened x.place (part_with after) (list_any is_next es) (list_any is_close es) xs)
       → (xs : List Char) → left b (x ∷ xs) ≡ map (note_event line opened) es ∷ events_from texts_by_stage lines macros (next xs) xs
-  snippet_emits (step.in_gabc {opened} {es = es} h) next n xs =
-      ap (λ lists. events_from texts_by_stage lines macros (InNotes 0 opened lists) (x ∷ xs)) (h.emits xs)
-      ∙ ap (λ p. map (note_event 0 opened) es ∷ events_from texts_by_stage lines macros p xs) (sym (n xs))
-  snippet_emits (step.in_nabc {line} {opened} {es = es} h) next n xs =
-      ap (λ lists. events_from texts_by_stage lines macros (InNotes line opened lists) (x ∷ xs)) (h.emits xs)
-      ∙ ap (λ p. map (note_event line opened) es ∷ events_from texts_by_stage lines macros p xs) (sym (n xs))
+  snippet_emits (step.in_gabc {opened} {es = es} h) next n xs = grind arith
+  snippet_emits (step.in_nabc {line} {opened} {es = es} h) next n xs = grind arith
 
   in_comment : (b : Bool) → (x.c == 10) ≡ b → (xs : List Char) → left part.Comment (x ∷ xs)
       ≡ events_in (if b then part_with (part.Text (fresh_stage x.place)) (x ∷ xs) else InComment)
@@ -60,10 +54,8 @@ few_notes line opened es few = rw (length-map es (note_event line opened)) (omeg
 pub part_emits : {lines macros : ℕ} {x : Char} {before after : BodyPart} {now : List BodyEvent} → PartSteps lines macros x before now after → (xs : List Char) → left lines macros x before (x ∷ xs) ≡ now ∷ left lines macros x after xs
 part_emits {lines} {macros} {x} (step.in_front h) = in_comment lines macros x false (ne_eqb x.c 10 h)
 part_emits {lines} {macros} {x} (step.leaves_front h s) = λ xs. in_comment lines macros x true (eq-eqb x.c 10 h) xs ∙ part_emits s xs
-part_emits {lines} {macros} {x} (step.text_goes {s} {t} {es} h e) =
-    text_emits lines macros x s t es h (part_with (part.Text t)) (λ xs. ap (λ (b : Bool). if b then snippet_from lines macros 0 x.place xs else part_with (part.Text t) xs) (sym e))
-part_emits {lines} {macros} {x} (step.text_ends {s} {t} {es} {after} h e b) =
-    text_emits lines macros x s t es h (part_with after) (λ xs. b.reads xs ∙ ap (λ (b : Bool). if b then snippet_from lines macros 0 x.place xs else part_with (part.Text t) xs) (sym e))
+part_emits {lines} {macros} {x} (step.text_goes {s} {t} {es} h e) = grind (arith, text_emits)
+part_emits {lines} {macros} {x} (step.text_ends {s} {t} {es} {after} h e b) = grind (arith, text_emits)
 part_emits {lines} {macros} {x} (step.snippet_goes {after = after} s n c) = snippet_emits lines macros x s (part_with after) (λ xs. rw (n, c) refl)
 part_emits {lines} {macros} {x} (step.snippet_next {after = after} s n b) = snippet_emits lines macros x s (part_with after) (λ xs. rw n (b.reads xs))
 part_emits {lines} {macros} {x} (step.snippet_closes s n c) = snippet_emits lines macros x s (part_with (part.Text (fresh_stage (after_mark x.place)))) (λ xs. rw (n, c) refl)
@@ -80,7 +72,4 @@ few_events (step.snippet_closes {line} {opened} {es = es} s n c) k = few_notes l
 -- so it is with a stage of a body
 pub stage_emits : (old : BodyStageState) {new : BodyStageState} {x : Char} → new ≡ record old { part = new.part; events = new.events } → TakesChar old.nabc_lines old.macros x old.part new.events new.part
     → Emits (running_events_left old) (running_events_left new) x 8 new.events
-stage_emits old {new} same s = record {
-  few = few_events s.0 s.1;
-  law = λ xs. part_emits s.0 xs ∙ ap (λ (b : BodyStageState). new.events ∷ events_from texts_by_stage b.nabc_lines b.macros (part_with new.part xs) xs) (sym same);
-}
+stage_emits old same s = grind (arith, few_events, part_emits)

@@ -1,5 +1,5 @@
 -- What is emitted of the parts of a syllable, one thing after the other.
-use Rattle.std.proofs.Common.{◌≡◌, ℕ, List, [], ◌∷◌, ◌++◌, map, refl, sym, ap, ◌∙◌, append_assoc, append-nil}
+use Rattle.std.proofs.Common.{◌≡◌, ℕ, List, [], ◌∷◌, ◌++◌, map, refl, sym, ap, ◌∙◌, append_assoc, append-nil, arith}
 use lib.Utf8.{encode, encodes}
 use Rattle.gabc_places.specs.declared.place.Place.{Place}
 use Rattle.gabc_text.specs.TextView.{ViewContent}
@@ -55,11 +55,9 @@ notes_keep line opened (note.Ended how n ∷ lists) events h = cc
 pub notes_within : (line : ℕ) (opened : Place) (lists : List NoteEvent) (before : List BodyEvent) → ends_of lists ≡ []
     → AreInPart before (events_onto (map (note_event line opened) lists) before) (map (note_event line opened) lists)
 notes_within line opened [] before h = record { since = refl; made = refl }
-notes_within line opened (note.Kept x ∷ lists) before h =
-    let on = notes_within line opened lists (Notes line (note.Kept x) ∷ before) h in record { since = on.since; made = on.made }
-notes_within line opened (note.Found f ∷ lists) before h =
-    let on = notes_within line opened lists (Notes line (note.Found f) ∷ before) h in record { since = on.since; made = on.made }
 notes_within line opened (note.Ended how n ∷ lists) before h = cc
+notes_within line opened (e ∷ lists) before h =
+    let on = notes_within line opened lists (note_event line opened e ∷ before) h in record { since = on.since; made = on.made }
 
 -- ---- texts
 
@@ -74,5 +72,4 @@ text_gathers (text.Ended how ∷ lists) events g h k v = cc
 
 pub text_within : (lists : List TextEvent) (before : List BodyEvent) → AreInPart before (events_onto (text_events lists) before) (text_events lists)
 text_within [] before = record { since = refl; made = refl }
-text_within (o ∷ lists) before =
-    let on = text_within lists (Text o ∷ before) in record { since = on.since; made = on.made }
+text_within (o ∷ lists) before = grind (arith, text_within lists (Text o ∷ before))

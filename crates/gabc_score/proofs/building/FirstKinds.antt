@@ -1,6 +1,5 @@
 -- Which comes first in the GABC snippets that have ended, a note or a clef, where one more ends.
-use Rattle.std.proofs.Common.{◌≡◌, ℕ, zero, suc, ◌-◌, ◌≤◌, ◌==◌, ◌&&◌, not, Bool, true, false, cond, List, [], ◌∷◌, ◌++◌, length, take, drop, Option, Some, None, refl, sym, ap, subst, ◌∙◌, arith, append_assoc, append-nil, length-append, drop_at}
-use Rattle.std.specs.Prelude.{is_some}
+use Rattle.std.proofs.Common.{◌≡◌, ℕ, ◌-◌, ◌≤◌, ◌==◌, Bool, true, cond, List, [], ◌∷◌, ◌++◌, length, take, drop, Option, Some, None, refl, sym, ap, subst, ◌∙◌, arith, append_assoc, append-nil, length-append, drop_at}
 use Rattle.std.specs.List.{flat_map}
 use Rattle.std.proofs.lemmas.Grind.{flat_map-append}
 use Rattle.std.proofs.lemmas.Str.{chars-encodes}
@@ -8,7 +7,7 @@ use Rattle.std.proofs.Math.Seq.{take-append_seam}
 use Rattle.gabc_places.specs.declared.place.Span.{Span}
 use Rattle.gabc_text.specs.declared.text_event.TextEnd.TheVariants as text_end
 use Rattle.gabc_text.specs.declared.text_event.TextEvent.TheVariants as text
-use Rattle.gabc_notes.specs.FirstNoteOrClef.{is_note_or_clef, first_note_or_clef}
+use Rattle.gabc_notes.specs.FirstNoteOrClef.{first_note_or_clef}
 use Rattle.gabc_notes.specs.Items.{placed_items, items_of}
 use Rattle.gabc_notes.specs.Table.{gabc}
 use Rattle.gabc_patterns.specs.Function.{items}
@@ -30,48 +29,34 @@ or_then (Some kind) later = Some kind
 
 first_append : (is js : List Item) → first_note_or_clef (is ++ js) ≡ or_then (first_note_or_clef is) (first_note_or_clef js)
 first_append [] js = refl
-first_append (i ∷ is) js = by (is_note_or_clef i.kind) (first_append is js)
-  where
-    by : (b : Bool) → first_note_or_clef (is ++ js) ≡ or_then (first_note_or_clef is) (first_note_or_clef js)
-        → cond b (Some i.kind) (first_note_or_clef (is ++ js)) ≡ or_then (cond b (Some i.kind) (first_note_or_clef is)) (first_note_or_clef js)
-    by true e = refl
-    by false e = e
+first_append (i ∷ is) js = grind (arith, first_append is js)
 
 abbrev first_in : List (List ℕ) → Option ItemKind
 first_in ended = first_note_or_clef (flat_map (λ kept. items_of kept) ended)
 
 first_push : (ended : List (List ℕ)) (kept : List ℕ) → first_in (ended ++ kept ∷ []) ≡ or_then (first_in ended) (first_note_or_clef (items_of kept))
-first_push ended kept =
-    ap first_note_or_clef (flat_map-append (λ (k : List ℕ). items_of k) ended (kept ∷ []))
-    ∙ first_append (flat_map (λ (k : List ℕ). items_of k) ended) (items_of kept ++ [])
-    ∙ ap (λ (is : List Item). or_then (first_in ended) (first_note_or_clef is)) (append-nil (items_of kept))
+first_push ended kept = grind (arith, flat_map-append, first_append, append-nil)
 
 -- ---- a character begins where a part begins
 
-grown_seam : (part more : List ℕ) → is_seam part ≡ true → is_seam (more ++ []) ≡ true → is_seam (part ++ more) ≡ true
-grown_seam [] more h k = subst (λ t. is_seam t ≡ true) (append-nil more) k
+grown_seam : (part more : List ℕ) → is_seam part ≡ true → is_seam more ≡ true → is_seam (part ++ more) ≡ true
+grown_seam [] more h k = k
 grown_seam (b ∷ part) more h k = h
 
 pub part_seam : (events : List BodyEvent) → is_seam (part_of events) ≡ true
 part_seam [] = refl
-part_seam (event.Text (text.Kept c) ∷ events) = grown_seam (part_of events) _ (part_seam events) (first_byte c.c [])
+part_seam (event.Text (text.Kept c) ∷ events) = grown_seam (part_of events) _ (part_seam events) (rw append-nil at (first_byte c.c []))
 part_seam (event.Text (text.Ended text_end.Notes) ∷ events) = refl
-part_seam (event.Notes line (note.Kept c) ∷ events) = grown_seam (part_of events) _ (part_seam events) (first_byte c.c [])
+part_seam (event.Notes line (note.Kept c) ∷ events) = grown_seam (part_of events) _ (part_seam events) (rw append-nil at (first_byte c.c []))
 part_seam (event.Notes line (note.Ended note_end.Next n) ∷ events) = refl
 part_seam (event.Notes line (note.Ended note_end.Close n) ∷ events) = refl
 part_seam (_ ∷ events) = part_seam events
 
 taken_seam : (n : ℕ) (part : List ℕ) → is_seam part ≡ true → is_seam (take n part) ≡ true
-taken_seam zero part h = refl
-taken_seam (suc n) [] h = refl
-taken_seam (suc n) (b ∷ part) h = h
+taken_seam n part h = grind arith
 
 prefix_seam : (n : ℕ) (part : List ℕ) → is_seam part ≡ true → is_seam (prefix_of n part) ≡ true
-prefix_seam n part h = by (is_seam (drop n part))
-  where
-    by : (b : Bool) → is_seam (cond b (take n part) part) ≡ true
-    by true = taken_seam n part h
-    by false = h
+prefix_seam n part h = grind (arith, taken_seam n part h, h)
 
 -- ---- the text of the snippet that ends
 
@@ -91,10 +76,6 @@ module _ (ended kept mark : List ℕ) (begins : is_seam kept ≡ true) (marks : 
   after : drop (length (ended ++ kept)) whole ≡ mark
   after = drop_at (ended ++ kept) mark (length (ended ++ kept)) refl
 
-  kept_seam : (k : List ℕ) → is_seam k ≡ true → is_seam (k ++ mark) ≡ true
-  kept_seam [] h = marks
-  kept_seam (b ∷ k) h = h
-
   size : length (ended ++ kept) - length ended ≡ length kept
   size = omega (arith, length-append ended kept)
 
@@ -105,7 +86,7 @@ module _ (ended kept mark : List ℕ) (begins : is_seam kept ≡ true) (marks : 
   pub snippet_text : text_at span whole ≡ kept
   snippet_text =
       text_is span whole (omega (arith, length-append ended kept)) (omega (arith, length-append (ended ++ kept) mark))
-      (subst (λ t. is_seam t ≡ true) (sym rest) (kept_seam kept begins)) (subst (λ t. is_seam t ≡ true) (sym after) marks)
+      (subst (λ t. is_seam t ≡ true) (sym rest) (grown_seam kept mark begins marks)) (subst (λ t. is_seam t ≡ true) (sym after) marks)
       ∙ sliced
 
 -- ---- one more snippet
@@ -113,16 +94,7 @@ module _ (ended kept mark : List ℕ) (begins : is_seam kept ≡ true) (marks : 
 pub first_more : (snippets : List (List ℕ)) (ended part mark : List ℕ) (line n : ℕ) → is_seam part ≡ true → is_seam mark ≡ true
     → first_past (first_in snippets) line (record { from = length ended; to = length (ended ++ prefix_of n part) }) ((ended ++ prefix_of n part) ++ mark)
     ≡ first_in (cond (line == 0) (snippets ++ prefix_of n part ∷ []) snippets)
-first_more snippets ended part mark line n h k = by (line == 0) (first_in snippets) refl
-  where
-    by : (b : Bool) (f : Option ItemKind) → first_in snippets ≡ f
-        → cond (b && not (is_some f)) (first_note_or_clef (items_of (text_at (record { from = length ended; to = length (ended ++ prefix_of n part) }) ((ended ++ prefix_of n part) ++ mark)))) f
-        ≡ first_in (cond b (snippets ++ prefix_of n part ∷ []) snippets)
-    by true (Some kind) e = sym (first_push snippets (prefix_of n part) ∙ ap (λ g. or_then g (first_note_or_clef (items_of (prefix_of n part)))) e)
-    by true None e =
-        ap (λ t. first_note_or_clef (items_of t)) (snippet_text ended (prefix_of n part) mark (prefix_seam n part h) k)
-        ∙ sym (first_push snippets (prefix_of n part) ∙ ap (λ g. or_then g (first_note_or_clef (items_of (prefix_of n part)))) e)
-    by false f e = sym e
+first_more snippets ended part mark line n h k = grind (arith, first_push, snippet_text, prefix_seam)
 
 -- ---- an empty snippet
 
@@ -134,8 +106,7 @@ no_items : first_note_or_clef (items_of []) ≡ None
 no_items = ap (λ (t : List ℕ). first_note_or_clef (placed_items 0 (items gabc t))) (chars-encodes [] refl)
 
 none_in : (b : Bool) (t : List ℕ) → t ≡ [] → first_note_or_clef (items_of (cond b t [])) ≡ None
-none_in true t e = ap (λ (k : List ℕ). first_note_or_clef (items_of k)) e ∙ no_items
-none_in false t e = no_items
+none_in b t e = grind (arith, no_items)
 
 -- it has neither a note nor a clef
 pub none_in_empty : (span : Span) (kept : List ℕ) → span.to ≤ span.from → first_note_or_clef (items_of (text_at span kept)) ≡ None

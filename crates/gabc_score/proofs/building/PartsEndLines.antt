@@ -1,15 +1,14 @@
 -- After an LF no comment is open in a part of the body.
-use Rattle.std.proofs.Common.{◌≡◌, ℕ, Bool, true, false, List, [], refl, ap, ◌∙◌}
+use Rattle.std.proofs.Common.{◌≡◌, ℕ, Bool, false, List, [], arith}
 use Rattle.std.specs.List.{list_any}
 use Rattle.gabc_places.specs.declared.place.Char.{Char}
-use Rattle.gabc_text.specs.StageReports as text_tells
 use Rattle.gabc_text.specs.declared.stage.TextStage.{TextStage}
 use Rattle.gabc_text.specs.declared.text_event.TextEvent.{TextEvent}
 use Rattle.gabc_text.specs.witness.Keeps as text
 use Rattle.gabc_score.specs.declared.body_stage.BodyPart.{BodyPart}
 use Rattle.gabc_score.specs.declared.body_stage.BodyPart.TheVariants as part
 use Rattle.gabc_score.specs.Events.{after_mark, is_text_end}
-use Rattle.gabc_score.specs.machine.PartKeeps.{in_text, in_notes}
+use Rattle.gabc_score.specs.machine.PartKeeps.{in_text}
 use Rattle.gabc_score.specs.machine.PartOpens.{PartEndsLine}
 use Rattle.gabc_score.proofs.building.SnippetsTakeCharacters.{going}
 use Rattle.gabc_score.proofs.building.PartsOfKeptText.{text_goes_on}
@@ -21,13 +20,10 @@ use Rattle.gabc_score.specs.machine.PartSteps as step
 
 module _ (lines macros : ℕ) (x : Char) where
   text_comment : (k : List ℕ) (comment : Bool) → text.comment_with k comment 10 ≡ false
-  text_comment k true = refl
-  text_comment k false = refl
+  text_comment k comment = grind arith
 
   pub text_ends_line : (s t : TextStage) (es : List TextEvent) → text.KeepsOn s x.c es t → list_any is_text_end es ≡ false → PartEndsLine lines macros x (part.Text s) (part.Text t)
-  text_ends_line s t es on goes_on (in_notes u earlier k) h lf = absurd h
-  text_ends_line s t es on goes_on (in_text k) h lf =
-      (on.goes k h (text_goes_on s t x.c es k on h goes_on)).comment ∙ ap (text.comment_with k (text_tells.is_in_comment s)) lf ∙ text_comment k (text_tells.is_in_comment s)
+  text_ends_line s t es on goes_on k h lf = grind (arith, text_goes_on, text_comment)
 
 -- ---- a part takes a character
 

@@ -1,5 +1,5 @@
 -- Of a character a part of the body keeps nothing but it, or a blank.
-use Rattle.std.proofs.Common.{◌≡◌, ◌⊎◌, inl, inr, ℕ, List, [], ◌∷◌, map, refl, sym, ap, subst}
+use Rattle.std.proofs.Common.{◌≡◌, ◌⊎◌, inl, inr, ℕ, List, [], ◌∷◌, map, refl, sym, ap, subst, arith}
 use Rattle.std.specs.List.{All}
 use Rattle.std.proofs.lemmas.List.Elements.{All-nil, All-cons}
 use Rattle.gabc_places.specs.declared.place.Char.{Char}
@@ -21,7 +21,7 @@ use Rattle.gabc_score.specs.declared.events.BodyEvent.{BodyEvent}
 use Rattle.gabc_text.proofs.resuming.StagesKeep.{fresh_keeps}
 use Rattle.gabc_score.specs.machine.PartSteps.{PartSteps, SnippetSteps}
 use Rattle.gabc_score.specs.machine.PartSteps as step
-use Rattle.gabc_score.proofs.building.SnippetsTakeCharacters.{Ending, Going, takes}
+use Rattle.gabc_score.proofs.building.SnippetsTakeCharacters.{takes}
 
 text_codes : (es : List TextEvent) → kept_codes (text_events es) ≡ kept_in es
 text_codes [] = refl
@@ -35,8 +35,7 @@ note_codes line opened (_ ∷ es) = note_codes line opened es
 
 -- nothing more, or the character
 nothing_or : (ds : List ℕ) (c : ℕ) → (ds ≡ []) ⊎ (ds ≡ c ∷ []) → All (IsKeptOf c) ds
-nothing_or ds c (inl e) = subst (All (IsKeptOf c)) (sym e) (All-nil (IsKeptOf c))
-nothing_or ds c (inr e) = subst (All (IsKeptOf c)) (sym e) (All-cons (IsKeptOf c) c [] (inl refl) (All-nil (IsKeptOf c)))
+nothing_or ds c h = grind (arith, All-nil, All-cons)
 
 module _ (lines macros : ℕ) (x : Char) where
   pub text_keeps_only : (s t : TextStage) (es : List TextEvent) → text.KeepsOn s x.c es t → PartKeepsOnly lines macros x (part.Text s) (text_events es)
@@ -47,11 +46,9 @@ module _ (lines macros : ℕ) (x : Char) where
 
 snippet_keeps_only : (lines macros : ℕ) {x : Char} {line : ℕ} {opened : Place} {before after : BodyPart} {es : List NoteEvent} → SnippetSteps x line opened before es after
     → PartKeepsOnly lines macros x before (map (note_event line opened) es)
-snippet_keeps_only lines macros {x} {line} {opened} {before} {after} {es} s p keeps = subst (All (IsKeptOf x.c)) (sym (note_codes line opened es)) (by (takes lines macros s p keeps))
-  where
-    by : Going lines macros line x before after es p ⊎ Ending lines macros line x es p → All (IsKeptOf x.c) (kept_of es)
-    by (inl g) = nothing_or (kept_of es) x.c g.kept
-    by (inr e) = nothing_or (kept_of es) x.c (inl e.none_kept)
+snippet_keeps_only lines macros {x} {line} {opened} {before} {after} {es} s p keeps =
+    subst (All (IsKeptOf x.c)) (sym (note_codes line opened es))
+    (nothing_or (kept_of es) x.c (elim (takes lines macros s p keeps) [ inl g ↦ g.kept | inr e ↦ inl e.none_kept ]))
 
 pub keeps_only : {lines macros : ℕ} {x : Char} {before after : BodyPart} {now : List BodyEvent} → PartSteps lines macros x before now after → PartKeepsOnly lines macros x before now
 keeps_only {x = x} (step.in_front h) = λ p keeps. All-nil (IsKeptOf x.c)

@@ -1,5 +1,5 @@
 -- What a part of a body makes with its events: a syllable that holds a unit, where a snippet closes, and else none.
-use Rattle.std.proofs.Common.{◌≡◌, ℕ, ◌+◌, ◌-◌, ◌^◌, min, Bool, true, false, List, [], ◌∷◌, ◌++◌, length, nat_lt, codes, encode_utf8_all, refl, sym, ap, subst, ◌∙◌, arith, append_assoc}
+use Rattle.std.proofs.Common.{◌≡◌, ℕ, ◌+◌, ◌-◌, ◌^◌, min, Bool, true, false, List, [], ◌∷◌, ◌++◌, length, nat_lt, codes, refl, sym, ap, subst, ◌∙◌, arith, append_assoc}
 use Rattle.std.proofs.lemmas.Bool.{true≢false}
 use Rattle.std.proofs.lemmas.List.Elements.{All-push}
 use Rattle.std.specs.List.{list_any}
@@ -32,7 +32,7 @@ use Rattle.gabc_text.specs.ViewFacts.{span_tags}
 use Rattle.gabc_score.specs.UnitRead.{HoldsSomeUnit}
 use Rattle.gabc_score.specs.machine.BodyBuilder.{with_all}
 use Rattle.gabc_score.specs.machine.Gatherer.{Gathered, with_event}
-use Rattle.gabc_score.specs.machine.PartKeeps.{KeptParts, in_text, barred, text_before, joined, line_after, text_events, snippet_events, earlier_events, events_before, said_by, AreEnded, begun, ReadAlike, IsReading}
+use Rattle.gabc_score.specs.machine.PartKeeps.{KeptParts, barred, joined, line_after, text_events, snippet_events, earlier_events, events_before, said_by, AreEnded, begun, IsReading}
 use Rattle.gabc_score.specs.machine.PartMakes.{FollowEach, AreHeld, HoldUnits, PartMakes}
 use Rattle.gabc_score.specs.machine.PartSteps.{SnippetSteps}
 use Rattle.gabc_score.specs.machine.SyllableBuilder.{OpenSyllable, made_from, past_snippet}
@@ -52,18 +52,10 @@ whole_in g = (g.made, (g.total, g.over))
 
 pub whole_stays : (now : List BodyEvent) (g : Gathered) → list_any closes now ≡ false → whole_in (with_all g now) ≡ whole_in g
 whole_stays [] g e = refl
-whole_stays (event.Text (text_out.Kept c) ∷ now) g e = whole_stays now (with_event g (event.Text (text_out.Kept c))) e
 whole_stays (event.Text (text_out.Part text_part.WordStart) ∷ now) g e = whole_stays now (with_event g (event.Text (text_out.Part text_part.WordStart))) e
-whole_stays (event.Text (text_out.Part (text_part.Piece p)) ∷ now) g e = whole_stays now (with_event g (event.Text (text_out.Part (text_part.Piece p)))) e
-whole_stays (event.Text (text_out.Part (text_part.Centre s)) ∷ now) g e = whole_stays now (with_event g (event.Text (text_out.Part (text_part.Centre s)))) e
-whole_stays (event.Text (text_out.Part (text_part.Translation s)) ∷ now) g e = whole_stays now (with_event g (event.Text (text_out.Part (text_part.Translation s)))) e
 whole_stays (event.Text (text_out.Ended text_end.Notes) ∷ now) g e = whole_stays now (with_event g (event.Text (text_out.Ended text_end.Notes))) e
-whole_stays (event.Text (text_out.Ended (text_end.Cut p)) ∷ now) g e = whole_stays now (with_event g (event.Text (text_out.Ended (text_end.Cut p)))) e
-whole_stays (event.Notes line (note.Kept c) ∷ now) g e = whole_stays now (with_event g (event.Notes line (note.Kept c))) e
-whole_stays (event.Notes line (note.Ended note_end.Next n) ∷ now) g e = whole_stays now (with_event g (event.Notes line (note.Ended note_end.Next n))) e
 whole_stays (event.Notes line (note.Ended note_end.Close n) ∷ now) g e = absurd (true≢false e)
-whole_stays (event.Notes line (note.Ended (note_end.Cut p) n) ∷ now) g e = whole_stays now (with_event g (event.Notes line (note.Ended (note_end.Cut p) n))) e
-whole_stays (_ ∷ now) g e = whole_stays now g e
+whole_stays (t ∷ now) g e = whole_stays now (with_event g t) e
 
 pub made_stays : (now : List BodyEvent) (g : Gathered) → list_any closes now ≡ false → (with_all g now).made ≡ g.made
 made_stays now g e = ap (λ w. w.0) (whole_stays now g e)
@@ -89,14 +81,7 @@ notes_make_none lines macros line opened before es e = none_makes lines macros b
 
 -- before the text that begins after the comment in front nothing was gathered
 pub reading_begins : {lines macros : ℕ} {spans : Spans} {g : Gathered} (at : Place) → IsReading lines macros part.Comment spans g → IsReading lines macros (part.Text (fresh_stage at)) spans g
-reading_begins {lines} {macros} {spans} {g} at r = record {
-  parts = in_text [];
-  keeps = fresh_keeps at;
-  said = subst (λ (k : KeptParts). ReadAlike g (with_all (begun spans) (said_by lines k))) r.keeps r.said;
-  kept = subst (λ (k : KeptParts). g.builder.kept ≡ encode_utf8_all (joined k)) r.keeps r.kept;
-  from = subst (λ (k : KeptParts). g.builder.from ≡ length (encode_utf8_all (text_before k))) r.keeps r.from;
-  uncut = r.uncut;
-}
+reading_begins at r = grind (arith, fresh_keeps)
 
 -- ---- a syllable is made
 

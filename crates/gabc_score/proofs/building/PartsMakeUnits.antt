@@ -1,18 +1,15 @@
 -- A text and snippets that have ended make a syllable that holds a unit.
-use Rattle.std.proofs.Common.{◌≡◌, ℕ, zero, suc, ◌+◌, ◌%◌, Bool, List, [], ◌∷◌, ◌++◌, map, length, encode_utf8, encode_utf8_all, codes, refl, sym, ap, subst, ◌∙◌, arith, append_assoc, append-nil, length-append}
-use Rattle.std.proofs.lemmas.Grind.{flat_map-append}
+use Rattle.std.proofs.Common.{◌≡◌, ℕ, suc, ◌+◌, ◌%◌, Bool, List, [], ◌∷◌, ◌++◌, map, length, encode_utf8, encode_utf8_all, codes, refl, sym, ap, subst, ◌∙◌, arith, append_assoc, append-nil, length-append}
 use Rattle.std.proofs.lemmas.List.{length-map, map-append}
 use Rattle.std.proofs.lemmas.Str.{encodes-append}
 use Rattle.std.proofs.Math.Numerals.{add-one}
-use Rattle.std.specs.List.{flat_map}
-use Rattle.gabc_text.specs.BuiltText.{BuiltText, with_events, with_event as with_text_event, with_part, empty_text, kept_in}
+use Rattle.gabc_text.specs.BuiltText.{BuiltText, with_events, with_event as with_text_event, with_part, kept_in}
 use Rattle.gabc_text.specs.Ends.{ends_in}
 use Rattle.gabc_text.specs.Events.{codes_of}
 use Rattle.gabc_text.specs.TextRead.{view_in}
 use Rattle.gabc_text.specs.TextView.{ViewContent}
 use Rattle.gabc_text.specs.View.{kept}
 use Rattle.gabc_text.specs.ViewFacts.{StandsForView, span_tags}
-use Rattle.gabc_text.specs.declared.text_event.TextEnd.TheVariants as text_end
 use Rattle.gabc_text.specs.declared.text_event.TextEvent.{TextEvent}
 use Rattle.gabc_text.specs.declared.text_event.TextEvent.TheVariants as text
 use Rattle.gabc_text.specs.declared.text_event.TextPart.TheVariants as text_part
@@ -20,7 +17,6 @@ use Rattle.gabc_text.specs.witness.Keeps.{said_of, said_at_end}
 use Rattle.gabc_text.specs.witness.SaidInFull.{IsSaidInFull}
 use Rattle.gabc_notes.specs.declared.stage.NoteEnd.TheVariants as note_end
 use Rattle.gabc_notes.specs.declared.stage.NoteEvent.TheVariants as note
-use Rattle.gabc_score.specs.declared.events.BodyEvent.{BodyEvent}
 use Rattle.gabc_score.specs.declared.events.BodyEvent.TheVariants as event
 use Rattle.gabc_score.specs.declared.snippets.Snippet.{Snippet}
 use Rattle.gabc_score.specs.Events.{next_line}
@@ -31,12 +27,12 @@ use Rattle.gabc_score.specs.machine.BodyBuilder.{with_all}
 use Rattle.gabc_score.specs.machine.Gatherer.{Gathered, with_event}
 use Rattle.gabc_score.specs.machine.PartKeeps.{line_after, text_events, snippet_events, ended_events, earlier_events, IsEndedOn, AreEnded}
 use Rattle.gabc_score.specs.machine.PartMakes.{PartLaws, characters_of}
-use Rattle.gabc_score.specs.machine.SyllableBuilder.{OpenSyllable, nothing_open, made_from, past_text, past_snippet}
+use Rattle.gabc_score.specs.machine.SyllableBuilder.{OpenSyllable, nothing_open, made_from, past_snippet}
 use Rattle.gabc_score.proofs.building.EventsOfOnePoint.{with_all_append}
 use Rattle.gabc_score.proofs.building.PartsOfKeptText.{cut_is, snippet_is}
 use Rattle.gabc_score.proofs.holding.PartsAreAUnit.{notes_are_unit}
 use Rattle.gabc_score.proofs.holding.SyllableHoldsPartByPart.{first_turn}
-use Rattle.gabc_score.proofs.holding.SnippetsAreHeld.{Placed, PlacedFrom, placed_push, all_held, next_turn, whole_of, span_after}
+use Rattle.gabc_score.proofs.holding.SnippetsAreHeld.{Placed, PlacedFrom, placed_push, all_held, next_turn, whole_of, span_after, bracket_more}
 use Rattle.gabc_score.proofs.syllables_of_units.LastTagOpensTheSpan.{after_tags}
 use Rattle.gabc_score.proofs.syllables_of_units.UnitGivesOneSyllable.{view_past}
 use Rattle.gabc_score.proofs.texts_of_body.SeamsOfCharacters.{size}
@@ -54,12 +50,6 @@ snippet_in s = s.snippet
 -- the snippet of this kept text after that one
 abbrev read_after : ℕ → List ℕ → List ℕ → ReadSnippet
 read_after line prefix s = record { snippet = record { line = line; span = span_after prefix s }; characters = characters_of s; kept = s }
-
-bracket_more : (reads : List ReadSnippet) (new : ReadSnippet) → bracket_with kept_text reads ++ (new.kept ++ codes "|") ≡ bracket_with kept_text (reads ++ new ∷ [])
-bracket_more reads new =
-    ap (λ (t : List ℕ). codes "(" ++ t)
-    (ap (λ (t : List ℕ). flat_map (λ (s : ReadSnippet). s.kept ++ codes "|") reads ++ t) (sym (append-nil (new.kept ++ codes "|")))
-    ∙ sym (flat_map-append (λ (s : ReadSnippet). s.kept ++ codes "|") reads (new ∷ [])))
 
 -- with what is kept of a part
 abbrev pub with_more : OpenSyllable → List ℕ → OpenSyllable
@@ -124,10 +114,7 @@ module _ (laws : PartLaws) (lines : ℕ) (t : List ℕ) (view : ViewContent) whe
     -- a span is open after its pieces as after the tags of the text
     pub close_opens : (n : ℕ) → n ≡ size s → (full : IsSaidInFull t []) → view ≡ view_in (t ++ 40 ∷ []) → (opening closing : List ℕ) (was : Bool)
         → (let b = past_snippet (with_more o (s ++ rest)) line n 41 in open_past opening closing b.kept b.view.pieces was ≡ after_tags opening closing was (span_tags (t ++ 40 ∷ [])))
-    close_opens n e full same opening closing was =
-        subst (λ (b : OpenSyllable). open_past opening closing b.kept b.view.pieces was ≡ after_tags opening closing was (span_tags (t ++ 40 ∷ []))) (sym (ended_is n 41 e))
-        (ap (λ (k : List ℕ). open_past opening closing k view.pieces was) whole_kept
-        ∙ view_past opening closing (whole_of t h.reads new) (t ++ 40 ∷ []) view was (whole_stands full same))
+    close_opens n e full same opening closing was = grind (arith, ended_is, whole_kept, view_past, whole_stands)
 
     module _ (is : IsSnippetOf line s) where
       new_placed : Placed lines t h.reads new
@@ -153,7 +140,7 @@ module _ (laws : PartLaws) (lines : ℕ) (t : List ℕ) (view : ViewContent) whe
           more =
               append_assoc prefix s (codes "|")
               ∙ append_assoc t (bracket_with kept_text h.reads) (s ++ codes "|")
-              ∙ ap (λ (b : List ℕ). t ++ b) (bracket_more h.reads new)
+              ∙ ap (λ (b : List ℕ). t ++ b) (bracket_more kept_text h.reads new)
 
       -- the `)`
       pub close_holds : (n : ℕ) → n ≡ size s → (full : IsSaidInFull t []) → view ≡ view_in (t ++ 40 ∷ []) → (lines ≡ 0 → count ≡ 0) → (eu nlba : Bool)
@@ -172,13 +159,12 @@ module _ (laws : PartLaws) (lines : ℕ) (t : List ℕ) (view : ViewContent) whe
             each = all_held lines t h.reads new all_placed;
           }))
           (λ none. let many : length (map snippet_in (h.reads ++ new ∷ [])) ≡ length h.reads + 1 = length-map (h.reads ++ new ∷ []) snippet_in ∙ length-append h.reads (new ∷ []) in
-          let no_more = few none in let here = h.many in omega (arith, many, no_more, here)))
+          let no_more = few none in omega arith))
 
   -- ---- snippets that have ended
 
   of_line : (macros line : ℕ) (s : List ℕ) → IsEndedOn lines macros line s → IsSnippetOf line s
-  of_line macros zero s h = h.1.whole
-  of_line macros (suc line) s h = h.whole
+  of_line macros line s h = grind arith
 
   one_read : (macros line count : ℕ) (g : Gathered) (s : List ℕ) → HasRead line count g.builder → IsEndedOn lines macros line s → HasRead (next_line lines line) (count + 1) (with_all g (ended_events line s)).builder
   one_read macros line count g s h e =
@@ -207,42 +193,10 @@ mids_read (text.Kept c ∷ es) g b h v =
     mids_read es (with_event g (event.Text (text.Kept c))) (with_text_event b (text.Kept c)) h v
     ∙ ap (λ (k : List ℕ). record g.builder { kept = k; view = (with_events (with_text_event b (text.Kept c)) es).view }) (append_assoc g.builder.kept (encode_utf8 c.c) (encode_utf8_all (kept_in es)))
 mids_read (text.Part text_part.WordStart ∷ es) g b h v = mids_read es (with_event g (event.Text (text.Part text_part.WordStart))) (with_text_event b (text.Part text_part.WordStart)) h (ap (λ (w : ViewContent). with_part w text_part.WordStart) v)
-mids_read (text.Part (text_part.Piece p) ∷ es) g b h v = mids_read es (with_event g (event.Text (text.Part (text_part.Piece p)))) (with_text_event b (text.Part (text_part.Piece p))) h (ap (λ (w : ViewContent). with_part w (text_part.Piece p)) v)
-mids_read (text.Part (text_part.Centre s) ∷ es) g b h v = mids_read es (with_event g (event.Text (text.Part (text_part.Centre s)))) (with_text_event b (text.Part (text_part.Centre s))) h (ap (λ (w : ViewContent). with_part w (text_part.Centre s)) v)
-mids_read (text.Part (text_part.Translation s) ∷ es) g b h v = mids_read es (with_event g (event.Text (text.Part (text_part.Translation s)))) (with_text_event b (text.Part (text_part.Translation s))) h (ap (λ (w : ViewContent). with_part w (text_part.Translation s)) v)
+mids_read (text.Part p ∷ es) g b h v = mids_read es (with_event g (event.Text (text.Part p))) (with_text_event b (text.Part p)) h (ap (λ (w : ViewContent). with_part w p) v)
 mids_read (text.Found f ∷ es) g b h v = mids_read es g (with_text_event b (text.Found f)) h v
 mids_read (text.Ended how ∷ es) g b h v = absurd (cc)
 
--- after the `(`
-abbrev opened : List ℕ → ViewContent → OpenSyllable
-opened k v = record { kept = k ++ encode_utf8 40; from = length (k ++ encode_utf8 40); view = v; snippets = [] }
-
 pub text_read : (laws : PartLaws) (lines : ℕ) (t : List ℕ) (full : IsSaidInFull t []) (g : Gathered) → g.builder ≡ nothing_open
     → HasRead laws lines t (view_in (t ++ 40 ∷ [])) 0 0 (with_all g (text_events (said_of t ++ said_at_end t))).builder
-text_read laws lines t full g nothing =
-    subst (HasRead laws lines t view 0 0) (sym all) (record {
-      reads = [];
-      many = refl;
-      kept_is = kept_there;
-      from_is = ap length kept_there;
-      view_is = refl;
-      snippets_are = refl;
-      placed = tt;
-      line_is = first_turn lines;
-    })
-  where
-    view : ViewContent
-    view = view_in (t ++ 40 ∷ [])
-
-    kept_there : encode_utf8_all t ++ encode_utf8 40 ≡ encode_utf8_all (t ++ 40 ∷ [])
-    kept_there = ap (λ (b : List ℕ). encode_utf8_all t ++ b) (sym (append-nil (encode_utf8 40))) ∙ sym (encodes-append t (40 ∷ []))
-
-    all : (with_all g (text_events (said_of t ++ said_at_end t))).builder ≡ opened (encode_utf8_all t) view
-    all =
-        ap (λ (es : List TextEvent). (with_all g (text_events es)).builder) full.said_are
-        ∙ ap (λ (es : List BodyEvent). (with_all g es).builder) (map-append (λ (o : TextEvent). event.Text o) full.mids (text.Ended text_end.Notes ∷ []))
-        ∙ ap (λ (i : Gathered). i.builder) (with_all_append g (text_events full.mids) (event.Text (text.Ended text_end.Notes) ∷ []))
-        ∙ ap past_text (mids_read full.mids g empty_text full.silent (ap (λ (o : OpenSyllable). o.view) (sym nothing)))
-        ∙ ap (λ (o : OpenSyllable). past_text (record o { kept = o.kept ++ encode_utf8_all (kept_in full.mids); view = (with_events empty_text full.mids).view })) nothing
-        ∙ ap (λ (k : List ℕ). opened (encode_utf8_all k) (with_events empty_text full.mids).view) full.kept_are
-        ∙ ap (opened (encode_utf8_all t)) full.view_is
+text_read laws lines t full g nothing = grind (arith, first_turn, append-nil, encodes-append, map-append, with_all_append, mids_read)

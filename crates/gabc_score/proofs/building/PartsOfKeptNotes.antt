@@ -38,9 +38,7 @@ module _ (lines macros : ℕ) where
 
   earlier_more : (line : ℕ) (earlier : List (List ℕ)) (s : List ℕ) → earlier_events lines line (earlier ++ s ∷ []) ≡ earlier_events lines line earlier ++ ended_events (line_after lines line earlier) s
   earlier_more line [] s = append-nil (ended_events line s)
-  earlier_more line (u ∷ earlier) s =
-      ap (λ (es : List BodyEvent). ended_events line u ++ es) (earlier_more (next_line lines line) earlier s)
-      ∙ sym (append_assoc (ended_events line u) (earlier_events lines (next_line lines line) earlier) (ended_events (line_after lines (next_line lines line) earlier) s))
+  earlier_more line (u ∷ earlier) s = grind (arith, earlier_more (next_line lines line) earlier s, append_assoc)
 
   module _ {x : Char} {line : ℕ} {opened : Place} {before same : BodyPart} {es : List NoteEvent} (s : SnippetSteps x line opened before es same) where
     pub notes_keep_on : list_any is_next es ≡ false → list_any is_close es ≡ false → PartKeepsOn lines macros before same (of_notes line opened es)
@@ -110,7 +108,7 @@ module _ (lines macros : ℕ) where
             line_is = line_more 0 here.earlier e.s ∙ ap (next_line lines) here.after.line_is;
           });
           said = subst (ReadAlike ended) (sym said_more) (record {
-            builder = ap (λ (o : OpenSyllable). past_snippet o line n 124) builder_is ∙ ap (λ (b : List ℕ). record (past_mark b 124 all) { snippets = all.snippets ++ snippet_from all line b ∷ [] }) cut_same;
+            builder = ap (λ (o : OpenSyllable). past_snippet o line n 124) builder_is ∙ ap (λ (b : List ℕ). record (past_mark b 124 all) { snippets = all.snippets ++ snippet_from all line b ∷ [] }) (cut_here ∙ sym cut_there);
             eu = was.eu ∙ ap (λ (i : Gathered). i.eu) snippet_there;
             nlba = was.nlba ∙ ap (λ (i : Gathered). i.nlba) snippet_there;
           });
@@ -158,14 +156,11 @@ module _ (lines macros : ℕ) where
         kept_here : g.builder.kept ≡ encode_utf8_all (first ++ here.k)
         kept_here = r.kept ∙ ap (λ (p : KeptParts). encode_utf8_all (joined p)) here.is
 
-        from_here : g.builder.from ≡ size first
-        from_here = r.from ∙ ap (λ (p : KeptParts). size (text_before p)) here.is
-
         all_kept : all.kept ≡ encode_utf8_all (first ++ (e.s ++ e.rest))
         all_kept = ap (λ (o : OpenSyllable). o.kept) (sym builder_is) ∙ kept_here ∙ ap (λ (k : List ℕ). encode_utf8_all (first ++ k)) e.cut
 
         all_from : all.from ≡ size first
-        all_from = ap (λ (o : OpenSyllable). o.from) (sym builder_is) ∙ from_here
+        all_from = ap (λ (o : OpenSyllable). o.from) (sym builder_is) ∙ r.from ∙ ap (λ (p : KeptParts). size (text_before p)) here.is
 
         base_kept : base.builder.kept ≡ encode_utf8_all first
         base_kept = append_cancel_right base.builder.kept (encode_utf8_all first) (encode_utf8_all here.k)
@@ -183,9 +178,6 @@ module _ (lines macros : ℕ) where
         cut_there : prefix_of (all.from + size e.s) (base.builder.kept ++ encode_utf8_all e.s) ≡ encode_utf8_all (first ++ e.s)
         cut_there = cut_is all.from (size e.s) (base.builder.kept ++ encode_utf8_all e.s) first e.s []
             (ap (λ (b : List ℕ). b ++ encode_utf8_all e.s) base_kept ∙ sym (encodes-append first e.s) ∙ ap (λ (k : List ℕ). encode_utf8_all (first ++ k)) (sym (append-nil e.s))) all_from refl
-
-        cut_same : prefix_of (all.from + n) all.kept ≡ prefix_of (all.from + size e.s) (base.builder.kept ++ encode_utf8_all e.s)
-        cut_same = cut_here ∙ sym cut_there
 
         barred_more : text_before (in_notes here.t earlier []) ≡ first ++ (e.s ++ 124 ∷ [])
         barred_more =

@@ -1,6 +1,6 @@
 -- What was gathered stays what the parts of the kept text say, with the events of each part.
-use Rattle.std.proofs.lemmas.Bool.{false_from_ne_true, and_parts, true≢false}
-use Rattle.std.proofs.Common.{◌≡◌, ℕ, ◌+◌, nat_lt, Bool, true, false, cond, not, ◌==◌, List, [], ◌∷◌, ◌++◌, map, length, encode_utf8, encode_utf8_all, refl, sym, ap, subst, ◌∙◌, append-nil, append_assoc, length-append}
+use Rattle.std.proofs.lemmas.Bool.{and_parts, true≢false}
+use Rattle.std.proofs.Common.{◌≡◌, ℕ, ◌+◌, nat_lt, Bool, true, false, cond, not, ◌==◌, List, [], ◌∷◌, ◌++◌, map, length, encode_utf8, encode_utf8_all, refl, sym, ap, subst, ◌∙◌, append-nil, append_assoc, length-append, arith}
 use Rattle.std.proofs.lemmas.List.{map-append}
 use Rattle.std.proofs.lemmas.List.Folds.{list_any-append}
 use Rattle.std.proofs.lemmas.Str.{encodes-append}
@@ -36,18 +36,10 @@ use Rattle.gabc_score.proofs.texts_of_body.SeamsOfCharacters.{size, cut_between}
 
 -- ---- the same was gathered of the syllable that is read
 
-piece_alike : (g h : Gathered) (p : TextPart) → ReadAlike g h → ReadAlike (with_event g (event.Text (text_out.Part p))) (with_event h (event.Text (text_out.Part p)))
-piece_alike g h (text_part.Piece p) r = record { builder = rw r.builder refl; eu = rw (r.builder, r.eu) refl; nlba = rw (r.builder, r.nlba) refl }
-piece_alike g h _ r = record { builder = rw r.builder refl; eu = r.eu; nlba = r.nlba }
-
 pub event_alike : (g h : Gathered) (e : BodyEvent) → ReadAlike g h → ReadAlike (with_event g e) (with_event h e)
-event_alike g h (event.Text (text_out.Part p)) r = piece_alike g h p r
-event_alike g h (event.Text (text_out.Found f)) r = r
-event_alike g h (event.Text (text_out.Ended text_end.Finished)) r = r
-event_alike g h (event.Text (text_out.Ended (text_end.Cut p))) r = record { builder = r.builder; eu = r.eu; nlba = r.nlba }
-event_alike g h (event.Notes line (note.Found f)) r = r
+event_alike g h (event.Text (text_out.Part (text_part.Piece p))) r = record { builder = rw r.builder refl; eu = rw (r.builder, r.eu) refl; nlba = rw (r.builder, r.nlba) refl }
+event_alike g h (event.Text (text_out.Ended text_end.Notes)) r = record { builder = rw r.builder refl; eu = r.eu; nlba = r.nlba }
 event_alike g h (event.Notes line (note.Ended note_end.Close n)) r = record { builder = refl; eu = r.eu; nlba = r.nlba }
-event_alike g h (event.Notes line (note.Ended (note_end.Cut p) n)) r = record { builder = r.builder; eu = r.eu; nlba = r.nlba }
 event_alike g h _ r = record { builder = rw r.builder refl; eu = r.eu; nlba = r.nlba }
 
 pub all_alike : (es : List BodyEvent) (g h : Gathered) → ReadAlike g h → ReadAlike (with_all g es) (with_all h es)
@@ -59,10 +51,8 @@ all_alike (e ∷ es) g h r = all_alike es (with_event g e) (with_event h e) (eve
 -- findings and places are not gathered
 pub said_gathered : (g : Gathered) (es : List TextEvent) → with_all g (text_events es) ≡ with_all g (text_events (text.said es))
 said_gathered g [] = refl
-said_gathered g (text_out.Kept c ∷ es) = said_gathered (with_event g (event.Text (text_out.Kept c))) es
-said_gathered g (text_out.Part p ∷ es) = said_gathered (with_event g (event.Text (text_out.Part p))) es
 said_gathered g (text_out.Found f ∷ es) = said_gathered g es
-said_gathered g (text_out.Ended how ∷ es) = said_gathered (with_event g (event.Text (text_out.Ended how))) es
+said_gathered g (e ∷ es) = said_gathered (with_event g (event.Text e)) es
 
 -- the bytes that are kept, from where the part begins, and the syllables that were made
 pub record Grows (g h : Gathered) (more : List ℕ) : Type 0 where
@@ -75,12 +65,7 @@ unchanged : (g h : Gathered) → h.builder.kept ≡ g.builder.kept → h.builder
 unchanged g h k f m c = record { kept = k ∙ sym (append-nil g.builder.kept); from = f; made = m; cut = c }
 
 grows_through : (g h i : Gathered) (a b : List ℕ) → Grows g h a → Grows h i b → Grows g i (a ++ b)
-grows_through g h i a b r s = record {
-  kept = s.kept ∙ ap (λ t. t ++ encode_utf8_all b) r.kept ∙ append_assoc g.builder.kept (encode_utf8_all a) (encode_utf8_all b) ∙ ap (λ t. g.builder.kept ++ t) (sym (encodes-append a b));
-  from = s.from ∙ r.from;
-  made = s.made ∙ r.made;
-  cut = s.cut ∙ r.cut;
-}
+grows_through g h i a b r s = grind (arith, append_assoc, encodes-append)
 
 kept_grows : (g : Gathered) (c : ℕ) → Grows g (record g { builder = record g.builder { kept = g.builder.kept ++ encode_utf8 c } }) (c ∷ [])
 kept_grows g c = record { kept = ap (λ t. g.builder.kept ++ t) (sym (append-nil (encode_utf8 c))); from = refl; made = refl; cut = refl }
@@ -89,32 +74,17 @@ pub text_grows : (es : List TextEvent) (g : Gathered) → text.end_text es ≡ f
 text_grows [] g e = unchanged g g refl refl refl refl
 text_grows (text_out.Kept c ∷ es) g e =
     grows_through g _ _ (c.c ∷ []) (kept_in es) (kept_grows g c.c) (text_grows es (with_event g (event.Text (text_out.Kept c))) e)
-text_grows (text_out.Part p ∷ es) g e =
-    grows_through g _ _ [] (kept_in es) (by p) (text_grows es (with_event g (event.Text (text_out.Part p))) e)
-  where
-    by : (p : TextPart) → Grows g (with_event g (event.Text (text_out.Part p))) []
-    by text_part.WordStart = unchanged g _ refl refl refl refl
-    by (text_part.Piece p) = unchanged g _ refl refl refl refl
-    by (text_part.Centre s) = unchanged g _ refl refl refl refl
-    by (text_part.Translation s) = unchanged g _ refl refl refl refl
+text_grows (text_out.Part p ∷ es) g e = grind (arith, text_grows es (with_event g (event.Text (text_out.Part p))) e, grows_through, unchanged)
 text_grows (text_out.Found f ∷ es) g e = text_grows es g e
 text_grows (text_out.Ended how ∷ es) g e = absurd (true≢false e)
 
--- parts keep nothing
+-- parts keep nothing and end nothing
 abbrev pub out_parts : List TextPart → List TextEvent
 out_parts ps = map (λ (p : TextPart). text_out.Part p) ps
 
-parts_keep : (ps : List TextPart) → kept_in (out_parts ps) ≡ []
-parts_keep [] = refl
+parts_keep : (ps : List TextPart) → (kept_in (out_parts ps) ≡ []) × (list_any is_text_end (out_parts ps) ≡ false) × (text.end_text (out_parts ps) ≡ false)
+parts_keep [] = (refl, refl, refl)
 parts_keep (p ∷ ps) = parts_keep ps
-
-parts_end : (ps : List TextPart) → list_any is_text_end (out_parts ps) ≡ false
-parts_end [] = refl
-parts_end (p ∷ ps) = parts_end ps
-
-parts_go_on : (ps : List TextPart) → text.end_text (out_parts ps) ≡ false
-parts_go_on [] = refl
-parts_go_on (p ∷ ps) = parts_go_on ps
 
 -- a text ended
 ended_said : (es : List TextEvent) → list_any is_text_end (text.said es) ≡ list_any is_text_end es
@@ -128,14 +98,11 @@ ends_text (text_out.Ended how ∷ es) e = refl
 ends_text (_ ∷ es) e = ends_text es e
 
 in_notes_ended : (es : List TextEvent) → text.EndsInNotes es → list_any is_text_end es ≡ true
-in_notes_ended es h = ap (list_any is_text_end) h.is ∙ list_any-append is_text_end (out_parts h.parts) (text_out.Ended text_end.Notes ∷ []) ∙ rw (parts_end h.parts) refl
+in_notes_ended es h = ap (list_any is_text_end) h.is ∙ list_any-append is_text_end (out_parts h.parts) (text_out.Ended text_end.Notes ∷ []) ∙ rw (parts_keep h.parts).1 refl
 
 -- a text that does not end at its `(` does not end
 pub text_goes_on : (s t : TextStage) (c : ℕ) (es : List TextEvent) (k : List ℕ) → text.KeepsOn s c es t → text.Keeps s k → list_any is_text_end es ≡ false → text.end_text es ≡ false
-text_goes_on s t c es k on keeps goes_on =
-    false_from_ne_true (text.end_text es) (λ e.
-    let h = on.ends k keeps e in
-    true≢false (sym (in_notes_ended (text.said_at_end k) h.notes) ∙ ap (list_any is_text_end) (sym h.said) ∙ ended_said es ∙ goes_on))
+text_goes_on s t c es k on keeps goes_on = grind (arith, in_notes_ended, ended_said)
 
 -- after the end of a text
 pub record IsMarked (g h : Gathered) (mark : ℕ) : Type 0 where
@@ -157,20 +124,12 @@ end_marks g es h =
     })))
   where
     grown : Grows g (with_all g (text_events (out_parts h.parts))) (kept_in (out_parts h.parts))
-    grown = text_grows (out_parts h.parts) g (parts_go_on h.parts)
+    grown = text_grows (out_parts h.parts) g (parts_keep h.parts).2
 
     same : (with_all g (text_events (out_parts h.parts))).builder.kept ≡ g.builder.kept
-    same = grown.kept ∙ ap (λ (t : List ℕ). g.builder.kept ++ encode_utf8_all t) (parts_keep h.parts) ∙ append-nil g.builder.kept
+    same = grown.kept ∙ ap (λ (t : List ℕ). g.builder.kept ++ encode_utf8_all t) (parts_keep h.parts).0 ∙ append-nil g.builder.kept
 
 -- ---- notes
-
-abbrev how_of : NoteEnd → List (NoteEnd × ℕ) → NoteEnd
-how_of how [] = how
-how_of how (end ∷ ends) = end.0
-
-abbrev count_of : ℕ → List (NoteEnd × ℕ) → ℕ
-count_of n [] = n
-count_of n (end ∷ ends) = end.1
 
 module _ (line : ℕ) (opened : Place) where
   abbrev pub of_notes : List NoteEvent → List BodyEvent
@@ -188,20 +147,7 @@ module _ (line : ℕ) (opened : Place) where
   notes_ended [] g how n k e = absurd (cc)
   notes_ended (note.Kept c ∷ es) g how n k e = absurd (cc)
   notes_ended (note.Found f ∷ es) g how n k e = notes_ended es g how n k e
-  notes_ended (note.Ended h m ∷ es) g how n k e =
-      notes_said es (with_event g (note_event line opened (note.Ended h m))) none
-      ∙ ap (λ (t : List ℕ). with_all (with_event g (note_event line opened (note.Ended h m))) (snippet_events line t)) k
-      ∙ ap (λ (x : NoteEnd). with_event g (note_event line opened (note.Ended x m))) same_end
-      ∙ ap (λ (x : ℕ). with_event g (note_event line opened (note.Ended how x))) same_count
-    where
-      none : ends_of es ≡ []
-      none = cc
-
-      same_end : h ≡ how
-      same_end = ap (how_of h) e
-
-      same_count : m ≡ n
-      same_count = ap (count_of m) e
+  notes_ended (note.Ended h m ∷ es) g how n k e = grind (arith, notes_said)
 
 pub snippet_grows : (line : ℕ) (k : List ℕ) (g : Gathered) → Grows g (with_all g (snippet_events line k)) k
 snippet_grows line [] g = unchanged g g refl refl refl refl
@@ -210,9 +156,7 @@ snippet_grows line (c ∷ k) g = grows_through g _ _ (c ∷ []) k (kept_grows g 
 -- nothing else changes
 pub snippet_is : (line : ℕ) (k : List ℕ) (g : Gathered) → with_all g (snippet_events line k) ≡ record g { builder = record g.builder { kept = g.builder.kept ++ encode_utf8_all k } }
 snippet_is line [] g = ap (λ (t : List ℕ). record g { builder = record g.builder { kept = t } }) (sym (append-nil g.builder.kept))
-snippet_is line (c ∷ k) g =
-    snippet_is line k (with_event g (event.Notes line (note.Kept (kept_char c))))
-    ∙ ap (λ (t : List ℕ). record g { builder = record g.builder { kept = t } }) (append_assoc g.builder.kept (encode_utf8 c) (encode_utf8_all k))
+snippet_is line (c ∷ k) g = grind (arith, snippet_is line k (with_event g (event.Notes line (note.Kept (kept_char c)))), append_assoc)
 
 -- the bytes of a snippet that ends are cut to those of its kept text without an unfinished end
 pub cut_is : (from n : ℕ) (kept before s rest : List ℕ) → kept ≡ encode_utf8_all (before ++ (s ++ rest)) → from ≡ size before → n ≡ size s → prefix_of (from + n) kept ≡ encode_utf8_all (before ++ s)
@@ -237,9 +181,8 @@ module _ (lines macros : ℕ) where
     pub is : p ≡ in_text k
     pub keeps : text.Keeps stage k
 
-  text_of : (s : TextStage) (p : KeptParts) → PartKeeps lines macros (part.Text s) p → InText s p
-  text_of s (in_text k) h = record { k = k; is = refl; keeps = h }
-  text_of s (in_notes t earlier k) h = absurd h
+  pub text_of : (s : TextStage) (p : KeptParts) → PartKeeps lines macros (part.Text s) p → InText s p
+  text_of s p h = grind arith
 
   pub text_keeps_on : (s t : TextStage) (c : ℕ) (es : List TextEvent) → text.KeepsOn s c es t → list_any is_text_end es ≡ false → PartKeepsOn lines macros (part.Text s) (part.Text t) (text_events es)
   text_keeps_on s t c es on goes_on spans g fits r =

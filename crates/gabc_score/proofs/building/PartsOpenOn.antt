@@ -1,18 +1,16 @@
 -- What is open in a part of the body, after each character.
-use Rattle.std.proofs.Common.{◌≡◌, ◌⊎◌, inl, inr, ℕ, false, List, [], Option, Some, None, refl, sym, ap, subst, ◌∙◌}
+use Rattle.std.proofs.Common.{◌≡◌, ◌⊎◌, inl, inr, ℕ, false, List, [], Option, Some, None, refl, sym, ap, subst, ◌∙◌, arith}
 use Rattle.std.specs.List.{list_any}
 use Rattle.gabc_places.specs.declared.place.Char.{Char}
 use Rattle.gabc_places.specs.declared.place.Place.{Place}
 use Rattle.gabc_text.specs.StageReports as text_tells
-use Rattle.gabc_text.specs.witness.StageReports as text_reports
-use Rattle.gabc_text.specs.TextStage.{fresh_stage}
 use Rattle.gabc_text.specs.declared.stage.TextStage.{TextStage}
 use Rattle.gabc_text.specs.declared.text_event.TextEvent.{TextEvent}
 use Rattle.gabc_text.specs.witness.Keeps as text
 use Rattle.gabc_score.specs.declared.body_stage.BodyPart.{BodyPart}
 use Rattle.gabc_score.specs.declared.body_stage.BodyPart.TheVariants as part
 use Rattle.gabc_score.specs.declared.body_tells.Openers.{Openers}
-use Rattle.gabc_score.specs.Events.{after_mark, is_text_end}
+use Rattle.gabc_score.specs.Events.{is_text_end}
 use Rattle.gabc_score.specs.ScoreReports.{openers_of}
 use Rattle.gabc_score.specs.machine.PartKeeps.{in_text, in_notes}
 use Rattle.gabc_score.specs.machine.PartOpens.{OpensOn, PartOpensOn}
@@ -34,17 +32,14 @@ opened_at place = record { notes = place; inner = None }
 
 -- a snippet after a text, or after a snippet
 pub notes_open : (lines macros : ℕ) (x : Char) (before after : BodyPart) → openers_of after ≡ opened_at (Some x.place) → PartOpensOn lines macros x before after
-notes_open lines macros x before after is p keeps at =
-    subst (OpensOn x.place (openers_of before)) (sym is) (record { notes = inr (refl, inr refl); inner = inl refl })
+notes_open lines macros x before after is p keeps at = grind arith
 
 pub next_opens : (lines macros : ℕ) (x : Char) (opened : Place) (before after : BodyPart) → (openers_of before).notes ≡ Some opened → openers_of after ≡ opened_at (Some opened) → PartOpensOn lines macros x before after
-next_opens lines macros x opened before after was is p keeps at =
-    subst (OpensOn x.place (openers_of before)) (sym is) (record { notes = inl (sym was); inner = inl refl })
+next_opens lines macros x opened before after was is p keeps at = grind arith
 
 -- a text after notes
 pub none_open : (lines macros : ℕ) (x : Char) (before after : BodyPart) → openers_of after ≡ opened_at None → PartOpensOn lines macros x before after
-none_open lines macros x before after is p keeps at =
-    subst (OpensOn x.place (openers_of before)) (sym is) (record { notes = inr (refl, inl refl); inner = inl refl })
+none_open lines macros x before after is p keeps at = grind arith
 
 module _ (lines macros : ℕ) (x : Char) where
   pub text_opens_on : (s t : TextStage) (es : List TextEvent) → text.KeepsOn s x.c es t → list_any is_text_end es ≡ false → PartOpensOn lines macros x (part.Text s) (part.Text t)
@@ -56,11 +51,7 @@ module _ (lines macros : ℕ) (x : Char) where
 
       by : (o : Option Place) → text_tells.opener_of t ≡ o → (text_tells.opener_of t ≡ None) ⊎ ((text_tells.opener_of t ≡ text_tells.opener_of s) ⊎ (text_tells.opener_of t ≡ Some x.place))
       by None e = inl e
-      by (Some p) e = from (g.opener p e)
-        where
-          from : (text_tells.opener_of s ≡ Some p) ⊎ (text_reports.next_of s ≡ p) → (text_tells.opener_of t ≡ None) ⊎ ((text_tells.opener_of t ≡ text_tells.opener_of s) ⊎ (text_tells.opener_of t ≡ Some x.place))
-          from (inl was) = inr (inl (e ∙ sym was))
-          from (inr here) = inr (inr (e ∙ ap (λ (q : Place). Some q) (sym here ∙ at)))
+      by (Some p) e = elim (g.opener p e) [ inl was ↦ inr (inl (e ∙ sym was)) | inr here ↦ inr (inr (e ∙ ap (λ (q : Place). Some q) (sym here ∙ at))) ]
 
 -- ---- a part takes a character
 
@@ -76,5 +67,4 @@ opens_on {lines} {macros} {x} (step.text_goes {s} {t} {es} h e) = text_opens_on 
 opens_on {lines} {macros} {x} (step.text_ends {s} {after = after} h e b) = notes_open lines macros x (part.Text s) after b.tells.0
 opens_on {lines} {macros} (step.snippet_goes s n c) = λ p keeps at. let h = stays_in_notes s in record { notes = inl (h.is ∙ sym h.was); inner = (going lines macros s p keeps n c).opener }
 opens_on {lines} {macros} {x} (step.snippet_next {opened = opened} {before} {after = after} s n b) = next_opens lines macros x opened before after (stays_in_notes s).was b.tells.0
-opens_on {lines} {macros} {x} (step.snippet_closes {before = before} s n c) =
-    none_open lines macros x before (part.Text (fresh_stage (after_mark x.place))) (ap opened_inside (opener_fresh (after_mark x.place)))
+opens_on {lines} {macros} {x} (step.snippet_closes {before = before} s n c) = grind (arith, none_open, opener_fresh)

@@ -1,5 +1,5 @@
 -- A part stands after each character with the place that it has counted.
-use Rattle.std.proofs.Common.{◌≡◌, ℕ, false, List, [], refl, sym, ap, ◌∙◌}
+use Rattle.std.proofs.Common.{◌≡◌, ℕ, false, List, [], refl, ap, ◌∙◌, arith}
 use Rattle.std.specs.List.{list_any}
 use Rattle.gabc_places.specs.Place.{saturating_next_place}
 use Rattle.gabc_places.specs.declared.place.Char.{Char}
@@ -21,8 +21,7 @@ use Rattle.gabc_score.specs.machine.PartSteps as step
 
 -- a part that reads a snippet counts no place
 snippet_stands : {lines macros line : ℕ} {opened : Place} (at : Place) (after : BodyPart) → Begins lines macros line opened after → IsAt at after
-snippet_stands at (part.Text s) b = absurd (let e = b.reads [] in cc)
-snippet_stands at _ b = tt
+snippet_stands at after b = grind arith
 
 module _ (lines macros : ℕ) (x : Char) where
   pub text_stands_on : (s t : TextStage) (es : List TextEvent) → text.KeepsOn s x.c es t → list_any is_text_end es ≡ false → PartStandsOn lines macros x (part.Text s) (part.Text t)
@@ -39,5 +38,4 @@ stands_on {lines} {macros} {x} (step.text_goes {s} {t} {es} h e) = text_stands_o
 stands_on (step.text_ends {after = after} h e b) = λ p keeps at. snippet_stands _ after b
 stands_on {x = x} (step.snippet_goes {after = after} s n c) = λ p keeps at. (stays_in_notes s).stands (saturating_next_place x.place x.c)
 stands_on (step.snippet_next {after = after} s n b) = λ p keeps at. snippet_stands _ after b
-stands_on {lines} {macros} {x} (step.snippet_closes s n c) = λ p keeps at.
-    ap (saturating_next_place x.place) (sym (close_mark lines macros s p keeps c))
+stands_on {lines} {macros} {x} (step.snippet_closes s n c) = grind (arith, close_mark)

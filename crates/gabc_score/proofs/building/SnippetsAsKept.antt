@@ -1,9 +1,7 @@
 -- Snippets that follow one another in the kept text, each after its mark, and a text before them: all of it is one part of the kept text.
-use Rattle.std.proofs.Common.{◌≡◌, ℕ, ◌+◌, ◌-◌, ◌<◌, ◌≤◌, List, ◌∷◌, ◌++◌, length, take, drop, get_or, refl, sym, ap, ◌∙◌, arith, add-one, drop-cons, append_assoc, codes, false, Option, Some, None}
+use Rattle.std.proofs.Common.{◌≡◌, ℕ, ◌+◌, ◌-◌, ◌<◌, ◌≤◌, List, ◌∷◌, ◌++◌, length, take, drop, get_or, refl, sym, ap, ◌∙◌, arith, add-one, drop-cons, append_assoc, codes, false, Option}
 use Rattle.std.specs.Option.{is_some}
-use Rattle.std.proofs.lemmas.Bool.{false≢true}
 use Rattle.std.proofs.lemmas.List.{take-append-drop, drop-drop}
-use Rattle.std.proofs.lemmas.Grind.{common_steps}
 use Rattle.gabc_places.specs.declared.place.Span.{Span}
 use Rattle.gabc_text.specs.Canonical.{span_bytes}
 use Rattle.gabc_score.specs.declared.snippets.Snippet.{Snippet}
@@ -37,29 +35,19 @@ pub next_as_kept : (kept : List ℕ) (snippets : List Snippet) (i end : ℕ) (d 
     → (get_or snippets i d).span.from ≤ (get_or snippets i d).span.to
     → snippets_after_bars kept (drop (i + 1) snippets) ++ codes ")" ≡ drop (get_or snippets i d).span.to kept
     → snippets_after_bars kept (drop i snippets) ++ codes ")" ≡ drop end kept
-next_as_kept kept snippets i end d h w m f o rest =
-    let next : drop i snippets ≡ get_or snippets i d ∷ drop (i + 1) snippets = rw add-one (drop-cons snippets i d h) in
-    let s = (get_or snippets i d).span in
-    let split = append_assoc (slice s kept) (snippets_after_bars kept (drop (i + 1) snippets)) (codes ")") in
-    rw next (ap (λ (x : List ℕ). 124 ∷ x) (split ∙ ap (λ (x : List ℕ). slice s kept ++ x) rest) ∙ mark_and_span kept end 124 s w m f o)
+next_as_kept kept snippets i end d h w m f o rest = grind (arith, add-one, drop-cons, append_assoc, mark_and_span)
 
 -- the notes in their brackets
 pub notes_as_kept : (kept : List ℕ) (first : Snippet) (others : List Snippet) (from : ℕ) → from < length kept → get_or kept from 0 ≡ 40
     → first.span.from ≡ from + 1 → first.span.from ≤ first.span.to → snippets_after_bars kept others ++ codes ")" ≡ drop first.span.to kept
     → codes "(" ++ (with_bars kept (first ∷ others) ++ codes ")") ≡ drop from kept
-notes_as_kept kept first others from h m f o rest =
-    let split = append_assoc (slice first.span kept) (snippets_after_bars kept others) (codes ")") in
-    rw (bars_after_first kept first others)
-    (ap (λ (x : List ℕ). 40 ∷ x) (split ∙ ap (λ (x : List ℕ). slice first.span kept ++ x) rest) ∙ mark_and_span kept from 40 first.span h m f o)
+notes_as_kept kept first others from h m f o rest = grind (arith, append_assoc, bars_after_first, mark_and_span)
 
 -- a text, and then all after it
 text_and_rest : (kept : List ℕ) (text : Span) → text.from ≤ text.to → text.to ≤ length kept → span_bytes kept text ++ drop text.to kept ≡ drop text.from kept
-text_and_rest kept text h k =
-    let within : span_bytes kept text ≡ take (text.to - text.from) (drop text.from kept) = grind (arith, common_steps) in
-    rw within (part_and_rest kept text.from text.to h)
+text_and_rest kept text h k = grind (arith, part_and_rest)
 
 -- a text without a translation that ends where the notes begin, and the notes
 pub text_as_kept : (kept part notes : List ℕ) (text : Span) (translation : Option Span) → part ≡ span_bytes kept text → false ≡ is_some translation
     → notes ≡ drop text.to kept → text.from ≤ text.to → text.to ≤ length kept → part ++ (translation_text kept translation ++ notes) ≡ drop text.from kept
-text_as_kept kept part notes text None p t n h k = rw (p, n) (text_and_rest kept text h k)
-text_as_kept kept part notes text (Some s) p t n h k = absurd (false≢true t)
+text_as_kept kept part notes text translation p t n h k = grind (arith, text_and_rest)

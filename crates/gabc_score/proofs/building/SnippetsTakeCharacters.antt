@@ -1,7 +1,7 @@
 -- What a snippet does with a character, be it of GABC or of NABC: it goes on, or it ends.
 use Rattle.std.proofs.Math.Bool.{or-false}
-use Rattle.std.proofs.lemmas.Bool.{not-true, and_parts, eqb-true, true≢false}
-use Rattle.std.proofs.Common.{◌≡◌, ◌≢◌, ◌==◌, ◌&&◌, ◌||◌, ◌⊎◌, inl, inr, not, ℕ, zero, suc, ◌-◌, ◌^◌, min, nat_lt, Bool, true, false, List, [], ◌∷◌, ◌++◌, Option, Some, None, refl, sym, ap, subst, ◌∙◌, append-nil, if◌then◌else◌}
+use Rattle.std.proofs.lemmas.Bool.{not-true, and_parts, eqb-true, true≢false, cases_Bool}
+use Rattle.std.proofs.Common.{◌≡◌, ◌≢◌, ◌==◌, ◌&&◌, ◌||◌, ◌⊎◌, inl, inr, not, ℕ, zero, suc, ◌-◌, ◌^◌, min, nat_lt, Bool, true, false, List, [], ◌∷◌, ◌++◌, Option, Some, None, refl, sym, ap, subst, ◌∙◌, append-nil, if◌then◌else◌, arith}
 use Rattle.std.proofs.lemmas.List.{append_cancel_left}
 use Rattle.std.specs.List.{list_any}
 use Rattle.gabc_places.specs.declared.place.Char.{Char}
@@ -9,7 +9,6 @@ use Rattle.gabc_places.specs.declared.place.Place.{Place}
 use Rattle.gabc_patterns.specs.Derivative.{is_viable}
 use Rattle.gabc_patterns.specs.Function.{trim}
 use Rattle.gabc_patterns.specs.Kept.{Trims}
-use Rattle.gabc_patterns.specs.LongestItems.{IsSnippet}
 use Rattle.gabc_patterns.specs.Pattern.{is_in}
 use Rattle.gabc_patterns.proofs.FunctionsMeetRelations.{trim_trims}
 use Rattle.gabc_notes.specs.Events.{end_by_mark, in_raw}
@@ -31,7 +30,7 @@ use Rattle.gabc_score.specs.declared.body_stage.BodyPart.TheVariants as part
 use Rattle.gabc_score.specs.Events.{is_close, is_next}
 use Rattle.gabc_score.specs.Holding.{IsSnippetOf}
 use Rattle.gabc_score.specs.ScoreReports.{IsAt, is_in_comment, is_in_front, openers_of}
-use Rattle.gabc_score.specs.machine.PartKeeps.{KeptParts, in_text, in_notes, IsEnded, IsEndedOn, AreAfter, PartKeeps}
+use Rattle.gabc_score.specs.machine.PartKeeps.{KeptParts, in_text, in_notes, IsEndedOn, AreAfter, PartKeeps}
 use Rattle.gabc_score.specs.machine.PartSteps.{SnippetSteps}
 use Rattle.gabc_score.specs.machine.PartSteps as step
 use Rattle.gabc_score.specs.machine.ReadAgain.{place_in}
@@ -66,18 +65,10 @@ module _ (es : List NoteEvent) (c n : ℕ) where
   none_close e = any_close es ∙ ap (list_any (λ (e : NoteEnd × ℕ). is_close_end e.0)) e
 
   next_is : ends_of es ≡ (end_by_mark c, n) ∷ [] → list_any is_next es ≡ (c == 124)
-  next_is e = any_next es ∙ ap (list_any (λ (e : NoteEnd × ℕ). is_next_end e.0)) e ∙ by (c == 124)
-    where
-      by : (b : Bool) → list_any (λ (e : NoteEnd × ℕ). is_next_end e.0) ((if b then note_end.Next else note_end.Close, n) ∷ []) ≡ b
-      by true = refl
-      by false = refl
+  next_is e = any_next es ∙ ap (list_any (λ (e : NoteEnd × ℕ). is_next_end e.0)) e ∙ grind arith
 
   close_is : ends_of es ≡ (end_by_mark c, n) ∷ [] → list_any is_close es ≡ not (c == 124)
-  close_is e = any_close es ∙ ap (list_any (λ (e : NoteEnd × ℕ). is_close_end e.0)) e ∙ by (c == 124)
-    where
-      by : (b : Bool) → list_any (λ (e : NoteEnd × ℕ). is_close_end e.0) ((if b then note_end.Next else note_end.Close, n) ∷ []) ≡ not b
-      by true = refl
-      by false = refl
+  close_is e = any_close es ∙ ap (list_any (λ (e : NoteEnd × ℕ). is_close_end e.0)) e ∙ grind arith
 
   pub one_ends : ends_of es ≡ (end_by_mark c, n) ∷ [] → list_any is_next es ≡ false → list_any is_close es ≡ false → ⊥
   one_ends e f g = true≢false (ap not (sym f ∙ next_is e) ∙ sym (close_is e) ∙ g)
@@ -131,6 +122,11 @@ pub record Ending (lines macros line : ℕ) (x : Char) (es : List NoteEvent) (p 
   pub end : ends_of es ≡ (end_by_mark x.c, min (size s) (2 ^ 64 - 1)) ∷ []
   pub mark : (x.c ≡ 124) ⊎ (x.c ≡ 41)
 
+-- a line of NABC is not the first
+pub on_nabc : (P : ℕ → Type 0) (line : ℕ) → line ≢ 0 → ((l : ℕ) → P (suc l)) → P line
+on_nabc P zero some each = absurd (some refl)
+on_nabc P (suc l) some each = each l
+
 nothing_of : (k ds : List ℕ) → k ++ ds ≡ k → ds ≡ []
 nothing_of k ds e = append_cancel_left k ds [] (e ∙ sym (append-nil k))
 
@@ -166,13 +162,10 @@ module _ (lines macros : ℕ) (x : Char) where
 
     -- a `|` ends it only where snippets are split
     splits : (b r : Bool) → x.c ≡ 124 → (b && (r && ((x.c == 41) || (split && (x.c == 124))))) ≡ true → split ≡ true
-    splits b r c =
-        subst (λ (c : ℕ). (b && (r && ((c == 41) || (split && (c == 124))))) ≡ true → split ≡ true) (sym c)
-        (λ e. (and_parts split _ (and_parts r _ (and_parts b _ e).1).1).0)
+    splits b r c = grind (arith, and_parts)
 
     gabc_mark : (a r b s d : Bool) → (x.c == 41) ≡ b → (x.c == 124) ≡ d → (a && (r && (b || (s && d)))) ≡ true → (x.c ≡ 124) ⊎ (x.c ≡ 41)
-    gabc_mark a r true s d f g e = inr (eqb-true x.c 41 f)
-    gabc_mark a r false s d f g e = inl (eqb-true x.c 124 (g ∙ (and_parts s d (and_parts r _ (and_parts a _ e).1).1).1))
+    gabc_mark a r b s d f g e = grind (arith, eqb-true, and_parts)
 
     gabc_ends : notes.is_end_after split k (tells.comment_of s) x.c ≡ true → Ending lines macros 0 x es (in_notes u earlier k)
     gabc_ends over =
@@ -194,17 +187,14 @@ module _ (lines macros : ℕ) (x : Char) where
 
   module _ (line : ℕ) (opened : Place) (s t : NabcStage) (es : List NoteEvent) (h : nabc.Steps s x es t) (u : List ℕ) (earlier : List (List ℕ)) (k : List ℕ) (keeps : PartKeeps lines macros (part.Nabc line opened s) (in_notes u earlier k)) where
     nabc_line : (comment : Bool) → comment_in comment 10 ≡ false
-    nabc_line true = refl
-    nabc_line false = refl
+    nabc_line comment = grind arith
 
     nabc_kept : (a b : Bool) (ds : List ℕ) → k ++ ds ≡ (if a then (if b then k ++ x.c ∷ [] else k) else k) → (ds ≡ []) ⊎ (ds ≡ x.c ∷ [])
-    nabc_kept true b ds e = one_of b k ds x.c e
-    nabc_kept false b ds e = one_of false k ds x.c e
+    nabc_kept a b ds e = grind (arith, one_of)
 
     -- in a comment nothing is kept
     none_in_comment : (m : Bool) → nabc.comment_of s ≡ m → comment_in m x.c ≡ true → nabc.kept_after k m x.c ≡ k
-    none_in_comment true e i = refl
-    none_in_comment false e i = ap (nabc.kept_after k false) (eqb-true x.c 37 (sym (or-false (x.c == 37)) ∙ i))
+    none_in_comment m e i = grind (arith, eqb-true, or-false)
 
     nabc_goes : nabc.is_end_after (nabc.comment_of s) x.c ≡ false → Going lines macros line x (part.Nabc line opened s) (part.Nabc line opened t) es (in_notes u earlier k)
     nabc_goes e =
@@ -220,16 +210,7 @@ module _ (lines macros : ℕ) (x : Char) where
         }
 
     nabc_mark : (a b d : Bool) → (x.c == 41) ≡ b → (x.c == 124) ≡ d → (not a && (b || d)) ≡ true → (x.c ≡ 124) ⊎ (x.c ≡ 41)
-    nabc_mark a true d f g e = inr (eqb-true x.c 41 f)
-    nabc_mark a false d f g e = inl (eqb-true x.c 124 (g ∙ (and_parts (not a) d e).1))
-
-    of_line : (l : ℕ) (v : List ℕ) → l ≢ 0 → IsSnippet nabc_table v → IsSnippetOf l v
-    of_line zero v some i = absurd (some refl)
-    of_line (suc l) v some i = i
-
-    on_line : (l : ℕ) (v : List ℕ) → l ≢ 0 → IsEnded nabc.Keeps (IsSnippet nabc_table) v → IsEndedOn lines macros l v
-    on_line zero v some i = absurd (some refl)
-    on_line (suc l) v some i = i
+    nabc_mark a b d f g e = grind (arith, eqb-true, and_parts)
 
     nabc_ends : nabc.is_end_after (nabc.comment_of s) x.c ≡ true → Ending lines macros line x es (in_notes u earlier k)
     nabc_ends over =
@@ -240,8 +221,8 @@ module _ (lines macros : ℕ) (x : Char) where
           s = trim nabc_table k;
           rest = cut.rest;
           cut = cut.cut;
-          whole = of_line line (trim nabc_table k) keeps.1.0 cut.longest.has;
-          ended = λ bar. on_line line (trim nabc_table k) keeps.1.0 (record { stage = s; rest = cut.rest; keeps = subst (nabc.Keeps s) cut.cut keeps.1.1; whole = cut.longest.has });
+          whole = on_nabc (λ (l : ℕ). IsSnippetOf l (trim nabc_table k)) line keeps.1.0 (λ l. cut.longest.has);
+          ended = λ bar. on_nabc (λ (l : ℕ). IsEndedOn lines macros l (trim nabc_table k)) line keeps.1.0 (λ l. record { stage = s; rest = cut.rest; keeps = subst (nabc.Keeps s) cut.cut keeps.1.1; whole = cut.longest.has });
           none_kept = e.none_kept;
           end = e.end;
           mark = nabc_mark (nabc.comment_of s) (x.c == 41) (x.c == 124) refl refl over;
@@ -252,34 +233,22 @@ module _ (lines macros : ℕ) (x : Char) where
 pub takes : (lines macros : ℕ) {x : Char} {line : ℕ} {opened : Place} {before after : BodyPart} {es : List NoteEvent} → SnippetSteps x line opened before es after → (p : KeptParts) → PartKeeps lines macros before p
     → Going lines macros line x before after es p ⊎ Ending lines macros line x es p
 takes lines macros (step.in_gabc h) (in_text k) keeps = absurd keeps
-takes lines macros {x} (step.in_gabc {opened} {s} {t} {es} h) (in_notes u earlier k) keeps = by (notes.is_end_after (nat_lt 0 lines) k (tells.comment_of s) x.c) refl
-  where
-    by : (b : Bool) → notes.is_end_after (nat_lt 0 lines) k (tells.comment_of s) x.c ≡ b
-        → Going lines macros 0 x (part.Notes opened s) (part.Notes opened t) es (in_notes u earlier k) ⊎ Ending lines macros 0 x es (in_notes u earlier k)
-    by false e = inl (gabc_goes lines macros x opened s t es h u earlier k keeps e)
-    by true e = inr (gabc_ends lines macros x opened s t es h u earlier k keeps e)
+takes lines macros {x} (step.in_gabc {opened} {s} {t} {es} h) (in_notes u earlier k) keeps = elim (cases_Bool (notes.is_end_after (nat_lt 0 lines) k (tells.comment_of s) x.c)) [
+  | inl e ↦ inr (gabc_ends lines macros x opened s t es h u earlier k keeps e)
+  | inr e ↦ inl (gabc_goes lines macros x opened s t es h u earlier k keeps e)
+]
 takes lines macros (step.in_nabc h) (in_text k) keeps = absurd keeps
-takes lines macros {x} (step.in_nabc {line} {opened} {s} {t} {es} h) (in_notes u earlier k) keeps = by (nabc.is_end_after (nabc.comment_of s) x.c) refl
-  where
-    by : (b : Bool) → nabc.is_end_after (nabc.comment_of s) x.c ≡ b
-        → Going lines macros line x (part.Nabc line opened s) (part.Nabc line opened t) es (in_notes u earlier k) ⊎ Ending lines macros line x es (in_notes u earlier k)
-    by false e = inl (nabc_goes lines macros x line opened s t es h u earlier k keeps e)
-    by true e = inr (nabc_ends lines macros x line opened s t es h u earlier k keeps e)
+takes lines macros {x} (step.in_nabc {line} {opened} {s} {t} {es} h) (in_notes u earlier k) keeps = elim (cases_Bool (nabc.is_end_after (nabc.comment_of s) x.c)) [
+  | inl e ↦ inr (nabc_ends lines macros x line opened s t es h u earlier k keeps e)
+  | inr e ↦ inl (nabc_goes lines macros x line opened s t es h u earlier k keeps e)
+]
 
 module _ (lines macros : ℕ) {x : Char} {line : ℕ} {opened : Place} {before after : BodyPart} {es : List NoteEvent} (s : SnippetSteps x line opened before es after) (p : KeptParts) (keeps : PartKeeps lines macros before p) where
   pub going : list_any is_next es ≡ false → list_any is_close es ≡ false → Going lines macros line x before after es p
-  going n c = by (takes lines macros s p keeps)
-    where
-      by : Going lines macros line x before after es p ⊎ Ending lines macros line x es p → Going lines macros line x before after es p
-      by (inl g) = g
-      by (inr e) = absurd (one_ends es x.c _ e.end n c)
+  going n c = elim (takes lines macros s p keeps) [ inl g ↦ g | inr e ↦ absurd (one_ends es x.c _ e.end n c) ]
 
   ending : (ends_of es ≡ [] → ⊥) → Ending lines macros line x es p
-  ending some = by (takes lines macros s p keeps)
-    where
-      by : Going lines macros line x before after es p ⊎ Ending lines macros line x es p → Ending lines macros line x es p
-      by (inl g) = absurd (some g.no_end)
-      by (inr e) = e
+  ending some = elim (takes lines macros s p keeps) [ inl g ↦ absurd (some g.no_end) | inr e ↦ e ]
 
   pub ending_next : list_any is_next es ≡ true → Ending lines macros line x es p
   ending_next n = ending (λ none. true≢false (sym n ∙ none_next es x.c 0 none))
@@ -289,14 +258,7 @@ module _ (lines macros : ℕ) {x : Char} {line : ℕ} {opened : Place} {before a
 
   -- it closes at a `)` alone
   pub close_mark : list_any is_close es ≡ true → x.c ≡ 41
-  close_mark c = by e.mark
-    where
-      e : Ending lines macros line x es p
-      e = ending_close c
-
-      by : (x.c ≡ 124) ⊎ (x.c ≡ 41) → x.c ≡ 41
-      by (inr is) = is
-      by (inl bar) = absurd (true≢false (ap (λ (d : ℕ). d == 124) (sym bar) ∙ not_next es x.c _ e.end c))
+  close_mark c = grind (arith, ending_close, not_next)
 
 -- ---- the part
 
@@ -309,13 +271,9 @@ pub record StaysInNotes (opened : Place) (before after : BodyPart) : Type 0 wher
   pub stands : (at : Place) → IsAt at after
 
 pub stays_in_notes : {x : Char} {line : ℕ} {opened : Place} {before after : BodyPart} {es : List NoteEvent} → SnippetSteps x line opened before es after → StaysInNotes opened before after
-stays_in_notes (step.in_gabc h) = record { was = refl; is = refl; front = refl; place = λ outer inner. refl; stands = λ at. tt }
-stays_in_notes (step.in_nabc h) = record { was = refl; is = refl; front = refl; place = λ outer inner. refl; stands = λ at. tt }
+stays_in_notes h = grind arith
 
 -- it keeps parts of which a snippet is read
 pub in_snippet : (lines macros : ℕ) {x : Char} {line : ℕ} {opened : Place} {before after : BodyPart} {es : List NoteEvent} → SnippetSteps x line opened before es after → (P : KeptParts → Type 0)
     → ((u : List ℕ) (earlier : List (List ℕ)) (k : List ℕ) → AreAfter lines macros line u earlier → PartKeeps lines macros before (in_notes u earlier k) → P (in_notes u earlier k)) → (p : KeptParts) → PartKeeps lines macros before p → P p
-in_snippet lines macros (step.in_gabc h) P f (in_text k) keeps = absurd keeps
-in_snippet lines macros (step.in_gabc h) P f (in_notes u earlier k) keeps = f u earlier k keeps.0 keeps
-in_snippet lines macros (step.in_nabc h) P f (in_text k) keeps = absurd keeps
-in_snippet lines macros (step.in_nabc h) P f (in_notes u earlier k) keeps = f u earlier k keeps.0 keeps
+in_snippet lines macros h P f p keeps = grind arith

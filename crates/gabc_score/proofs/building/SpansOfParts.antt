@@ -33,20 +33,16 @@ module _ (opening closing : List ℕ) where
       → open_at (events_onto (text_events (said es)) a) ≡ open_at (events_onto (text_events es) b)
   said_opens [] a b ended kept span = span
   said_opens (text.Kept c ∷ es) a b ended kept span = said_opens es (Text (text.Kept (kept_char c.c)) ∷ a) (Text (text.Kept c) ∷ b) ended (ap (λ (p : List ℕ). p ++ encode c.c) kept) span
-  said_opens (text.Part part.WordStart ∷ es) a b ended kept span = said_opens es (Text (text.Part part.WordStart) ∷ a) (Text (text.Part part.WordStart) ∷ b) ended kept span
   said_opens (text.Part (part.Piece p) ∷ es) a b ended kept span =
       said_opens es (Text (text.Part (part.Piece p)) ∷ a) (Text (text.Part (part.Piece p)) ∷ b) ended kept
       (ap (λ (was : Bool). is_open_after opening closing was p.kind (slice p.span (ended_parts_of (since_close a) ++ part_of (since_close a)))) span
       ∙ ap (λ (e : List ℕ). is_open_after opening closing (open_at b) p.kind (slice p.span (e ++ part_of (since_close a)))) ended
       ∙ ap (λ (k : List ℕ). is_open_after opening closing (open_at b) p.kind (slice p.span (ended_parts_of (since_close b) ++ k))) kept)
-  said_opens (text.Part (part.Centre s) ∷ es) a b ended kept span = said_opens es (Text (text.Part (part.Centre s)) ∷ a) (Text (text.Part (part.Centre s)) ∷ b) ended kept span
-  said_opens (text.Part (part.Translation s) ∷ es) a b ended kept span = said_opens es (Text (text.Part (part.Translation s)) ∷ a) (Text (text.Part (part.Translation s)) ∷ b) ended kept span
   said_opens (text.Found f ∷ es) a b ended kept span = said_opens es a (Text (text.Found f) ∷ b) ended kept span
   said_opens (text.Ended text_end.Notes ∷ es) a b ended kept span =
       said_opens es (Text (text.Ended text_end.Notes) ∷ a) (Text (text.Ended text_end.Notes) ∷ b)
       (ap (λ (e : List ℕ). e ++ (part_of (since_close a) ++ codes "(")) ended ∙ ap (λ (k : List ℕ). ended_parts_of (since_close b) ++ (k ++ codes "(")) kept) refl span
-  said_opens (text.Ended text_end.Finished ∷ es) a b ended kept span = said_opens es (Text (text.Ended text_end.Finished) ∷ a) (Text (text.Ended text_end.Finished) ∷ b) ended kept span
-  said_opens (text.Ended (text_end.Cut p) ∷ es) a b ended kept span = said_opens es (Text (text.Ended (text_end.Cut p)) ∷ a) (Text (text.Ended (text_end.Cut p)) ∷ b) ended kept span
+  said_opens (e ∷ es) a b ended kept span = said_opens es (Text e ∷ a) (Text e ∷ b) ended kept span
 
   -- nor do snippets
   snippet_still : (line : ℕ) (k : List ℕ) (before : List BodyEvent) → open_at (events_onto (snippet_events line k) before) ≡ open_at before

@@ -1,5 +1,5 @@
 -- At a point at most one syllable ends, and nothing follows its `)`.
-use Rattle.std.proofs.Common.{◌≡◌, ℕ, ◌-◌, Bool, true, false, List, [], ◌∷◌, ◌++◌, map, length, refl, sym, ap, ◌∙◌, Some}
+use Rattle.std.proofs.Common.{◌≡◌, ℕ, ◌-◌, Bool, true, List, [], ◌∷◌, ◌++◌, map, length, refl, sym, ap, ◌∙◌, Some, arith}
 use Rattle.std.proofs.Math.Bool.{or-false}
 use Rattle.std.proofs.lemmas.Option.{same_Some}
 use native.Mathlib.Numerals.{unary_clauses}
@@ -7,10 +7,7 @@ use Rattle.std.specs.List.{list_any, slice_get}
 use Rattle.gabc_places.specs.BoundedList.{BoundedList, extended_by}
 use Rattle.gabc_places.specs.declared.place.Place.{Place}
 use Rattle.gabc_text.specs.declared.text_event.TextEvent.{TextEvent}
-use Rattle.gabc_text.specs.declared.text_event.TextEvent.TheVariants as text
-use Rattle.gabc_notes.specs.declared.stage.NoteEnd.TheVariants as note_end
 use Rattle.gabc_notes.specs.declared.stage.NoteEvent.{NoteEvent}
-use Rattle.gabc_notes.specs.declared.stage.NoteEvent.TheVariants as note
 use Rattle.gabc_score.specs.declared.events.BodyEvent.TheVariants.{Text}
 use Rattle.gabc_notes.specs.Ends.{is_ended}
 use Rattle.gabc_text.specs.End.{is_end}
@@ -30,36 +27,26 @@ ends_last ends (e ∷ es) h = (h [] es e refl, ends_last ends es (λ before afte
 -- so it is where a push to an empty room stops at an end
 pub pushed_last : {O R : Type 0} (ends stops : O → Bool) → ((x : O) → ends x ≡ true → stops x ≡ true) → (old new : BoundedList O) → old.items ≡ [] → new.limit ≡ old.limit
     → ((before after : List O) (x : O) → new ≡ extended_by old (before ++ x ∷ after) → stops x ≡ true → (after ≡ []) × R) → EndsLast ends new.items
-pushed_last ends stops imp old new none limit stop =
-    ends_last ends new.items (λ before after x e h. (stop before after x
-    (ap (λ es. record new { items = es }) e ∙ (ap (λ n. record { items = before ++ x ∷ after; limit = n }) limit ∙ ap (λ es. record { items = es ++ (before ++ x ∷ after); limit = old.limit }) (sym none))) (imp x h)).0)
+pushed_last ends stops imp old new none limit stop = grind (arith, ends_last)
 
 -- so the last event says whether one ends a part so
 pub last_emits_so : {O : Type 0} (ends : O → Bool) (es : List O) (x : O) → EndsLast ends es → slice_get es (length es - 1) ≡ Some x → list_any ends es ≡ ends x
 last_emits_so ends [] x h k = absurd (cc)
 last_emits_so ends (e ∷ []) x h k = or-false (ends e) ∙ ap ends (same_Some e x k)
-last_emits_so ends (e ∷ f ∷ es) x h k = go (ends e) refl (last_emits_so ends (f ∷ es) x h.1 (simp unary_clauses (simp unary_clauses at k)))
-  where
-    go : (b : Bool) → ends e ≡ b → list_any ends (f ∷ es) ≡ ends x → list_any ends (e ∷ f ∷ es) ≡ ends x
-    go true g t = absurd (let none = h.0 g in cc (none))
-    go false g t = rw g t
+last_emits_so ends (e ∷ f ∷ es) x h k = grind (arith, last_emits_so ends (f ∷ es) x h.1 (simp unary_clauses (simp unary_clauses at k)))
 
 pub close_ends : (x : NoteEvent) → is_close x ≡ true → is_ended x ≡ true
-close_ends (note.Ended how n) h = refl
-close_ends _ h = absurd (cc)
+close_ends x h = grind arith
 
 -- so does the `|`
 pub next_ends : (x : NoteEvent) → is_next x ≡ true → is_ended x ≡ true
-next_ends (note.Ended how n) e = refl
-next_ends _ e = absurd (cc)
+next_ends x e = grind arith
 
 pub text_end_ends : (x : TextEvent) → is_text_end x ≡ true → is_end x ≡ true
-text_end_ends (text.Ended how) h = refl
-text_end_ends _ h = absurd (cc)
+text_end_ends x h = grind arith
 
 close_is : (line : ℕ) (opened : Place) (x : NoteEvent) → closes (note_event line opened x) ≡ is_close x
-close_is line opened (note.Ended note_end.Next n) = refl
-close_is line opened _ = refl
+close_is line opened x = grind arith
 
 pub notes_close_last : (line : ℕ) (opened : Place) (es : List NoteEvent) → EndsLast is_close es → ClosesLast (map (note_event line opened) es)
 notes_close_last line opened [] h = tt

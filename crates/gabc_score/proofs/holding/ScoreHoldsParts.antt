@@ -23,6 +23,7 @@ use Rattle.gabc_text.specs.View.{kept}
 use Rattle.gabc_text.specs.TextRead.{view_in}
 use Rattle.gabc_score.proofs.holding.SyllableHoldsPartByPart.{IsBack}
 use Rattle.gabc_score.proofs.holding.SyllablesHoldParts.{body_holds}
+use Rattle.gabc_score.proofs.order.FindingsOfScore.{reached_prefix}
 use Rattle.gabc_places.specs.StageLaw.{concat_of}
 use Rattle.gabc_places.specs.declared.code.Code.{Code}
 use Rattle.gabc_places.specs.declared.code.Finding.{Finding}
@@ -32,10 +33,10 @@ use Rattle.gabc_places.specs.declared.place.Place.{Place}
 use Rattle.gabc_places.specs.declared.place.Char.{Char}
 use Rattle.gabc_score.specs.declared.events.BodyEvent.{BodyEvent}
 use Rattle.gabc_score.specs.declared.ending.InputEnding.{InputEnding}
-use Rattle.gabc_score.specs.declared.ending.InputEnding.TheVariants.{Whole, Broken, At}
+use Rattle.gabc_score.specs.declared.ending.InputEnding.TheVariants.{Whole}
 use Rattle.gabc_score.specs.Syllable.{UnplacedSyllable, PlacedSyllable, all_syllables, since_close, kept_of}
-use Rattle.gabc_score.specs.Canonical.{placed_syllables_by}
-use Rattle.gabc_score.specs.Body.{events_onto, code_at, code_by, EventsToStop, stopped_events, events_to_stop, has_last, last_syllable, all_units, cut_of, fault_at, fault_of_end, result_by_fault, result_by, body_of}
+use Rattle.gabc_score.specs.Canonical.{placed_syllables_by, with_positions}
+use Rattle.gabc_score.specs.Body.{events_onto, code_by, events_to_stop, has_last, last_syllable, all_units, cut_of, fault_at, fault_of_end, result_by_fault, result_by, body_of}
 use Rattle.gabc_score.proofs.building.EventsOfSyllableParts.{onto_append}
 use Rattle.gabc_score.proofs.building.EventsOfOnePoint.{made_before}
 
@@ -50,59 +51,29 @@ module _ (P L : UnplacedSyllable → Type 0) where
 
   -- up to where a reading gets
   pub reached_holds : (limits : Limits) (head : ℕ) (before : List BodyEvent) (xs : List Char) (lists : List (List BodyEvent)) → MadeHold (events_onto (concat_of lists) before) → MadeHold (events_to_stop limits head before xs lists).before
-  reached_holds limits head before [] lists h = prefix_holds (concat_of lists) before h
-  reached_holds limits head before (x ∷ xs) [] h = h
-  reached_holds limits head before (x ∷ xs) (now ∷ lists) h =
-      by (code_at limits head (events_onto now before)) (reached_holds limits head (events_onto now before) xs lists (subst MadeHold (onto_append now (concat_of lists) before) h))
-    where
-      by : (code : Option Code) → MadeHold (events_to_stop limits head (events_onto now before) xs lists).before → MadeHold (stopped_events code x.place before (events_to_stop limits head (events_onto now before) xs lists)).before
-      by None k = k
-      by (Some code) k = prefix_holds (now ++ concat_of lists) before h
-
-  stopped_all : (code : Option Code) (place : Place) (before : List BodyEvent) (later : EventsToStop) (all : List BodyEvent) → (later.fault ≡ None → events_onto later.last later.before ≡ all)
-      → (let r = stopped_events code place before later in r.fault ≡ None → events_onto r.last r.before ≡ all)
-  stopped_all None place before later all k h = k h
-  stopped_all (Some code) place before later all k h = cc
-
-  -- a reading that is not stopped was emitted all
-  pub reached_all : (limits : Limits) (head : ℕ) (before : List BodyEvent) (xs : List Char) (lists : List (List BodyEvent)) → (let r = events_to_stop limits head before xs lists in r.fault ≡ None → events_onto r.last r.before ≡ events_onto (concat_of lists) before)
-  reached_all limits head before [] lists h = refl
-  reached_all limits head before (x ∷ xs) [] h = refl
-  reached_all limits head before (x ∷ xs) (now ∷ lists) h =
-      stopped_all (code_at limits head (events_onto now before)) x.place before (events_to_stop limits head (events_onto now before) xs lists) (events_onto (concat_of lists) (events_onto now before))
-      (reached_all limits head (events_onto now before) xs lists) h
-      ∙ sym (onto_append now (concat_of lists) before)
+  reached_holds limits head before xs lists h =
+      let p = reached_prefix limits head before xs lists in
+      subst MadeHold (sym p.emitted) (prefix_holds p.more (events_onto p.prefix before) (subst MadeHold (ap (λ ts. events_onto ts before) p.all ∙ onto_append p.prefix p.more before) h))
 
   -- ---- the syllables with their positions
-
-  abbrev Hold : List UnplacedSyllable → Type 0
-  Hold [] = Unit {0}
-  Hold (m ∷ []) = P m ⊎ L m
-  Hold (m ∷ n ∷ ms) = P m × Hold (n ∷ ms)
-
-  all_hold : (ms : List UnplacedSyllable) → All P ms → Hold ms
-  all_hold [] h = tt
-  all_hold (m ∷ []) h = inl (All-head P m [] h)
-  all_hold (m ∷ n ∷ ms) h = (All-head P m (n ∷ ms) h, all_hold (n ∷ ms) (All-tail P m (n ∷ ms) h))
-
-  with_last : (ms : List UnplacedSyllable) (m : UnplacedSyllable) → All P ms → L m → Hold (ms ++ m ∷ [])
-  with_last [] m h k = inr k
-  with_last (n ∷ []) m h k = (All-head P n [] h, inr k)
-  with_last (n ∷ l ∷ ms) m h k = (All-head P n (l ∷ ms) h, with_last (l ∷ ms) m (All-tail P n (l ∷ ms) h) k)
 
   abbrev pub FactsHold : List PlacedSyllable → Type 0
   FactsHold [] = Unit {0}
   FactsHold (s ∷ []) = P s.made ⊎ L s.made
   FactsHold (s ∷ t ∷ ss) = P s.made × FactsHold (t ∷ ss)
 
-  placed_hold : (first : Bool) (ms : List UnplacedSyllable) → Hold ms → FactsHold (placed_syllables_by first ms)
-  placed_hold first [] h = tt
-  placed_hold first (m ∷ []) h = h
-  placed_hold first (m ∷ n ∷ ms) h = (h.0, placed_hold false (n ∷ ms) h.1)
+  all_hold : (first : Bool) (ms : List UnplacedSyllable) → All P ms → FactsHold (placed_syllables_by first ms)
+  all_hold first [] h = tt
+  all_hold first (m ∷ []) h = inl (All-head P m [] h)
+  all_hold first (m ∷ n ∷ ms) h = (All-head P m (n ∷ ms) h, all_hold false (n ∷ ms) (All-tail P m (n ∷ ms) h))
+
+  with_last : (first : Bool) (ms : List UnplacedSyllable) (m : UnplacedSyllable) → All P ms → L m → FactsHold (placed_syllables_by first (ms ++ m ∷ []))
+  with_last first [] m h k = inr k
+  with_last first (n ∷ []) m h k = (All-head P n [] h, inr k)
+  with_last first (n ∷ l ∷ ms) m h k = (All-head P n (l ∷ ms) h, with_last false (l ∷ ms) m (All-tail P n (l ∷ ms) h) k)
 
   tail_hold : (s : PlacedSyllable) (ss : List PlacedSyllable) → FactsHold (s ∷ ss) → FactsHold ss
-  tail_hold s [] h = tt
-  tail_hold s (t ∷ ss) h = h.1
+  tail_hold s ss h = grind arith
 
   pub facts_all : (ss : List PlacedSyllable) → FactsHold ss → All (λ (s : PlacedSyllable). P s.made ⊎ L s.made) ss
   facts_all [] h = All-nil (λ (s : PlacedSyllable). P s.made ⊎ L s.made)
@@ -113,12 +84,12 @@ module _ (P L : UnplacedSyllable → Type 0) where
   facts_noted [] after s next h = h.0
   facts_noted (b ∷ before) after s next h = facts_noted before after s next (tail_hold b (before ++ s ∷ next ∷ after) h)
 
-  pub units_hold : (all : List BodyEvent) → MadeHold all → (has_last all ≡ true → L (last_syllable all)) → Hold (all_units all)
+  pub units_hold : (all : List BodyEvent) → MadeHold all → (has_last all ≡ true → L (last_syllable all)) → FactsHold (with_positions (all_units all))
   units_hold all h k = by (has_last all) refl
     where
-      by : (b : Bool) → has_last all ≡ b → Hold (cond b (all_syllables all ++ last_syllable all ∷ []) (all_syllables all))
-      by true e = with_last (all_syllables all) (last_syllable all) h (k e)
-      by false e = all_hold (all_syllables all) h
+      by : (b : Bool) → has_last all ≡ b → FactsHold (with_positions (cond b (all_syllables all ++ last_syllable all ∷ []) (all_syllables all)))
+      by true e = with_last true (all_syllables all) (last_syllable all) h (k e)
+      by false e = all_hold true (all_syllables all) h
 
   -- ---- where the reading ended
 
@@ -128,26 +99,25 @@ module _ (P L : UnplacedSyllable → Type 0) where
     ended_hold before all h k l = by (cut_of all) refl
       where
         code_is : (code : Option Code) → cut_of all ≡ None → FactsHold (result_by_fault found at before all (option_map (fault_at at) code)).syllables
-        code_is None e = placed_hold true (all_units all) (units_hold all k (l e))
-        code_is (Some code) e = placed_hold true (all_syllables before) (all_hold (all_syllables before) h)
+        code_is None e = units_hold all k (l e)
+        code_is (Some code) e = all_hold true (all_syllables before) h
 
         by : (o : Option Place) → cut_of all ≡ o → FactsHold (result_by_fault found at before all (fault_of_end limits head at all o)).syllables
-        by (Some place) e = placed_hold true (all_syllables before) (all_hold (all_syllables before) h)
+        by (Some place) e = all_hold true (all_syllables before) h
         by None e = code_is (code_by limits head (all_units all) (kept_of (since_close all))) e
 
     pub read_hold : (ending : InputEnding) (before last : List BodyEvent) (fault : Option Fault) → MadeHold before
         → (fault ≡ None → MadeHold (events_onto last before) × (cut_of (events_onto last before) ≡ None → has_last (events_onto last before) ≡ true → L (last_syllable (events_onto last before))))
         → FactsHold (result_by limits head found at ending before last fault).syllables
-    read_hold ending before last (Some fault) h k = placed_hold true (all_syllables before) (all_hold (all_syllables before) h)
+    read_hold ending before last (Some fault) h k = all_hold true (all_syllables before) h
     read_hold Whole before last None h k = ended_hold before (events_onto last before) h (k refl).0 (k refl).1
-    read_hold Broken before last None h k = placed_hold true (all_syllables before) (all_hold (all_syllables before) h)
-    read_hold (At fault) before last None h k = placed_hold true (all_syllables before) (all_hold (all_syllables before) h)
+    read_hold _ before last None h k = all_hold true (all_syllables before) h
 
     pub body_hold : (ending : InputEnding) (xs : List Char) (lists : List (List BodyEvent)) → (let all = events_onto (concat_of lists) [] in
         MadeHold all → (cut_of all ≡ None → has_last all ≡ true → L (last_syllable all)) → FactsHold (body_of limits head found at ending xs lists).syllables)
     body_hold ending xs lists h k =
         let r = events_to_stop limits head [] xs lists in
-        read_hold ending r.before r.last r.fault (reached_holds limits head [] xs lists h) (λ e. subst (λ all. MadeHold all × (cut_of all ≡ None → has_last all ≡ true → L (last_syllable all))) (sym (reached_all limits head [] xs lists e)) (h, k))
+        read_hold ending r.before r.last r.fault (reached_holds limits head [] xs lists h) (λ e. subst (λ all. MadeHold all × (cut_of all ≡ None → has_last all ≡ true → L (last_syllable all))) (sym ((reached_prefix limits head [] xs lists).last e)) (h, k))
 
 -- ---- the score
 
@@ -162,10 +132,7 @@ size_after n t =
 
 module _ (ends : (at : Place) (t : List ℕ) → EndsOnce at t) (emits : (at : Place) (t : List ℕ) → with_events empty_text (concat_of (events_by_point at t)) ≡ text_built_at at t) (spans : (t : List ℕ) → StandsForView (kept t) (view_in t) t) (limits : Limits) (ending : InputEnding) (t : List ℕ) (short : size t < 2 ^ 63) where
   pub after_short : size (codes_of (placed_characters_after (heads_text t) (after_heads t))) < 2 ^ 63
-  after_short =
-      let less : size (after_heads t) ≤ size t = size_after (head_len t + 2) t in
-      let same : size (codes_of (placed_characters_after (heads_text t) (after_heads t))) ≡ size (after_heads t) = ap size (codes_placed (heads_text t) (after_heads t)) in
-      omega arith
+  after_short = grind (arith, size_after, codes_placed)
 
   after_back : IsBack t (codes_of (placed_characters_after (heads_text t) (after_heads t)))
   after_back = (heads_text t, sym (take-append-drop (head_len t + 2) t) ∙ ap (λ cs. heads_text t ++ cs) (sym (codes_placed (heads_text t) (after_heads t))))
@@ -183,9 +150,7 @@ module _ (ends : (at : Place) (t : List ℕ) → EndsOnce at t) (emits : (at : P
       body_hold (HoldsWithNotes t lines) (Holds HoldsNoNotes t) limits (bytes_len (canonical_heads heads.book)) heads.findings (place_after t) ending xs (body_events lines macros xs) holds.made holds.last
 
   pub score_holds : (let score = plain_of limits ending t in All (λ (s : PlacedSyllable). HoldsParts t (lines_of score) s.made) score.syllables)
-  score_holds =
-      let score = plain_of limits ending t in
-      facts_all (HoldsWithNotes t (lines_of score)) (Holds HoldsNoNotes t) score.syllables (by_heads (heads_of limits t))
+  score_holds = grind (arith, facts_all, by_heads)
 
   pub score_noted : (let score = plain_of limits ending t in (before after : List PlacedSyllable) (s next : PlacedSyllable) → score.syllables ≡ before ++ s ∷ next ∷ after → HoldsWithNotes t (lines_of score) s.made)
   score_noted before after s next e =

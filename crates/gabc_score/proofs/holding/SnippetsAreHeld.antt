@@ -1,5 +1,5 @@
 -- The snippets of notes, each held in its place.
-use Rattle.std.proofs.Common.{◌≡◌, ℕ, zero, suc, ◌+◌, ◌-◌, take, drop, ◌<◌, ◌%◌, nat_lt, Bool, true, false, if◌then◌else◌, List, [], ◌∷◌, ◌++◌, length, refl, sym, ap, subst, ◌∙◌, arith, append_assoc, append-nil, codes}
+use Rattle.std.proofs.Common.{◌≡◌, ℕ, suc, ◌+◌, ◌<◌, ◌%◌, nat_lt, Bool, true, false, if◌then◌else◌, List, [], ◌∷◌, ◌++◌, length, refl, sym, ap, subst, ◌∙◌, arith, append_assoc, append-nil, codes}
 use Rattle.std.specs.List.{flat_map}
 use Rattle.std.specs.Char.{len_utf8}
 use Rattle.std.proofs.lemmas.Bool.{ltb-true, ltb-false}
@@ -7,6 +7,7 @@ use Rattle.std.proofs.Math.Nat.{suc-mod, mod-lt, mod-eq_of_lt, mod_self}
 use Rattle.std.proofs.Math.Numerals.{add-one}
 use Rattle.std.proofs.lemmas.Str.{encodes-append}
 use Rattle.std.proofs.lemmas.List.{take_at, drop_at}
+use Rattle.std.proofs.lemmas.Grind.{flat_map-append}
 use Rattle.gabc_score.specs.Syllable.{slice}
 use lib.Utf8.{encodes}
 use Rattle.gabc_places.specs.declared.place.Span.{Span}
@@ -23,18 +24,13 @@ bytes_are_size (c ∷ t) = ap (λ n. len_utf8 c + n) (bytes_are_size t) ∙ ap (
 -- ---- whose turn it is
 
 pub turn_by : (lines r : ℕ) (b : Bool) → nat_lt r lines ≡ b → r < lines + 1 → (if b then r + 1 else 0) ≡ suc r % (lines + 1)
-turn_by lines r true h low =
-    let less : r < lines = ltb-true r lines h in
-    let fits : suc r < lines + 1 = omega arith in
-    add-one r ∙ sym (mod-eq_of_lt fits)
+turn_by lines r true h low = grind (arith, ltb-true, add-one, mod-eq_of_lt)
 turn_by lines r false h low =
     let same : suc r ≡ lines + 1 = omega (arith, ltb-false r lines h) in
     sym (ap (λ n. n % (lines + 1)) same ∙ mod_self (lines + 1))
 
 pub next_turn : (lines n : ℕ) → next_line lines (n % (lines + 1)) ≡ suc n % (lines + 1)
-next_turn lines n =
-    let some : zero < lines + 1 = omega arith in
-    turn_by lines (n % (lines + 1)) (nat_lt (n % (lines + 1)) lines) refl (mod-lt n some) ∙ sym (suc-mod n (lines + 1))
+next_turn lines n = grind (arith, turn_by, mod-lt, suc-mod)
 
 -- ---- in their places
 
@@ -44,6 +40,13 @@ whole_of text earlier last = text ++ in_brackets (λ s. s.kept) earlier last
 
 abbrev pub span_after : List ℕ → List ℕ → Span
 span_after prefix part = record { from = size prefix; to = size (prefix ++ part) }
+
+-- notes with one snippet more
+pub bracket_more : (part : ReadSnippet → List ℕ) (reads : List ReadSnippet) (new : ReadSnippet) → bracket_with part reads ++ (part new ++ codes "|") ≡ bracket_with part (reads ++ new ∷ [])
+bracket_more part reads new =
+    ap (λ (t : List ℕ). codes "(" ++ t)
+    (ap (λ (t : List ℕ). flat_map (λ (s : ReadSnippet). part s ++ codes "|") reads ++ t) (sym (append-nil (part new ++ codes "|")))
+    ∙ sym (flat_map-append (λ (s : ReadSnippet). part s ++ codes "|") reads (new ∷ [])))
 
 -- a snippet in its place, whatever follows
 pub record Placed (lines : ℕ) (text : List ℕ) (before : List ReadSnippet) (s : ReadSnippet) : Type 0 where
@@ -68,10 +71,7 @@ barred before = flat_map (λ s. s.kept ++ codes "|") before
 closing_after : (before : List ReadSnippet) (s : ReadSnippet) (after : List ReadSnippet) → closing (before ++ s ∷ after) ≡ barred before ++ closing (s ∷ after)
 closing_after [] s after = refl
 closing_after (b ∷ []) s after = sym (ap (λ (t : List ℕ). t ++ closing (s ∷ after)) (append-nil (b.kept ++ codes "|")) ∙ append_assoc b.kept (codes "|") (closing (s ∷ after)))
-closing_after (b ∷ d ∷ before) s after =
-    ap (λ t. b.kept ++ (codes "|" ++ t)) (closing_after (d ∷ before) s after)
-    ∙ sym (append_assoc b.kept (codes "|") (barred (d ∷ before) ++ closing (s ∷ after)))
-    ∙ sym (append_assoc (b.kept ++ codes "|") (barred (d ∷ before)) (closing (s ∷ after)))
+closing_after (b ∷ d ∷ before) s after = grind (arith, closing_after (d ∷ before) s after, append_assoc)
 
 module _ (lines : ℕ) (text : List ℕ) where
   abbrev pub PlacedFrom : List ReadSnippet → List ReadSnippet → Type 0
@@ -114,13 +114,4 @@ module _ (lines : ℕ) (text : List ℕ) where
 -- a span that stands for a part of a text has that part's bytes
 pub bytes_stand : (text : List ℕ) (span : Span) (part : List ℕ) → StandsFor text span part → slice span (encodes text) ≡ encodes part
 unfolding slice
-bytes_stand text span part h =
-    let from : span.from ≡ size h.prefix = h.from_is ∙ bytes_are_size h.prefix in
-    let to : span.to ≡ size h.prefix + size part = h.to_is ∙ bytes_are_size (h.prefix ++ part) ∙ size_append h.prefix part in
-    let count : span.to - span.from ≡ size part = omega arith in
-    ap (λ n. take n (drop span.from (encodes text))) count
-    ∙ ap (λ n. take (size part) (drop n (encodes text))) from
-    ∙ ap (λ bytes. take (size part) (drop (size h.prefix) bytes)) (ap encodes h.parts ∙ encodes-append h.prefix (part ++ h.back))
-    ∙ ap (take (size part)) (drop_at (encodes h.prefix) (encodes (part ++ h.back)) (size h.prefix) refl)
-    ∙ ap (take (size part)) (encodes-append part h.back)
-    ∙ take_at (encodes part) (encodes h.back) (size part) refl
+bytes_stand text span part h = grind (arith, bytes_are_size, size_append, encodes-append, drop_at, take_at)

@@ -1,7 +1,7 @@
 -- The spans of a score's snippets begin and end between characters of the kept text.
-use Rattle.std.proofs.Common.{◌≡◌, ℕ, inl, inr, List, [], ◌∷◌, ◌++◌, true, length, length-append, drop, drop_at, map, refl, sym, ap, ◌∙◌, subst, append_assoc, arith}
+use Rattle.std.proofs.Common.{◌≡◌, ℕ, inl, inr, List, [], ◌∷◌, ◌++◌, true, length, length-append, drop, drop_at, map, refl, sym, ◌∙◌, subst, append_assoc, arith}
 use Rattle.std.specs.List.{All}
-use Rattle.std.proofs.lemmas.List.Elements.{All-nil, All-cons, All-head, All-tail}
+use Rattle.std.proofs.lemmas.List.Elements.{All-nil, All-cons, All-weaker}
 use Rattle.std.proofs.lemmas.Str.{encodes-append}
 use lib.Utf8.{encodes}
 use Rattle.gabc_places.specs.declared.place.Span.{Span}
@@ -19,22 +19,11 @@ use Rattle.gabc_score.specs.declared.snippets.Snippet.{Snippet}
 
 -- after a part of a text a character begins, or the text ends
 seam_after : (a b : List ℕ) → is_seam (drop (length (encodes a)) (encodes (a ++ b))) ≡ true
-seam_after a b =
-    subst (λ t. is_seam t ≡ true) (sym (ap (drop (length (encodes a))) (encodes-append a b) ∙ drop_at (encodes a) (encodes b) (length (encodes a)) refl)) (texts_begin b)
+seam_after a b = grind (arith, encodes-append, drop_at, texts_begin)
 
 -- so a span that stands for a part of a text
 pub part_text : (whole : List ℕ) (span : Span) (part : List ℕ) → StandsFor whole span part → text_at span (encodes whole) ≡ slice span (encodes whole)
-part_text whole span part h =
-    let from : span.from ≡ length (encodes h.prefix) = h.from_is ∙ bytes_are_size h.prefix in
-    let to : span.to ≡ length (encodes (h.prefix ++ part)) = h.to_is ∙ bytes_are_size (h.prefix ++ part) in
-    let all : whole ≡ (h.prefix ++ part) ++ h.back = h.parts ∙ sym (append_assoc h.prefix part h.back) in
-    let first : is_seam (drop span.from (encodes whole)) ≡ true =
-    subst (λ n. is_seam (drop n (encodes whole)) ≡ true) (sym from) (subst (λ t. is_seam (drop (length (encodes h.prefix)) (encodes t)) ≡ true) (sym h.parts) (seam_after h.prefix (part ++ h.back))) in
-    let last : is_seam (drop span.to (encodes whole)) ≡ true =
-    subst (λ n. is_seam (drop n (encodes whole)) ≡ true) (sym to) (subst (λ t. is_seam (drop (length (encodes (h.prefix ++ part))) (encodes t)) ≡ true) (sym all) (seam_after (h.prefix ++ part) h.back)) in
-    let front = ap (length {A = ℕ}) (encodes-append h.prefix part) ∙ length-append (encodes h.prefix) (encodes part) in
-    let size = ap (length {A = ℕ}) (ap encodes all ∙ encodes-append (h.prefix ++ part) h.back) ∙ length-append (encodes (h.prefix ++ part)) (encodes h.back) in
-    text_is span (encodes whole) (omega arith) (omega arith) first last
+part_text whole span part h = grind (arith, bytes_are_size, append_assoc, seam_after, encodes-append, length-append, text_is)
 
 -- ---- the snippets of a syllable
 
@@ -73,14 +62,8 @@ snippets_whole input lines m (inl h) =
     let n = h.notes in
     subst (λ k. All (IsWhole k) m.snippets) (sym h.kept_is)
     (subst (All (IsWhole (encodes h.whole))) (sym n.snippets_are) (each_whole h.whole [] (n.earlier ++ n.last ∷ []) (λ a b s e. (n.each a b s e).stands)))
-snippets_whole input lines m (inr h) =
-    let n = h.notes in
-    subst (λ k. All (IsWhole k) m.snippets) (sym h.kept_is)
-    (subst (All (IsWhole (encodes h.whole))) (sym n.snippets_are) (All-cons (IsWhole (encodes h.whole)) (empty_snippet (encodes h.whole)) [] (empty_whole (encodes h.whole)) (All-nil (IsWhole (encodes h.whole)))))
+snippets_whole input lines m (inr h) = grind (arith, All-cons, empty_whole, All-nil)
 
 pub all_whole : (input : List ℕ) (lines : ℕ) (ss : List PlacedSyllable) → All (λ (s : PlacedSyllable). HoldsParts input lines s.made) ss
     → All (λ (s : PlacedSyllable). HasWholeSnippets s.made) ss
-all_whole input lines [] h = All-nil (λ (s : PlacedSyllable). HasWholeSnippets s.made)
-all_whole input lines (s ∷ ss) h =
-    All-cons (λ (s : PlacedSyllable). HasWholeSnippets s.made) s ss (snippets_whole input lines s.made (All-head (λ (s : PlacedSyllable). HoldsParts input lines s.made) s ss h))
-    (all_whole input lines ss (All-tail (λ (s : PlacedSyllable). HoldsParts input lines s.made) s ss h))
+all_whole input lines = All-weaker (λ (s : PlacedSyllable). HoldsParts input lines s.made) (λ (s : PlacedSyllable). HasWholeSnippets s.made) (λ s. snippets_whole input lines s.made)

@@ -1,15 +1,12 @@
 -- What a syllable holds after each of its parts.
 use Rattle.std.proofs.Common.{◌≡◌, ℕ, ◌+◌, ◌<◌, ◌%◌, Bool, Some, List, [], ◌∷◌, ◌++◌, length, map, refl, sym, ap, subst, ◌∙◌, arith, append_assoc, append-nil, length-append, codes}
-use Rattle.std.specs.List.{flat_map}
-use Rattle.std.proofs.lemmas.Str.{encodes-append}
+use Rattle.std.proofs.lemmas.Str.{encodes-append, encode_ascii}
 use Rattle.std.proofs.lemmas.List.{map-append}
-use Rattle.std.proofs.lemmas.Grind.{flat_map-append}
 use lib.Utf8.{encode, encodes}
 use Rattle.gabc_places.specs.declared.place.Place.{Place}
 use Rattle.gabc_text.specs.declared.text_event.TextEnd.{TextEnd}
 use Rattle.gabc_text.specs.declared.text_event.TextEnd.TheVariants as text_end
 use Rattle.gabc_text.specs.declared.text_event.TextEvent.TheVariants as text
-use Rattle.gabc_text.specs.BuiltText.{with_events, empty_text}
 use Rattle.gabc_text.specs.View.{kept}
 use Rattle.gabc_text.specs.TextRead.{view_in}
 use Rattle.gabc_notes.specs.declared.stage.NoteEnd.TheVariants as note_end
@@ -34,7 +31,7 @@ use Rattle.gabc_text.specs.Events.{codes_of}
 use Rattle.gabc_score.proofs.texts_of_body.TextEmitsThroughEnd.{codes_append, TextEmitted, IsOpenEnd}
 use Rattle.gabc_text.specs.ViewFacts.{StandsForView}
 use Rattle.gabc_score.proofs.texts_of_body.ViewStandsInLongerText.{view_more}
-use Rattle.gabc_score.proofs.holding.SnippetsAreHeld.{whole_of, Placed, PlacedFrom, placed_push, all_held, next_turn}
+use Rattle.gabc_score.proofs.holding.SnippetsAreHeld.{whole_of, Placed, PlacedFrom, placed_push, all_held, next_turn, bracket_more}
 use Rattle.gabc_score.proofs.snippets_of_body.SnippetEmitsThroughEnd.{LineEmitted}
 
 -- one thing more is emitted
@@ -51,12 +48,7 @@ text_sum t = record { view = view_in t; ended = []; part = encodes (kept t); sni
 
 -- what the events of a text come to before its end, after a `)` or at the beginning
 text_gathered : (t : List ℕ) (how : TextEnd) (emitted : List BodyEvent) (g : TextEmitted t how emitted) (before : List BodyEvent) → since_close before ≡ [] → sum_of (since_close (events_onto (text_events g.mids) before)) ≡ text_sum t
-text_gathered t how emitted g before h =
-    ap sum_of (text_within g.mids before).since
-    ∙ ap (λ b. sum_of (events_onto (text_events g.mids) b)) h
-    ∙ text_gathers g.mids [] empty_text g.silent refl refl
-    ∙ ap (λ p. record (sum_of []) { part = p; view = (with_events empty_text g.mids).view }) g.kept_is
-    ∙ ap (λ v. record (sum_of []) { part = encodes (kept t); view = v }) g.view_is
+text_gathered t how emitted g before h = grind (arith, text_within, text_gathers)
 
 text_onto : (t : List ℕ) (how : TextEnd) (emitted : List BodyEvent) (g : TextEmitted t how emitted) (before : List BodyEvent) → events_onto emitted before ≡ Text (text.Ended how) ∷ events_onto (text_events g.mids) before
 text_onto t how emitted g before = ap (λ ts. events_onto ts before) g.emitted_are ∙ onto_append (text_events g.mids) (Text (text.Ended how) ∷ []) before
@@ -115,9 +107,7 @@ unfolding text_opens
 text_opens_is input lines front end rest emitted b m g before h = (refl, refl, refl)
 
 open_ends : (how : TextEnd) → IsOpenEnd how → (s : Sum) → with_event s (Text (text.Ended how)) ≡ s
-open_ends text_end.Notes o s = absurd o
-open_ends text_end.Finished o s = refl
-open_ends (text_end.Cut place) o s = refl
+open_ends how o s = grind arith
 
 pub last_text_sum : (t : List ℕ) (how : TextEnd) (emitted : List BodyEvent) → TextEmitted t how emitted → IsOpenEnd how → (before : List BodyEvent) → since_close before ≡ [] → sum_of (since_close (events_onto emitted before)) ≡ text_sum t
 last_text_sum t how emitted g o before h =
@@ -174,12 +164,7 @@ module _ (input : List ℕ) (lines line : ℕ) (opened_at : Place) (from : List 
       ∙ ap (λ ks. record { view = view_in far.text; ended = encodes prefix; part = encodes ks; snippets = map (λ (s : ReadSnippet). s.snippet) far.earlier }) l.kept_is
 
   new_placed : Placed lines (kept far.text) far.earlier new
-  new_placed = record {
-    line_is = far.line_is;
-    kept_is = l.from;
-    is_snippet = l.is_snippet;
-    span_is = ap (λ n. record { from = size prefix; to = n }) (sym (size_append prefix l.kept));
-  }
+  new_placed = grind (arith, size_append)
 
   all_placed : PlacedFrom lines (kept far.text) [] (far.earlier ++ new ∷ [])
   all_placed = placed_push lines (kept far.text) [] far.earlier new far.placed new_placed
@@ -206,18 +191,7 @@ module _ (input : List ℕ) (lines line : ℕ) (opened_at : Place) (from : List 
 
   after_is : (c : ℕ) → encode c ≡ c ∷ [] → after_by c (prefix_of (size l.kept) (encodes (l.kept ++ l.rest))) ≡ later c
   unfolding after_by
-  after_is c h =
-      ap (after_by c) (cut_between l.kept l.rest)
-      ∙ ap (λ e. record (after_by c (encodes l.kept)) { ended = e }) (marked c h)
-      ∙ ap (λ ss. record (later c) { snippets = ss }) (sym (map-append (λ (s : ReadSnippet). s.snippet) far.earlier (new ∷ [])))
-
-  bar : encode 124 ≡ 124 ∷ []
-  unfolding encode
-  bar = refl
-
-  closing : encode 41 ≡ 41 ∷ []
-  unfolding encode
-  closing = refl
+  after_is c h = grind (arith, cut_between, marked, map-append)
 
   next_sum : l.how ≡ note_end.Next → sum_of (since_close (events_onto emitted before)) ≡ later 124
   unfolding after_by
@@ -225,7 +199,7 @@ module _ (input : List ℕ) (lines line : ℕ) (opened_at : Place) (from : List 
       ap (λ b. sum_of (since_close b)) line_onto
       ∙ ap (λ how. sum_of (since_close (Notes line (note.Ended how (size l.kept)) ∷ before_end))) h
       ∙ ap (λ s. with_event s (Notes line (note.Ended note_end.Next (size l.kept)))) gathered
-      ∙ after_is 124 bar
+      ∙ after_is 124 (encode_ascii 124 (omega arith))
 
   abbrev close_event : BodyEvent
   close_event = Notes line (note.Ended note_end.Close (size l.kept))
@@ -235,14 +209,11 @@ module _ (input : List ℕ) (lines line : ℕ) (opened_at : Place) (from : List 
 
   close_sum : with_event (sum_of (since_close before_end)) close_event ≡ later 41
   unfolding after_by
-  close_sum = ap (λ s. with_event s close_event) gathered ∙ after_is 41 closing
+  close_sum = ap (λ s. with_event s close_event) gathered ∙ after_is 41 (encode_ascii 41 (omega arith))
 
   -- what the text and the notes after it were read from, with this snippet
   text_more : (c : ℕ) → end.c ≡ c → far.text ≡ far.characters ++ ((bracket_with codes_in far.earlier ++ (codes_of from ++ c ∷ [])) ++ codes_of rest)
-  text_more c e =
-      far.text_is
-      ∙ ap (λ t. far.characters ++ (bracket_with codes_in far.earlier ++ t)) (codes_append from (end ∷ rest) ∙ ap (λ d. codes_of from ++ d ∷ codes_of rest) e ∙ sym (append_assoc (codes_of from) (c ∷ []) (codes_of rest)))
-      ∙ ap (λ t. far.characters ++ t) (sym (append_assoc (bracket_with codes_in far.earlier) (codes_of from ++ c ∷ []) (codes_of rest)))
+  text_more c e = grind (arith, codes_append, append_assoc)
 
   holds_after : end.c ≡ 41 → (eu nlba : Bool) → HoldsWithNotes input lines (made_from (later 41) eu nlba)
   holds_after e eu nlba = record {
@@ -313,20 +284,14 @@ module _ (input : List ℕ) (lines line : ℕ) (opened_at : Place) (from : List 
         ap since_close (close_onto h),
       )
 
-  opened_next : (part : ReadSnippet → List ℕ) → bracket_with part far.earlier ++ (part new ++ codes "|") ≡ bracket_with part (far.earlier ++ new ∷ [])
-  opened_next part =
-      ap (λ t. codes "(" ++ t)
-      (ap (λ t. flat_map (λ (s : ReadSnippet). part s ++ codes "|") far.earlier ++ t) (sym (append-nil (part new ++ codes "|")))
-      ∙ sym (flat_map-append (λ (s : ReadSnippet). part s ++ codes "|") far.earlier (new ∷ [])))
-
   pub next_far : l.how ≡ note_end.Next → end.c ≡ 124 → SoFar input lines (next_line lines line) rest (since_close (events_onto emitted before))
   next_far h e = record {
     text = far.text;
     back = far.back;
     characters = far.characters;
     earlier = far.earlier ++ new ∷ [];
-    text_is = text_more 124 e ∙ ap (λ t. far.characters ++ (t ++ codes_of rest)) (opened_next codes_in);
-    sum_is = next_sum h ∙ ap (λ t. record (later 124) { ended = encodes t }) (append_assoc (kept far.text) (bracket_with kept_in far.earlier) (l.kept ++ codes "|") ∙ ap (λ t. kept far.text ++ t) (opened_next kept_in));
+    text_is = text_more 124 e ∙ ap (λ t. far.characters ++ (t ++ codes_of rest)) (bracket_more codes_in far.earlier new);
+    sum_is = next_sum h ∙ ap (λ t. record (later 124) { ended = encodes t }) (append_assoc (kept far.text) (bracket_with kept_in far.earlier) (l.kept ++ codes "|") ∙ ap (λ t. kept far.text ++ t) (bracket_more kept_in far.earlier new));
     placed = all_placed;
     line_is = ap (next_line lines) far.line_is ∙ next_turn lines (length far.earlier)
         ∙ ap (λ n. n % (lines + 1)) (sym (length-append far.earlier (new ∷ []) ∙ add-one (length far.earlier)));

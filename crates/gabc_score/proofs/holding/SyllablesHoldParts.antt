@@ -1,5 +1,5 @@
 -- What the syllables of a body hold, part by part.
-use Rattle.std.proofs.Common.{append_assoc, ◌≡◌, ℕ, ◌+◌, ◌<◌, ◌^◌, true, Option, Some, None, List, [], ◌∷◌, ◌++◌, map, refl, sym, ap, subst, ◌∙◌, arith}
+use Rattle.std.proofs.Common.{append_assoc, ◌≡◌, ℕ, ◌<◌, ◌^◌, true, Option, Some, None, List, [], ◌∷◌, ◌++◌, map, refl, sym, ap, subst, ◌∙◌, arith}
 use Rattle.std.specs.List.{All}
 use Rattle.std.specs.Option.{option_map}
 use Rattle.std.proofs.lemmas.List.Elements.{All-nil, All-push}
@@ -33,14 +33,10 @@ nothing_of x = []
 -- ---- bytes
 
 pub fits_prefix : (xs ys : List Char) → size (codes_of (xs ++ ys)) < 2 ^ 63 → size (codes_of xs) < 2 ^ 63
-fits_prefix xs ys h =
-    let all : size (codes_of (xs ++ ys)) ≡ size (codes_of xs) + size (codes_of ys) = ap size (codes_append xs ys) ∙ size_append (codes_of xs) (codes_of ys) in
-    omega arith
+fits_prefix xs ys h = omega (arith, h, ap size (codes_append xs ys) ∙ size_append (codes_of xs) (codes_of ys))
 
 pub fits_back : (xs ys : List Char) → size (codes_of (xs ++ ys)) < 2 ^ 63 → size (codes_of ys) < 2 ^ 63
-fits_back xs ys h =
-    let all : size (codes_of (xs ++ ys)) ≡ size (codes_of xs) + size (codes_of ys) = ap size (codes_append xs ys) ∙ size_append (codes_of xs) (codes_of ys) in
-    omega arith
+fits_back xs ys h = omega (arith, h, ap size (codes_append xs ys) ∙ size_append (codes_of xs) (codes_of ys))
 
 -- what stands after a prefix of a back of the input is a back of it
 back_after : (input : List ℕ) (xs ys : List Char) → IsBack input (codes_of (xs ++ ys)) → IsBack input (codes_of ys)
@@ -73,7 +69,7 @@ module _ (ends : (at : Place) (t : List ℕ) → EndsOnce at t) (emits : (at : P
   text_follows at prefix end rest mark before b since h k =
       let part = InText (texts_by_definition at (prefix ++ end ∷ rest)) in
       let e = text_ended ends emits lines at prefix end rest mark h in
-      let o = text_opens input lines prefix end rest (concat_of (events_through part prefix)) b (text_mark ends emits lines at prefix end rest mark h) e.0 before since in
+      let o = text_opens input lines prefix end rest (concat_of (events_through part prefix)) b (text_mark ends lines at prefix end rest mark h) e.0 before since in
       subst (λ m. Follows m end rest (through part prefix before)) (sym e.1) ((refl, o.0), same_made before (through part prefix before) o.1 k)
 
   notes_follow : (line : ℕ) (opened : Place) (prefix : List Char) (end : Char) (rest : List Char) (mark : Mark) (before : List BodyEvent) → SoFar input lines line (prefix ++ end ∷ rest) (since_close before) → size (codes_of prefix) < 2 ^ 63
@@ -129,9 +125,7 @@ module _ (ends : (at : Place) (t : List ℕ) → EndsOnce at t) (emits : (at : P
 
   part_at_end : (part : PartAhead) (last : List Char) (before : List BodyEvent) → IsBack input (codes_of last) → Begins part before last → Endless lines part last → AllHold before → AtEnd (through part last before)
   part_at_end InComment last before back b h k = absurd b
-  part_at_end (InText lists) last before back b h k =
-      subst (λ ls. AtEnd (through (InText ls) last before)) (sym b.0.1)
-      (text_at_end b.0.0 last before back b.1 (subst (λ ls. Endless lines (InText ls) last) b.0.1 h) k)
+  part_at_end (InText lists) last before back b h k = grind (arith, text_at_end)
   part_at_end (InNotes line opened lists) last before back b h k =
       subst (λ part. AtEnd (through part last before)) (sym b.0)
       (notes_at_end line opened last before (subst (λ part. Endless lines part last) b.0 h) k)

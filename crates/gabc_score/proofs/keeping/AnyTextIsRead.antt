@@ -1,5 +1,5 @@
 -- Any text that is read by itself: some part stands after it, which keeps what was gathered.
-use Rattle.std.proofs.Common.{◌≡◌, ◌+◌, ◌<◌, ◌≤◌, ◌^◌, ℕ, Bool, true, false, List, [], ◌∷◌, ◌++◌, length, encode_utf8, encode_utf8_all, refl, sym, ap, ◌∙◌, subst, arith, length-append}
+use Rattle.std.proofs.Common.{◌≡◌, ◌+◌, ◌<◌, ◌≤◌, ◌^◌, ℕ, Bool, true, false, List, [], ◌∷◌, ◌++◌, length, encode_utf8, encode_utf8_all, sym, ap, ◌∙◌, subst, arith, length-append}
 use Rattle.std.proofs.lemmas.Str.{length-encode, len_utf8_bounds}
 use Rattle.std.specs.Char.{len_utf8}
 use Rattle.gabc_places.specs.Place.{next_place}
@@ -58,8 +58,7 @@ module _ (steps : Steps) (lines macros : ℕ) where
 
   -- where something is kept, no comment is open
   plain_after : (m : Bool) (now before : ℕ) → (m ≡ true → now ≡ before) → before < now → m ≡ false
-  plain_after false now before none more = refl
-  plain_after true now before none more = absurd (let e = none refl in omega (arith, e, more))
+  plain_after m now before none more = grind (arith, none, more)
 
   pub reaches : (rest : List ℕ) (at : Place) (b : BodyPart) (before : List BodyEvent) (spans : Spans) → IsReading lines macros b spans (gathered_of before) → is_in_front b ≡ false
       → kept_bytes before + length (encode_utf8_all rest) < 2 ^ 64 → Reaches at b before rest
@@ -81,14 +80,13 @@ module _ (steps : Steps) (lines macros : ℕ) where
       let r = reaches rest (next_place at c) t.after (events_onto t.now before) (spans_past spans (gathered_of before) (with_all (gathered_of before) t.now)) reading t.front (omega (arith, fits, more, few)) in
       let joined : events_onto (concat_of r.read.lists) (events_onto t.now before) ≡ events_onto (t.now ++ concat_of r.read.lists) before = sym (onto_append t.now (concat_of r.read.lists) before) in
       let size = ap kept_bytes joined in
-      let later = r.few in
       record {
         read = emits_one steps lines macros at b c rest t r.read;
         spans = r.spans;
         reading = subst (λ (es : List BodyEvent). IsReading lines macros r.read.after r.spans (gathered_of es)) joined r.reading;
         front = r.front;
-        few = omega (arith, size, later, few, more);
+        few = omega (arith, size, r.few, few, more);
         outside = λ plain same. r.outside
-            (plain_after (is_in_comment t.after) (kept_bytes (events_onto t.now before)) (kept_bytes before) (none_one at b before spans h front c) (omega (arith, size, same, more, later, some)))
-            (omega (arith, size, same, more, later, few));
+            (plain_after (is_in_comment t.after) (kept_bytes (events_onto t.now before)) (kept_bytes before) (none_one at b before spans h front c) (omega (arith, size, same, more, r.few, some)))
+            (omega (arith, size, same, more, r.few, few));
       }

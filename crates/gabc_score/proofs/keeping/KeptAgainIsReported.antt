@@ -100,11 +100,7 @@ module _ (laws : StageLaws) (reads : FromBeginning) (lines macros : ℕ) (t : Li
         }
 
     pub keeps_text : KeepsText lines macros t comment
-    keeps_text = by comment refl
-      where
-        by : (b : Bool) → comment ≡ b → KeepsText lines macros t b
-        by true e = keeps_percent e
-        by false e = keeps_plain
+    keeps_text = grind (arith, keeps_percent, keeps_plain)
 
 -- ---- a stage that reports it
 

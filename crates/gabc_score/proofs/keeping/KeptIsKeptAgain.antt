@@ -47,13 +47,10 @@ module _ (laws : StageLaws) (reads : FromBeginning) (lines macros : ℕ) where
 
   module _ (t : List ℕ) (told : BodyPart) (p : KeptParts) (keeps : PartKeeps lines macros told p) (front : is_in_front told ≡ false) (is : joined p ≡ t) (few : length (encode_utf8_all t) < 2 ^ 63) where
     r : ReadsOn laws.steps lines macros first_place begun_text [] [] t
-    r = reads_on laws.steps lines macros laws.again told p keeps (let e = ap (λ (k : List ℕ). length (encode_utf8_all k)) is in omega (arith, e, few)) t first_place begun_text [] [] begins_text
-        (let less = length-le-encodes t in record { line = omega (arith, few, less); column = omega (arith, few, less) }) (sym is)
+    r = grind (arith, reads_on, begins_text, length-le-encodes)
 
     same : r.stands.reading.parts ≡ p
-    same =
-        parts_are_one laws.again lines macros r.read.after told r.stands.reading.parts p r.stands.reading.keeps keeps
-        (encodes_same (joined r.stands.reading.parts) (joined p) (sym r.stands.reading.kept ∙ r.stands.kept ∙ ap encode_utf8_all (sym is)))
+    same = grind (arith, parts_are_one, encodes_same)
 
     keeps_same : PartKeeps lines macros r.read.after p
     keeps_same = subst (PartKeeps lines macros r.read.after) same r.stands.reading.keeps

@@ -13,6 +13,7 @@ use Rattle.gabc_score.specs.declared.body_tells.Openers.{Openers}
 use Rattle.gabc_score.specs.ScoreReports.{is_in_comment, is_in_front, openers_of}
 use Rattle.gabc_score.specs.machine.PartKeeps.{KeptParts, in_text, in_notes, PartKeeps}
 use Rattle.gabc_score.specs.machine.StageLaws.{Moves}
+use Rattle.gabc_score.proofs.resuming.MachinesPassAgain.{none_is}
 
 -- The part keeps the same, and these are its openers.
 pub record OpensSo (lines macros : ℕ) (b : BodyPart) (p : KeptParts) (o : Openers) : Type 0 where
@@ -21,10 +22,6 @@ pub record OpensSo (lines macros : ℕ) (b : BodyPart) (p : KeptParts) (o : Open
   pub openers : openers_of there ≡ o
   pub comment : is_in_comment there ≡ is_in_comment b
   pub front : is_in_front there ≡ false
-
-none_open : (o : Option Place) → false ≡ is_some o → o ≡ None
-none_open None e = refl
-none_open (Some p) e = absurd (false≢true e)
 
 module _ (laws : Moves) (lines macros : ℕ) where
   abbrev Text : TextStage → List ℕ → Option Place → Option Place → Type 0
@@ -35,7 +32,7 @@ module _ (laws : Moves) (lines macros : ℕ) where
   text_so s k None None keeps e f = record {
     there = part.Text s;
     keeps = keeps;
-    openers = ap (λ (o : Option Place). let a : Openers = record { notes = None; inner = o } in a) (none_open (text_tells.opener_of s) f);
+    openers = ap (λ (o : Option Place). let a : Openers = record { notes = None; inner = o } in a) (none_is (text_tells.opener_of s) (sym f));
     comment = refl;
     front = refl;
   }
@@ -58,7 +55,7 @@ module _ (laws : Moves) (lines macros : ℕ) where
   notes_so opened s u earlier k (Some q) None keeps e f = record {
     there = part.Notes q s;
     keeps = keeps;
-    openers = ap (λ (o : Option Place). let a : Openers = record { notes = Some q; inner = o } in a) (none_open (note_tells.opener_of s) f);
+    openers = ap (λ (o : Option Place). let a : Openers = record { notes = Some q; inner = o } in a) (none_is (note_tells.opener_of s) (sym f));
     comment = refl;
     front = refl;
   }
@@ -81,7 +78,6 @@ module _ (laws : Moves) (lines macros : ℕ) where
   opens_so (part.Nabc line opened s) (in_notes u earlier k) o keeps front n i = by o.notes o.inner n i
     where
       by : (n i : Option Place) → is_some n ≡ true → is_some i ≡ false → OpensSo lines macros (part.Nabc line opened s) (in_notes u earlier k) (record { notes = n; inner = i })
-      by None i e f = absurd (false≢true e)
-      by (Some q) (Some at) e f = absurd (true≢false f)
       by (Some q) None e f = record { there = part.Nabc line q s; keeps = keeps; openers = refl; comment = refl; front = refl }
+      by _ _ e f = absurd (cc)
   opens_so _ (in_text k) o keeps front n i = absurd keeps

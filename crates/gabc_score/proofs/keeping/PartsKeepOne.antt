@@ -1,8 +1,8 @@
 -- Of a character a part of a body keeps no more bytes than it has, and none where a comment is open
 -- then.
 use Rattle.std.proofs.Math.Bool.{and-false}
-use Rattle.std.proofs.Common.{◌≡◌, ◌⊎◌, ◌≤◌, ◌+◌, ◌==◌, ◌&&◌, not, ℕ, true, false, List, [], ◌∷◌, ◌++◌, length, encode_utf8, encode_utf8_all, inl, inr, refl, sym, ap, ◌∙◌, subst, arith, append-nil, length-append}
-use Rattle.std.proofs.lemmas.Bool.{false≢true, true≢false}
+use Rattle.std.proofs.Common.{◌≡◌, ◌⊎◌, ◌≤◌, ◌+◌, ℕ, true, false, List, [], ◌∷◌, ◌++◌, length, encode_utf8, encode_utf8_all, inl, inr, refl, sym, ap, ◌∙◌, subst, arith, append-nil, length-append}
+use Rattle.std.proofs.lemmas.Bool.{false≢true}
 use Rattle.std.proofs.lemmas.List.{append_cancel_left}
 use Rattle.std.proofs.lemmas.List.Elements.{All-head}
 use Rattle.std.proofs.lemmas.Str.{encodes_same, length-encode, len_utf8_bounds}
@@ -11,7 +11,6 @@ use Rattle.std.specs.List.{All, list_any}
 use Rattle.gabc_places.specs.declared.place.Char.{Char}
 use Rattle.gabc_places.specs.declared.place.Place.{Place}
 use Rattle.gabc_text.specs.BuiltText.{kept_in}
-use Rattle.gabc_text.specs.StageReports as text_tells
 use Rattle.gabc_text.specs.declared.stage.TextStage.{TextStage}
 use Rattle.gabc_text.specs.declared.text_event.TextEvent.{TextEvent}
 use Rattle.gabc_text.specs.witness.Keeps as text
@@ -28,10 +27,10 @@ use Rattle.gabc_score.specs.ScoreReports.{is_in_comment}
 use Rattle.gabc_score.specs.Syllable.{prefix_of}
 use Rattle.gabc_score.specs.machine.BodyBuilder.{with_all}
 use Rattle.gabc_score.specs.machine.Gatherer.{Gathered, with_event}
-use Rattle.gabc_score.specs.machine.PartKeeps.{KeptParts, in_text, in_notes, text_events, PartKeeps}
+use Rattle.gabc_score.specs.machine.PartKeeps.{KeptParts, text_events, PartKeeps}
 use Rattle.gabc_score.proofs.building.SnippetsTakeCharacters.{close_ends, ending_close, ending_next, going, next_ends}
 use Rattle.gabc_score.specs.machine.PartSteps.{SnippetSteps}
-use Rattle.gabc_score.proofs.building.PartsOfKeptText.{Grows, IsMarked, end_marks, ends_text, notes_ended, notes_said, of_notes, said_gathered, snippet_grows, text_goes_on, text_grows}
+use Rattle.gabc_score.proofs.building.PartsOfKeptText.{Grows, IsMarked, end_marks, ends_text, notes_ended, notes_said, of_notes, said_gathered, snippet_grows, text_goes_on, text_grows, text_of}
 use Rattle.gabc_score.proofs.within_limits.KeptSoFar.{prefix_few}
 
 -- What is kept with a character, after whatever was gathered.
@@ -43,19 +42,15 @@ pub record KeepsOne (lines macros : ℕ) (x : Char) (before after : BodyPart) (n
 
 -- ---- bytes
 
-some_bytes : (c : ℕ) → 1 ≤ len_utf8 c
-some_bytes c = (len_utf8_bounds c).0
-
 one_byte : (d : ℕ) → length (encode_utf8_all (d ∷ [])) ≡ len_utf8 d
 one_byte d = length-append (encode_utf8 d) [] ∙ (let e = length-encode d in omega (arith, e))
 
 few_of : (ds : List ℕ) (c : ℕ) → length ds ≤ 1 → All (text.IsKeptOf c) ds → length (encode_utf8_all ds) ≤ len_utf8 c
 few_of [] c h a = omega arith
-few_of (d ∷ []) c h a = by (All-head (text.IsKeptOf c) d [] a)
-  where
-    by : text.IsKeptOf c d → length (encode_utf8_all (d ∷ [])) ≤ len_utf8 c
-    by (inl e) = let l = one_byte d in let k = ap len_utf8 e in omega (arith, l, k)
-    by (inr e) = let l = one_byte d in let k : len_utf8 d ≡ 1 = ap len_utf8 e in let s = some_bytes c in omega (arith, l, k, s)
+few_of (d ∷ []) c h a = elim (All-head (text.IsKeptOf c) d [] a) [
+  | inl e ↦ omega (arith, one_byte d, ap len_utf8 e)
+  | inr e ↦ (let k : len_utf8 d ≡ 1 = ap len_utf8 e in omega (arith, one_byte d, k, (len_utf8_bounds c).0))
+]
 few_of (d ∷ e ∷ ds) c h a = absurd (omega (arith, h))
 
 -- where nothing more was kept
@@ -69,7 +64,7 @@ grown_none : (g h : Gathered) (more : List ℕ) → Grows g h more → more ≡ 
 grown_none g h more r e = r.kept ∙ ap (λ (m : List ℕ). g.builder.kept ++ encode_utf8_all m) e ∙ append-nil g.builder.kept
 
 mark_few : (kept cut : List ℕ) (mark c : ℕ) → length cut ≤ length kept → len_utf8 mark ≡ 1 → length (cut ++ encode_utf8 mark) ≤ length kept + len_utf8 c
-mark_few kept cut mark c h one = let l = length-append cut (encode_utf8 mark) in let k = length-encode mark in let s = some_bytes c in omega (arith, l, k, one, s, h)
+mark_few kept cut mark c h one = let l = length-append cut (encode_utf8 mark) in let k = length-encode mark in omega (arith, l, k, one, (len_utf8_bounds c).0, h)
 
 module _ (lines macros : ℕ) where
   -- ---- a text
@@ -80,23 +75,12 @@ module _ (lines macros : ℕ) where
       grown k keeps g = text_grows t.events g (text_goes_on s t.after x.c t.events k t.keeps keeps e)
 
       pub text_one : KeepsOne lines macros x (part.Text s) (part.Text t.after) (text_events t.events)
-      text_one = record { few = few; none = none; made = made; percent = percent }
-        where
-          few : (p : KeptParts) → PartKeeps lines macros (part.Text s) p → (g : Gathered) → length (with_all g (text_events t.events)).builder.kept ≤ length g.builder.kept + len_utf8 x.c
-          few (in_notes u earlier k) keeps g = absurd keeps
-          few (in_text k) keeps g = grown_few g (with_all g (text_events t.events)) (kept_in t.events) x.c (grown k keeps g) (few_of (kept_in t.events) x.c (t.one k keeps) (t.keeps.only k keeps))
-
-          none : (p : KeptParts) → PartKeeps lines macros (part.Text s) p → text_tells.is_in_comment t.after ≡ true → (g : Gathered) → (with_all g (text_events t.events)).builder.kept ≡ g.builder.kept
-          none (in_notes u earlier k) keeps opened g = absurd keeps
-          none (in_text k) keeps opened g = grown_none g (with_all g (text_events t.events)) (kept_in t.events) (grown k keeps g) (t.none k keeps opened)
-
-          made : (p : KeptParts) → PartKeeps lines macros (part.Text s) p → x.c ≡ 37 → (g : Gathered) → (with_all g (text_events t.events)).made ≡ g.made
-          made (in_notes u earlier k) keeps is g = absurd keeps
-          made (in_text k) keeps is g = (grown k keeps g).made
-
-          percent : (p : KeptParts) → PartKeeps lines macros (part.Text s) p → x.c ≡ 37 → (g : Gathered) → (with_all g (text_events t.events)).builder.kept ≡ g.builder.kept → text_tells.is_in_comment t.after ≡ true
-          percent (in_notes u earlier k) keeps is g same = absurd keeps
-          percent (in_text k) keeps is g same = t.percent k keeps is (same_bytes g.builder.kept (with_all g (text_events t.events)).builder.kept (kept_in t.events) (grown k keeps g).kept same)
+      text_one = record {
+        few = λ p keeps g. let h = text_of lines macros s p keeps in grown_few g (with_all g (text_events t.events)) (kept_in t.events) x.c (grown h.k h.keeps g) (few_of (kept_in t.events) x.c (t.one h.k h.keeps) (t.keeps.only h.k h.keeps));
+        none = λ p keeps opened g. let h = text_of lines macros s p keeps in grown_none g (with_all g (text_events t.events)) (kept_in t.events) (grown h.k h.keeps g) (t.none h.k h.keeps opened);
+        made = λ p keeps is g. let h = text_of lines macros s p keeps in (grown h.k h.keeps g).made;
+        percent = λ p keeps is g same. let h = text_of lines macros s p keeps in t.percent h.k h.keeps is (same_bytes g.builder.kept (with_all g (text_events t.events)).builder.kept (kept_in t.events) (grown h.k h.keeps g).kept same);
+      }
 
     module _ (e : list_any is_text_end t.events ≡ true) (after : BodyPart) (outside : is_in_comment after ≡ false) where
       marked : (k : List ℕ) → text.Keeps s k → (g : Gathered) → IsMarked g (with_all g (text_events t.events)) 40
@@ -106,23 +90,16 @@ module _ (lines macros : ℕ) where
 
       -- a `%` does not end it
       no_percent : {A : Type 0} (k : List ℕ) → text.Keeps s k → x.c ≡ 37 → A
-      no_percent k keeps is =
-          absurd (true≢false (sym (ends_text t.events e) ∙ t.keeps.end k keeps ∙ ap (λ (c : ℕ). not (text_tells.is_in_comment s) && (c == 40 && text.ends_after_it k)) is ∙ and-false (not (text_tells.is_in_comment s))))
+      no_percent k keeps is = grind (arith, ends_text, and-false)
 
       pub text_end_one : KeepsOne lines macros x (part.Text s) after (text_events t.events)
-      text_end_one = record { few = few; none = λ p keeps opened g. absurd (false≢true (sym outside ∙ opened)); made = made; percent = percent }
-        where
-          few : (p : KeptParts) → PartKeeps lines macros (part.Text s) p → (g : Gathered) → length (with_all g (text_events t.events)).builder.kept ≤ length g.builder.kept + len_utf8 x.c
-          few (in_notes u earlier k) keeps g = absurd keeps
-          few (in_text k) keeps g = subst (λ (bytes : List ℕ). length bytes ≤ length g.builder.kept + len_utf8 x.c) (sym (marked k keeps g).kept) (mark_few g.builder.kept g.builder.kept 40 x.c (omega arith) refl)
-
-          made : (p : KeptParts) → PartKeeps lines macros (part.Text s) p → x.c ≡ 37 → (g : Gathered) → (with_all g (text_events t.events)).made ≡ g.made
-          made (in_notes u earlier k) keeps is g = absurd keeps
-          made (in_text k) keeps is g = no_percent k keeps is
-
-          percent : (p : KeptParts) → PartKeeps lines macros (part.Text s) p → x.c ≡ 37 → (g : Gathered) → (with_all g (text_events t.events)).builder.kept ≡ g.builder.kept → is_in_comment after ≡ true
-          percent (in_notes u earlier k) keeps is g same = absurd keeps
-          percent (in_text k) keeps is g same = no_percent k keeps is
+      text_end_one = record {
+        few = λ p keeps g. let h = text_of lines macros s p keeps in
+            subst (λ (bytes : List ℕ). length bytes ≤ length g.builder.kept + len_utf8 x.c) (sym (marked h.k h.keeps g).kept) (mark_few g.builder.kept g.builder.kept 40 x.c (omega arith) refl);
+        none = λ p keeps opened g. absurd (false≢true (sym outside ∙ opened));
+        made = λ p keeps is g. let h = text_of lines macros s p keeps in no_percent h.k h.keeps is;
+        percent = λ p keeps is g same. let h = text_of lines macros s p keeps in no_percent h.k h.keeps is;
+      }
 
   -- ---- a snippet
 
@@ -131,8 +108,7 @@ module _ (lines macros : ℕ) where
     notes_grow g none = subst (λ (h : Gathered). Grows g h (kept_of es)) (sym (notes_said line opened es g none)) (snippet_grows line (kept_of es) g)
 
     few_kept : (kept_of es ≡ []) ⊎ (kept_of es ≡ x.c ∷ []) → length (encode_utf8_all (kept_of es)) ≤ len_utf8 x.c
-    few_kept (inl e) = let l : length (encode_utf8_all (kept_of es)) ≡ 0 = ap (λ (u : List ℕ). length (encode_utf8_all u)) e in omega (arith, l)
-    few_kept (inr e) = let l = ap (λ (u : List ℕ). length (encode_utf8_all u)) e in let one = one_byte x.c in omega (arith, l, one)
+    few_kept h = grind (arith, one_byte)
 
     pub goes_one : list_any is_next es ≡ false → list_any is_close es ≡ false → ((p : KeptParts) → PartKeeps lines macros before p → x.c ≡ 37 → kept_of es ≡ [] → is_in_comment same ≡ true)
         → KeepsOne lines macros x before same (of_notes line opened es)
@@ -146,8 +122,7 @@ module _ (lines macros : ℕ) where
 
     -- a `%` is no mark
     not_percent : {A : Type 0} → (x.c ≡ 124) ⊎ (x.c ≡ 41) → x.c ≡ 37 → A
-    not_percent (inl e) is = absurd (true≢false (ap (λ (c : ℕ). c == 124) (sym e ∙ is)))
-    not_percent (inr e) is = absurd (true≢false (ap (λ (c : ℕ). c == 41) (sym e ∙ is)))
+    not_percent h is = grind arith
 
     next_few : (g : Gathered) (n : ℕ) → length (with_event g (event.Notes line (note.Ended note_end.Next n))).builder.kept ≤ length g.builder.kept + len_utf8 x.c
     next_few g n = mark_few g.builder.kept (prefix_of (g.builder.from + n) g.builder.kept) 124 x.c (prefix_few (g.builder.from + n) g.builder.kept) refl

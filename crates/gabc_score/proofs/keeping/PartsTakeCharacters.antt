@@ -22,7 +22,6 @@ use Rattle.gabc_notes.specs.StageReports as note_tells
 use Rattle.gabc_notes.specs.witness.Keeps as notes
 use Rattle.gabc_nabc.specs.Events as nabc_events
 use Rattle.gabc_nabc.specs.declared.stage.NabcStage.{NabcStage}
-use Rattle.gabc_nabc.specs.witness.DescriptorMachine.{comment_in}
 use Rattle.gabc_nabc.specs.witness.Keeps as nabc
 use Rattle.gabc_score.specs.declared.body_stage.BodyPart.{BodyPart}
 use Rattle.gabc_score.specs.declared.body_stage.BodyPart.TheVariants as part
@@ -66,12 +65,8 @@ module _ (line : ℕ) (opened : Place) where
 
   one_closes : (es : List NoteEvent) → list_any is_close es ≡ true → 1 ≤ close_count (of_notes line opened es)
   one_closes [] e = absurd (false≢true e)
-  one_closes (note.Kept x ∷ es) e = let one = count_one (event.Notes line (note.Kept x)) (of_notes line opened es) in let more = one_closes es e in omega (arith, one, more)
-  one_closes (note.Found f ∷ es) e = let one = count_one (event.Notes line (note.Found f)) (of_notes line opened es) in let more = one_closes es e in omega (arith, one, more)
-  one_closes (note.Ended note_end.Next n ∷ es) e = let one = count_one (event.Notes line (note.Ended note_end.Next n)) (of_notes line opened es) in let more = one_closes es e in omega (arith, one, more)
   one_closes (note.Ended note_end.Close n ∷ es) e = let one = count_one (event.Notes line (note.Ended note_end.Close n)) (of_notes line opened es) in omega (arith, one)
-  one_closes (note.Ended (note_end.Cut p) n ∷ es) e =
-      let one = count_one (note_event line opened (note.Ended (note_end.Cut p) n)) (of_notes line opened es) in let more = one_closes es e in omega (arith, one, more)
+  one_closes (o ∷ es) e = let one = count_one (note_event line opened o) (of_notes line opened es) in let more = one_closes es e in omega (arith, one, more)
 
 -- ---- what a part does with a character
 
@@ -130,9 +125,6 @@ record Snippet (lines macros line : ℕ) (opened : Place) : Type 0 where
   snippet : BodyPart
   begins : Begins lines macros line opened snippet
 
-some_line : (n : ℕ) → suc n ≡ 0 → ⊥
-some_line n e = omega (arith, e)
-
 module _ (laws : Steps) (lines macros : ℕ) where
   snippet_at : (line : ℕ) (opened : Place) → Snippet lines macros line opened
   snippet_at zero opened =
@@ -151,7 +143,7 @@ module _ (laws : Steps) (lines macros : ℕ) where
         snippet = part.Nabc (suc line) opened b.stage;
         begins = record {
           reads = λ xs. ap (InNotes (suc line) opened) (b.emits xs ∙ ap (λ (z : Bool). if z then note_events.note_events (nat_lt 0 lines) macros xs else nabc_events.nabc_events xs) (sym (suc_eqb line)));
-          keeps = λ t earlier h. (h, (some_line line, b.keeps));
+          keeps = λ t earlier h. (h, ((λ e. omega arith), b.keeps));
           tells = (refl, b.outside);
         };
       }
@@ -172,17 +164,10 @@ module _ (laws : Steps) (lines macros : ℕ) where
   snippet_takes s front percent false false e f = taken (step.snippet_goes s e f) front (goes_one lines macros s e f percent)
 
   gabc_percent : (opened : Place) (s : NoteStage) (x : Char) (t : notes.Takes s x) (p : KeptParts) → PartKeeps lines macros (part.Notes opened s) p → x.c ≡ 37 → kept_of t.events ≡ [] → note_tells.comment_of t.after ≡ true
-  gabc_percent opened s x t (in_text k) keeps is none = absurd keeps
-  gabc_percent opened s x t (in_notes u earlier k) keeps is none = t.percent (nat_lt 0 lines) macros k keeps.1 is none
+  gabc_percent opened s x t p keeps is none = grind arith
 
   nabc_percent : (line : ℕ) (opened : Place) (s : NabcStage) (x : Char) (t : nabc.Takes s x) (p : KeptParts) → PartKeeps lines macros (part.Nabc line opened s) p → x.c ≡ 37 → kept_of t.events ≡ [] → nabc.comment_of t.after ≡ true
-  nabc_percent line opened s x t (in_text k) keeps is none = absurd keeps
-  nabc_percent line opened s x t (in_notes u earlier k) keeps is none =
-      (t.keeps.goes k keeps.1.1 (ap (nabc.is_end_after (nabc.comment_of s)) is ∙ goes_on (nabc.comment_of s))).comment ∙ ap (comment_in (nabc.comment_of s)) is
-    where
-      goes_on : (a : Bool) → nabc.is_end_after a 37 ≡ false
-      goes_on true = refl
-      goes_on false = refl
+  nabc_percent line opened s x t p keeps is none = grind arith
 
   pub takes_one : (b : BodyPart) (p : KeptParts) → PartKeeps lines macros b p → is_in_front b ≡ false → (x : Char) → TakesOne lines macros b x
   takes_one part.Comment p keeps front x = absurd (false≢true (sym front))

@@ -1,5 +1,5 @@
 -- A text that is read by itself, as the definition says and as its stages do.
-use Rattle.std.proofs.Common.{◌≡◌, ◌+◌, ◌<◌, ◌^◌, ℕ, suc, Bool, true, false, cond, if◌then◌else◌, List, [], ◌∷◌, ◌++◌, length, take, drop, Option, Some, encode_utf8_all, refl, sym, ap, ◌∙◌, arith, append-nil, length-append}
+use Rattle.std.proofs.Common.{◌≡◌, ◌+◌, ◌<◌, ◌^◌, ℕ, suc, Bool, true, false, cond, if◌then◌else◌, List, [], ◌∷◌, ◌++◌, length, drop, Option, Some, encode_utf8_all, refl, sym, ap, ◌∙◌, arith, append-nil, length-append}
 use lib.Utf8.{encode}
 use Rattle.std.proofs.lemmas.Str.{encodes-append, length-le-encodes}
 use Rattle.std.proofs.Math.Seq.{take-append_seam, take-append-add, drop-append_seam}
@@ -73,23 +73,13 @@ module _ (reads : FromBeginning) (steps : Steps) (lines macros : ℕ) where
         ∙ r.emits []
 
     pub emitted_plain : emitted lines macros t ≡ events_onto (concat_of r.lists) []
-    emitted_plain =
-        let last : List BodyEvent = events_at_end (part_with r.after []) in
-        ap (λ (ls : List (List BodyEvent)). events_onto (concat_of (take (length t) ls)) []) lists_are
-        ∙ ap (λ (n : ℕ). events_onto (concat_of (take n (r.lists ++ last ∷ []))) []) (sym r.each)
-        ∙ ap (λ (ls : List (List BodyEvent)). events_onto (concat_of ls) []) (take-append_seam r.lists (last ∷ []))
+    emitted_plain = grind (arith, lists_are, take-append_seam)
 
     pub notes_all : notes_at (placed lines macros t) (lists lines macros t) ≡ notes_at (placed_characters_from first_place t) r.lists
-    notes_all =
-        ap (notes_at (placed_characters_from first_place t)) lists_are
-        ∙ notes_more (placed_characters_from first_place t) r.lists (events_at_end (part_with r.after []) ∷ []) (r.each ∙ sym (length_placed first_place t))
+    notes_all = grind (arith, lists_are, notes_more, length_placed)
 
     pub end_is : concat_of (drop (length t) (lists lines macros t)) ≡ events_at_end (part_with r.after []) ++ []
-    end_is =
-        let last : List BodyEvent = events_at_end (part_with r.after []) in
-        ap (λ (ls : List (List BodyEvent)). concat_of (drop (length t) ls)) lists_are
-        ∙ ap (λ (n : ℕ). concat_of (drop n (r.lists ++ last ∷ []))) (sym r.each)
-        ∙ ap concat_of (drop-append_seam r.lists (last ∷ []))
+    end_is = grind (arith, lists_are, drop-append_seam)
 
     -- with a `%` after it
     abbrev pub percent : Char
@@ -106,10 +96,4 @@ module _ (reads : FromBeginning) (steps : Steps) (lines macros : ℕ) where
           ∙ ap (λ (ls : List (List BodyEvent)). r.lists ++ ls) (one.emits [])
 
       pub emitted_with : emitted lines macros (t ++ 37 ∷ []) ≡ events_onto one.now (events_onto (concat_of r.lists) [])
-      emitted_with =
-          let more : List (List BodyEvent) = events_from texts_by_stage lines macros (part_with one.after []) [] in
-          ap (λ (ls : List (List BodyEvent)). events_onto (concat_of (take (length (t ++ 37 ∷ [])) ls)) []) lists_with
-          ∙ ap (λ (n : ℕ). events_onto (concat_of (take n (r.lists ++ one.now ∷ more))) []) (length-append t (37 ∷ []) ∙ ap (λ (n : ℕ). n + 1) (sym r.each))
-          ∙ ap (λ (ls : List (List BodyEvent)). events_onto (concat_of ls) []) (take-append-add r.lists (one.now ∷ more) 1)
-          ∙ ap (λ (es : List BodyEvent). events_onto es []) (joined-append r.lists (one.now ∷ []) ∙ ap (λ (es : List BodyEvent). concat_of r.lists ++ es) (append-nil one.now))
-          ∙ onto_append (concat_of r.lists) one.now []
+      emitted_with = grind (arith, lists_with, length-append, take-append-add, joined-append, append-nil, onto_append)

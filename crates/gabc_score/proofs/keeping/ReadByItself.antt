@@ -1,10 +1,9 @@
 -- A kept text that is read by itself: each character is kept, and no syllable is whole.
-use Rattle.std.proofs.Common.{◌≡◌, ◌+◌, ◌-◌, ◌<◌, ◌^◌, min, ℕ, suc, Bool, true, false, if◌then◌else◌, List, [], ◌∷◌, ◌++◌, length, Option, Some, None, is_some, encode_utf8_all, refl, sym, ap, ◌∙◌, subst, arith, append-nil, append_assoc, length-append}
+use Rattle.std.proofs.Common.{◌≡◌, ◌+◌, ◌<◌, ◌^◌, ℕ, suc, Bool, true, false, if◌then◌else◌, List, [], ◌∷◌, ◌++◌, length, Option, Some, None, is_some, encode_utf8_all, refl, sym, ap, ◌∙◌, subst, arith, append-nil, append_assoc, length-append}
 use Rattle.std.specs.Option.{option_or}
 use Rattle.std.specs.List.{list_any}
 use Rattle.std.proofs.lemmas.Str.{encodes-append, encodes_same}
-use Rattle.std.proofs.lemmas.Bool.{true≢false}
-use Rattle.gabc_places.specs.Place.{is_line_feed, next_place, place_past, placed_characters_from, saturating_next_place}
+use Rattle.gabc_places.specs.Place.{next_place, place_past, placed_characters_from, saturating_next_place}
 use Rattle.gabc_places.specs.PlacesInOrder.{IsEarlier}
 use Rattle.gabc_places.specs.StageLaw.{concat_of}
 use Rattle.gabc_places.specs.declared.place.Char.{Char}
@@ -35,30 +34,16 @@ use Rattle.gabc_score.proofs.stopped_scores.ClosedWithin.{close_count, made_coun
 
 -- ---- places
 
-abbrev bounded : Place → Bool → Place
-bounded p b = if b then record { line = min (p.line + 1) (2 ^ 64 - 1); column = 1 } else record { line = p.line; column = min (p.column + 1) (2 ^ 64 - 1) }
-
-abbrev unbounded : Place → Bool → Place
-unbounded p b = if b then record { line = p.line + 1; column = 1 } else record { line = p.line; column = p.column + 1 }
-
 -- no count of a place reaches its last value with n characters more
 pub record HasRoom (p : Place) (n : ℕ) : Type 0 where
   pub line : p.line + n < 2 ^ 64
   pub column : p.column + n < 2 ^ 64
 
 pub same_place : (p : Place) (c n : ℕ) → HasRoom p (suc n) → saturating_next_place p c ≡ next_place p c
-same_place p c n h = by (is_line_feed c)
-  where
-    by : (b : Bool) → bounded p b ≡ unbounded p b
-    by true = let l = h.line in ap (λ (n : ℕ). let q : Place = record { line = n; column = 1 } in q) (omega (arith, l))
-    by false = let l = h.column in ap (λ (n : ℕ). let q : Place = record { line = p.line; column = n } in q) (omega (arith, l))
+same_place p c n h = grind (arith, h.line, h.column)
 
 pub room_after : (p : Place) (c n : ℕ) → HasRoom p (suc n) → HasRoom (next_place p c) n
-room_after p c n h = by (is_line_feed c)
-  where
-    by : (b : Bool) → HasRoom (unbounded p b) n
-    by true = let l = h.line in let k = h.column in record { line = omega (arith, l); column = omega (arith, k) }
-    by false = let l = h.line in let k = h.column in record { line = omega (arith, l); column = omega (arith, k) }
+room_after p c n h = record { line = grind (arith, h.line); column = grind (arith, h.column) }
 
 -- ---- where the reading stands
 
@@ -83,17 +68,10 @@ pub record StandsAfter (lines macros : ℕ) (at : Place) (b : BodyPart) (before 
 
 -- no syllable is whole by events that make none
 pub none_closed : (now before : List BodyEvent) → all_syllables before ≡ [] → all_syllables (events_onto now before) ≡ [] → close_count now ≡ 0
-none_closed now before e f =
-    let all = made_count now before in
-    let a : length (all_syllables before) ≡ 0 = ap length e in
-    let b : length (all_syllables (events_onto now before)) ≡ 0 = ap length f in
-    omega (arith, all, a, b)
+none_closed now before e f = omega (arith, made_count now before, ap length e, ap length f)
 
 abbrev char_at : Place → ℕ → Char
 char_at at c = record { c = c; place = at }
-
-one_more : (done : List ℕ) (c : ℕ) → encode_utf8_all done ++ encode_utf8_all (c ∷ []) ≡ encode_utf8_all (done ++ c ∷ [])
-one_more done c = sym (encodes-append done (c ∷ []))
 
 module _ (steps : Steps) (lines macros : ℕ) where
   -- what the events of a character add, where a part reads again
@@ -102,12 +80,7 @@ module _ (steps : Steps) (lines macros : ℕ) where
     pub none : all_syllables (events_onto now before) ≡ all_syllables before
 
   pub adds_after : (before now : List BodyEvent) (more : List ℕ) → Adds (gathered_of before) (with_all (gathered_of before) now) more → AddsAfter before now more
-  adds_after before now more a =
-      let all : with_all (gathered_of before) now ≡ gathered_of (events_onto now before) = gathered_all 0 0 before (omega arith) now in
-      record {
-        kept = ap (λ (g : Gathered). g.builder.kept) (sym all) ∙ a.kept;
-        none = ap (λ (g : Gathered). g.made) (sym all) ∙ a.made;
-      }
+  adds_after before now more a = grind (arith, gathered_all)
 
   -- with the next character
   stands_on : (at : Place) (b : BodyPart) (before : List BodyEvent) (done : List ℕ) (c n : ℕ) → (h : StandsAfter lines macros at b before done) → IsNext lines h.reading.parts c
@@ -117,7 +90,7 @@ module _ (steps : Steps) (lines macros : ℕ) where
     reading = subst (IsReading lines macros t.after no_spans) all
         (subst (λ (s : Spans). IsReading lines macros t.after s (with_all (gathered_of before) t.now)) (stays no_spans (gathered_of before) (with_all (gathered_of before) t.now) adds.made)
         (t.keeps no_spans (gathered_of before) few h.reading));
-    kept = more.kept ∙ ap (λ (k : List ℕ). k ++ encode_utf8_all (c ∷ [])) h.kept ∙ one_more done c;
+    kept = more.kept ∙ ap (λ (k : List ℕ). k ++ encode_utf8_all (c ∷ [])) h.kept ∙ sym (encodes-append done (c ∷ []));
     none = more.none ∙ h.none;
     outside = reads.comment_is;
     front = t.front;
@@ -175,15 +148,12 @@ module _ (steps : Steps) (lines macros : ℕ) where
     pub notes : option_or (openers_of b).notes (notes_at (placed_characters_from at rest) read.lists) ≡ (openers_of read.after).notes
 
   no_other_notes : (o : Option Place) → option_or o None ≡ o
-  no_other_notes None = refl
-  no_other_notes (Some p) = refl
+  no_other_notes o = grind arith
 
   -- the first `(` is the one
   notes_on : (was next : Option Place) (opened : Bool) (at : Place) (later last : Option Place) → next ≡ (if opened then Some at else was) → (is_some was ≡ true → opened ≡ false) → option_or next later ≡ last
       → option_or was (if opened then Some at else later) ≡ last
-  notes_on (Some p) next true at later last e once h = absurd (true≢false (once refl))
-  notes_on None next true at later last e once h = ap (λ (o : Option Place). option_or o later) (sym e) ∙ h
-  notes_on _ next false at later last e once h = ap (λ (o : Option Place). option_or o later) (sym e) ∙ h
+  notes_on was next opened at later last e once h = grind (arith, e, once, h)
 
   module _ (again : Again) (told : BodyPart) (p : KeptParts) (keeps : PartKeeps lines macros told p) (fits : length (encode_utf8_all (joined p)) < 2 ^ 64) where
     -- the next character of the text that is reported
@@ -193,11 +163,7 @@ module _ (steps : Steps) (lines macros : ℕ) where
         (ap (λ (k : List ℕ). k ++ c ∷ rest) (encodes_same (joined h.reading.parts) done (sym h.reading.kept ∙ h.kept)) ∙ is)
 
     few_done : (done rest : List ℕ) → done ++ rest ≡ joined p → length (encode_utf8_all done) < 2 ^ 64
-    few_done done rest is =
-        let all = ap (λ (k : List ℕ). length (encode_utf8_all k)) is in
-        let parts = ap length (encodes-append done rest) in
-        let both = length-append (encode_utf8_all done) (encode_utf8_all rest) in
-        omega (arith, all, parts, both, fits)
+    few_done done rest is = grind (arith, encodes-append, length-append)
 
     pub reads_on : (rest : List ℕ) (at : Place) (b : BodyPart) (before : List BodyEvent) (done : List ℕ) → StandsAfter lines macros at b before done → HasRoom at (length rest) → done ++ rest ≡ joined p → ReadsOn at b before done rest
     unfolding emits_none emits_one

@@ -1,5 +1,5 @@
 -- What is found in snippets has a code below that of a note before any clef.
-use Rattle.std.proofs.Common.{ℕ, ◌<◌, List, [], ◌∷◌, ◌++◌, Bool, true, false, if◌then◌else◌, arith}
+use Rattle.std.proofs.Common.{ℕ, ◌<◌, List, [], ◌∷◌, ◌++◌, Bool, if◌then◌else◌, arith, sym, subst}
 use Rattle.gabc_places.specs.Code.{rank_of}
 use Rattle.gabc_places.specs.StageLaw.{concat_of}
 use Rattle.gabc_places.specs.declared.place.Place.{Place}
@@ -14,42 +14,29 @@ use Rattle.gabc_nabc.specs.Events as nabc
 use Rattle.gabc_nabc.specs.Table.{nabc as nabc_grammar}
 use Rattle.gabc_notes.specs.Table.{gabc}
 use Rattle.gabc_patterns.specs.Derivative.{is_snippet, is_viable}
-use Rattle.gabc_score.proofs.order.FindingsOneAfterAnother.{AllBelow}
+use Rattle.gabc_score.proofs.order.FindingsOneAfterAnother.{AllBelow, all_append}
+use Rattle.gabc_notes.proofs.machine.LoopOverBody.{findings_append}
+use Rattle.std.proofs.lemmas.Bool.{cond_both}
 
 abbrev pub AreLow : List NoteEvent → Type 0
-AreLow [] = Unit {0}
-AreLow (note.Kept x ∷ emitted) = AreLow emitted
-AreLow (note.Found f ∷ emitted) = (rank_of f.code < rank_of W12) × AreLow emitted
-AreLow (note.Ended how n ∷ emitted) = AreLow emitted
+AreLow emitted = AllBelow W12 (findings_of emitted)
 
 noted_both : (xs ys : List NoteEvent) → AreLow xs → AreLow ys → AreLow (xs ++ ys)
-noted_both [] ys h k = k
-noted_both (note.Kept x ∷ xs) ys h k = noted_both xs ys h k
-noted_both (note.Found f ∷ xs) ys h k = (h.0, noted_both xs ys h.1 k)
-noted_both (note.Ended how n ∷ xs) ys h k = noted_both xs ys h k
+noted_both xs ys h k = subst (AllBelow W12) (sym (findings_append xs ys)) (all_append (λ f. rank_of f.code < rank_of W12) (findings_of xs) (findings_of ys) h k)
 
 noted_if : (b : Bool) (xs ys : List NoteEvent) → AreLow xs → AreLow ys → AreLow (if b then xs else ys)
-noted_if true xs ys h k = h
-noted_if false xs ys h k = k
+noted_if b xs ys h k = cond_both b xs ys AreLow (λ e. h) (λ e. k)
 
 abbrev pub AreLowEach : List (List NoteEvent) → Type 0
 AreLowEach [] = Unit {0}
 AreLowEach (emitted ∷ lists) = AreLow emitted × AreLowEach lists
 
-one_found : (place : Place) (code : Code) → rank_of code < rank_of W12 → AreLow (note.Found (record { place = place; code = code }) ∷ [])
-one_found place code h = (h, tt)
-
 one_if : (b : Bool) (place : Place) (code : Code) → rank_of code < rank_of W12 → AreLow (if b then note.Found (record { place = place; code = code }) ∷ [] else [])
-one_if true place code h = (h, tt)
-one_if false place code h = tt
-
-none_if : (b : Bool) (place : Place) (code : Code) → rank_of code < rank_of W12 → AreLow (if b then [] else note.Found (record { place = place; code = code }) ∷ [])
-none_if true place code h = tt
-none_if false place code h = (h, tt)
+one_if b place code h = noted_if b _ [] (h, tt) tt
 
 gabc_end : (p : notes.Point) → AreLow (notes.at_end p)
 gabc_end p =
-    noted_both (if is_snippet gabc (notes.kept p.back) then [] else notes.finding_event p.here.place E6 ∷ []) _ (none_if (is_snippet gabc (notes.kept p.back)) p.here.place E6 (omega arith))
+    noted_both (if is_snippet gabc (notes.kept p.back) then [] else notes.finding_event p.here.place E6 ∷ []) _ (noted_if (is_snippet gabc (notes.kept p.back)) [] _ tt (omega arith, tt))
     (noted_both (if notes.is_fused p.back then notes.finding_event p.here.place W10 ∷ [] else []) _ (one_if (notes.is_fused p.back) p.here.place W10 (omega arith)) tt)
 
 gabc_warnings : (macros : ℕ) (p : notes.Point) → AreLow (notes.warnings macros p)
@@ -60,8 +47,7 @@ gabc_warnings macros p =
 
 gabc_point : (split : Bool) (macros : ℕ) (p : notes.Point) → AreLow (notes.events_at split macros p)
 gabc_point split macros p =
-    let error = one_found p.here.place E1 (omega arith) in
-    let kept = noted_if (notes.is_kept p) (note.Kept p.here ∷ notes.warnings macros p) (notes.finding_event p.here.place E1 ∷ []) (gabc_warnings macros p) error in
+    let kept = noted_if (notes.is_kept p) (note.Kept p.here ∷ notes.warnings macros p) (notes.finding_event p.here.place E1 ∷ []) (gabc_warnings macros p) (omega arith, tt) in
     let read = noted_if (notes.is_comment p) [] (if notes.is_kept p then note.Kept p.here ∷ notes.warnings macros p else notes.finding_event p.here.place E1 ∷ []) tt kept in
     noted_if (notes.is_over split p.back) [] _ tt (noted_if (notes.is_end split p) (notes.at_end p) _ (gabc_end p) read)
 
@@ -71,19 +57,16 @@ gabc_points split macros back (x ∷ xs) = (gabc_point split macros (record { ba
 
 nabc_end : (kept : List ℕ) (x : Char) → AreLow (nabc.end_events kept x)
 nabc_end kept x =
-    noted_both (if is_snippet nabc_grammar kept then [] else notes.finding_event x.place E6 ∷ []) _ (none_if (is_snippet nabc_grammar kept) x.place E6 (omega arith)) tt
+    noted_both (if is_snippet nabc_grammar kept then [] else notes.finding_event x.place E6 ∷ []) _ (noted_if (is_snippet nabc_grammar kept) [] _ tt (omega arith, tt)) tt
 
 nabc_character : (kept : List ℕ) (x : Char) → AreLow (nabc.character_events kept x)
 nabc_character kept x =
     let missing = nabc.is_missing (nabc.first_of kept) x.c in
     noted_if (is_viable nabc_grammar (kept ++ x.c ∷ [])) (note.Kept x ∷ (if missing then notes.finding_event x.place W7 ∷ [] else [])) (notes.finding_event x.place E3 ∷ [])
-    (one_if missing x.place W7 (omega arith)) (one_found x.place E3 (omega arith))
+    (one_if missing x.place W7 (omega arith)) (omega arith, tt)
 
 nabc_point : (t : List ℕ) (x : Char) → AreLow (nabc.events_at t x)
-nabc_point t x =
-    noted_if (nabc.has_end t) [] _ tt
-    (noted_if (nabc.is_end t x.c) (nabc.end_events (nabc.kept_of t) x) _ (nabc_end (nabc.kept_of t) x)
-    (noted_if (nabc.is_character t x.c) (nabc.character_events (nabc.kept_of t) x) [] (nabc_character (nabc.kept_of t) x) tt))
+nabc_point t x = grind (arith, noted_if, nabc_end, nabc_character)
 
 nabc_points : (t : List ℕ) (xs : List Char) → AreLowEach (nabc.nabc_events_after t xs)
 nabc_points t [] = (noted_if (nabc.has_end t) _ _ tt tt, tt)
@@ -98,12 +81,6 @@ notes_low split macros xs = gabc_points split macros [] xs
 pub nabc_low : (xs : List Char) → AreLowEach (nabc.nabc_events xs)
 nabc_low xs = nabc_points [] xs
 
-below_then : (emitted : List NoteEvent) (later : List NoteEvent) → AreLow emitted → AllBelow W12 (findings_of later) → AllBelow W12 (findings_of (emitted ++ later))
-below_then [] later h k = k
-below_then (note.Kept x ∷ emitted) later h k = below_then emitted later h k
-below_then (note.Found f ∷ emitted) later h k = (h.0, below_then emitted later h.1 k)
-below_then (note.Ended how n ∷ emitted) later h k = below_then emitted later h k
-
 pub found_below : (lists : List (List NoteEvent)) → AreLowEach lists → AllBelow W12 (findings_of (concat_of lists))
 found_below [] h = tt
-found_below (emitted ∷ lists) h = below_then emitted (concat_of lists) h.0 (found_below lists h.1)
+found_below (emitted ∷ lists) h = noted_both emitted (concat_of lists) h.0 (found_below lists h.1)

@@ -1,11 +1,12 @@
 -- What is found in a body that is cut into parts stands in order.
-use Rattle.std.proofs.Common.{◌≡◌, ℕ, suc, ◌+◌, ◌-◌, ◌≤◌, ◌^◌, ◌==◌, nat_lt, min, List, [], ◌∷◌, ◌++◌, Bool, true, false, cond, refl, sym, ap, subst, ◌∙◌, length, append-nil, Option, arith, inl, inr, ◌⊎◌}
+use Rattle.std.proofs.Common.{◌<◌, ◌≡◌, ℕ, suc, ◌+◌, ◌-◌, ◌≤◌, ◌^◌, nat_lt, List, [], ◌∷◌, ◌++◌, refl, sym, ap, subst, ◌∙◌, length, append-nil, Option, arith, inl, inr, ◌⊎◌}
 use Rattle.gabc_places.proofs.PlacesInOrder.{up_to_self, before_up_to, up_to_then, before_then, before_next, up_to_past}
 use Rattle.gabc_places.proofs.PlacesOfAText.{place_append}
 use Rattle.gabc_places.specs.declared.place.Place.{Place}
 use Rattle.gabc_places.specs.declared.place.Char.{Char}
-use Rattle.gabc_places.specs.declared.code.Code.TheVariants.{W12}
+use Rattle.gabc_places.specs.declared.code.Code.TheVariants.{W12, W9}
 use Rattle.gabc_places.specs.declared.code.Finding.{Finding}
+use Rattle.gabc_places.specs.Code.{rank_of}
 use Rattle.gabc_places.specs.Findings.{ComesBefore, IsUpTo}
 use Rattle.gabc_places.specs.StageLaw.{concat_of}
 use Rattle.gabc_places.specs.Place.{next_place, place_past, placed_characters_from}
@@ -14,13 +15,15 @@ use Rattle.gabc_notes.specs.declared.item.ItemKind.{ItemKind}
 use Rattle.gabc_notes.specs.Events as notes
 use Rattle.gabc_nabc.specs.Events as nabc
 use Rattle.gabc_score.specs.Events.{PartAhead, texts_by_definition, text_from, snippet_from, after_mark}
-use Rattle.gabc_score.specs.NoteBeforeClef.{is_first_note, found_first, with_first_each}
+use Rattle.gabc_score.specs.NoteBeforeClef.{found_first, with_first_each}
 use Rattle.gabc_score.specs.declared.events.BodyEvent.{BodyEvent}
 use Rattle.gabc_score.specs.Units.{Mark, Opens, Next, Closes, CutPart, whole, events_through, EndsAfter, part_following, Cuts, events_of_cutting}
 use Rattle.gabc_score.proofs.units.BodyHasOneCutting.{text_mark}
 use Rattle.gabc_score.proofs.order.FindingsOneAfterAnother.{AllBelow, from_earlier, below_before, order_append, order_then, all_before, no_notes, all_append}
-use Rattle.gabc_score.proofs.order.FindingsOfParts.{found, TextsLie, SnippetsLie, Lie, LieLast, text_lies, text_codes, text_lies_last, snippet_lies, snippet_codes, snippet_lies_last}
+use Rattle.gabc_score.proofs.order.FindingsOfParts.{found, joined_found, TextsLie, SnippetsLie, Lie, LieLast, text_lies, text_codes, text_lies_last, snippet_lies, snippet_codes, snippet_lies_last}
 use Rattle.gabc_score.proofs.order.FirstNotesOfParts.{through_end, to_the_end}
+use Rattle.gabc_text.specs.BuiltText.{found_in}
+use Rattle.gabc_text.specs.Events.{events_by_point}
 
 -- ---- the characters of a part and those after it
 
@@ -49,14 +52,7 @@ pub record Short (p : Place) (cs : List ℕ) : Type 0 where
   pub begun : 1 + length cs ≤ 2 ^ 64 - 1
 
 short_next : (p : Place) (c : ℕ) (cs : List ℕ) → Short p (c ∷ cs) → Short (next_place p c) cs
-short_next p c cs h = by (c == 10)
-  where
-    less : length cs + 1 ≤ length (c ∷ cs)
-    less = omega arith
-
-    by : (b : Bool) → Short (cond b (record { line = p.line + 1; column = 1 }) (record { line = p.line; column = p.column + 1 })) cs
-    by true = record { here = omega (arith, h.begun, less); begun = omega (arith, h.begun, less) }
-    by false = record { here = omega (arith, h.here, less); begun = omega (arith, h.begun, less) }
+short_next p c cs h = grind arith
 
 pub short_past : (p : Place) (prefix rest : List ℕ) → Short p (prefix ++ rest) → Short (place_past p prefix) rest
 short_past p [] rest h = h
@@ -64,56 +60,54 @@ short_past p (c ∷ prefix) rest h = short_past (next_place p c) prefix rest (sh
 
 -- after a `)`
 after_is : (q : Place) (c : ℕ) (rest : List ℕ) → c ≡ 41 → Short q (c ∷ rest) → after_mark q ≡ next_place q c
-after_is q c rest e h =
-    let less : q.column + 1 ≤ 2 ^ 64 - 1 = omega (arith, h.here, some) in
-    rw e (ap (λ n. record { line = q.line; column = n }) (let m : min (q.column + 1) (2 ^ 64 - 1) ≡ q.column + 1 = grind (arith, less) in m))
-  where
-    some : 1 ≤ length (c ∷ rest)
-    some = omega arith
+after_is q c rest e h = grind arith
 
-module _ (lines macros : ℕ) (texts : TextsLie) (gabc : SnippetsLie (λ xs. notes.note_events (nat_lt 0 lines) macros xs)) (marks : SnippetsLie (λ xs. nabc.nabc_events xs))
-    (closes : (line : ℕ) (opened : Place) (prefix : List Char) (x : Char) (rest : List Char) → EndsAfter lines (snippet_from lines macros line opened (prefix ++ x ∷ rest)) prefix Closes → x.c ≡ 41) where
+module _ (lines macros : ℕ) where
   -- the part begins here with these characters
   abbrev pub Begins : PartAhead → Place → List Char → Type 0
   Begins part p xs = (part ≡ text_from texts_by_definition p xs) ⊎ ((line : ℕ) × (opened : Place) × (part ≡ snippet_from lines macros line opened xs))
 
   -- the codes of what is found in a part through some of its characters
-  begun_codes : (part : PartAhead) (p : Place) (xs ys : List Char) → Begins part p ys → AllBelow W12 (found (concat_of (events_through part xs)))
-  begun_codes part p xs ys (inl f) = rw f (text_codes texts p ys xs)
-  begun_codes part p xs ys (inr h) = rw h.2 (snippet_codes lines macros gabc marks h.0 h.1 ys xs)
+  module _ (below : (at : Place) (t : List ℕ) → AllBelow W9 (found_in (concat_of (events_by_point at t)))) where
+    begun_codes : (part : PartAhead) (p : Place) (xs ys : List Char) → Begins part p ys → AllBelow W12 (found (concat_of (events_through part xs)))
+    begun_codes part p xs ys (inl f) = rw f (text_codes below p ys xs)
+    begun_codes part p xs ys (inr h) = rw h.2 (snippet_codes lines macros h.0 h.1 ys xs)
 
+    -- and in all parts
+    pub pieces_low : (pieces : List CutPart) (last : List Char) (part : PartAhead) (p : Place) → Begins part p (whole pieces last)
+        → AllBelow W12 (found (concat_of (events_of_cutting texts_by_definition lines macros part pieces last)))
+    pieces_low [] last part p b = begun_codes part p last last b
+    pieces_low (q ∷ pieces) last part p b =
+        let n = following q.mark in
+        subst (AllBelow W12) (sym (joined_found (events_through part q.characters) _))
+        (all_append (λ f. rank_of f.code < rank_of W12) (found (concat_of (events_through part q.characters))) _ (begun_codes part p q.characters (whole (q ∷ pieces) last) b)
+        (pieces_low pieces last (part_following texts_by_definition lines macros q.mark q.end (whole pieces last)) n.0 n.1))
+      where
+        following : (mark : Mark) → (r : Place) × Begins (part_following texts_by_definition lines macros mark q.end (whole pieces last)) r (whole pieces last)
+        following Opens = (p, inr (0, q.end.place, refl))
+        following (Next line opened) = (p, inr (line, opened, refl))
+        following Closes = (after_mark q.end.place, inl refl)
+
+module _ (lines macros : ℕ) (texts : TextsLie) (gabc : SnippetsLie (λ xs. notes.note_events (nat_lt 0 lines) macros xs)) (marks : SnippetsLie (λ xs. nabc.nabc_events xs))
+    (closes : (line : ℕ) (opened : Place) (prefix : List Char) (x : Char) (rest : List Char) → EndsAfter lines (snippet_from lines macros line opened (prefix ++ x ∷ rest)) prefix Closes → x.c ≡ 41) where
   -- a note before any clef stands at the mark, after all that the snippet finds
   lies_with_first : (p q : Place) (fs : List Finding) (was now : Option ItemKind) → IsUpTo p q → Lie p q fs → AllBelow W12 fs → Lie p q (fs ++ found_first was now q)
-  lies_with_first p q fs was now u l h = by (is_first_note was now)
-    where
-      by : (b : Bool) → Lie p q (fs ++ cond b (record { place = q; code = W12 } ∷ []) [])
-      by true = record {
-        order = order_then fs (record { place = q; code = W12 }) [] l.order (below_before W12 q fs l.up_to h) tt;
-        from = all_append (λ f. IsUpTo p f.place) fs (record { place = q; code = W12 } ∷ []) l.from (u, tt);
-        up_to = all_append (λ f. IsUpTo f.place q) fs (record { place = q; code = W12 } ∷ []) l.up_to (up_to_self q, tt);
-      }
-      by false = subst (Lie p q) (sym (append-nil fs)) l
+  lies_with_first p q fs was now u l h = grind (arith, order_then, below_before, all_append, up_to_self, append-nil)
 
-  last_lies : (part : PartAhead) (p : Place) (cs : List ℕ) (last : List Char) → last ≡ placed_characters_from p cs → Begins part p last → LieLast p (place_past p cs) (found (concat_of (events_through part last)))
-  last_lies part p cs last e (inl f) = rw (f, e) (text_lies_last texts p cs)
-  last_lies part p cs last e (inr h) = rw (h.2, e) (snippet_lies_last lines macros gabc marks h.0 h.1 p cs)
+  last_lies : (part : PartAhead) (p : Place) (cs : List ℕ) (last : List Char) → last ≡ placed_characters_from p cs → Begins lines macros part p last → LieLast p (place_past p cs) (found (concat_of (events_through part last)))
+  last_lies part p cs last e h = grind (arith, text_lies_last, snippet_lies_last)
 
-  through_lies : (part : PartAhead) (p : Place) (cs : List ℕ) (xs : List Char) (x : Char) (ys : List Char) (s : Split xs x ys p cs) → xs ++ x ∷ ys ≡ placed_characters_from p cs → Begins part p (xs ++ x ∷ ys)
+  through_lies : (part : PartAhead) (p : Place) (cs : List ℕ) (xs : List Char) (x : Char) (ys : List Char) (s : Split xs x ys p cs) → xs ++ x ∷ ys ≡ placed_characters_from p cs → Begins lines macros part p (xs ++ x ∷ ys)
       → Lie p (place_past p s.prefix) (found (concat_of (events_through part xs)))
-  through_lies part p cs xs x ys s e (inl f) =
-      subst (λ q. Lie p (place_past p s.prefix) (found (concat_of (events_through q xs)))) (sym (f ∙ ap (text_from texts_by_definition p) (e ∙ ap (placed_characters_from p) s.all)))
-      (text_lies texts p s.prefix (s.c ∷ s.rest) xs s.size)
-  through_lies part p cs xs x ys s e (inr h) =
-      subst (λ q. Lie p (place_past p s.prefix) (found (concat_of (events_through q xs)))) (sym (h.2 ∙ ap (snippet_from lines macros h.0 h.1) (e ∙ ap (placed_characters_from p) s.all)))
-      (snippet_lies lines macros gabc marks h.0 h.1 p s.prefix (s.c ∷ s.rest) xs s.size)
+  through_lies part p cs xs x ys s e h = grind (arith, text_lies, snippet_lies)
 
-  closes_at : (part : PartAhead) (p : Place) (xs : List Char) (x : Char) (ys : List Char) → Begins part p (xs ++ x ∷ ys) → EndsAfter lines part xs Closes → x.c ≡ 41
-  closes_at part p xs x ys (inl f) h = elim (text_mark texts_by_definition lines macros _ xs Closes (subst (λ q. EndsAfter lines q xs Closes) f h)) [ ]
+  closes_at : (part : PartAhead) (p : Place) (xs : List Char) (x : Char) (ys : List Char) → Begins lines macros part p (xs ++ x ∷ ys) → EndsAfter lines part xs Closes → x.c ≡ 41
+  closes_at part p xs x ys (inl f) h = absurd (cc (text_mark texts_by_definition lines macros _ xs Closes (subst (λ q. EndsAfter lines q xs Closes) f h)))
   closes_at part p xs x ys (inr b) h = closes b.0 b.1 xs x ys (subst (λ q. EndsAfter lines q xs Closes) b.2 h)
 
   next_begins : (part : PartAhead) (p : Place) (cs : List ℕ) (xs : List Char) (x : Char) (ys : List Char) (mark : Mark) (s : Split xs x ys p cs) → Short p cs
-      → Begins part p (xs ++ x ∷ ys) → EndsAfter lines part xs mark
-      → Begins (part_following texts_by_definition lines macros mark x ys) (next_place (place_past p s.prefix) s.c) ys
+      → Begins lines macros part p (xs ++ x ∷ ys) → EndsAfter lines part xs mark
+      → Begins lines macros (part_following texts_by_definition lines macros mark x ys) (next_place (place_past p s.prefix) s.c) ys
   next_begins part p cs xs x ys Opens s short b h = inr (0, x.place, refl)
   next_begins part p cs xs x ys (Next line opened) s short b h = inr (line, opened, refl)
   next_begins part p cs xs x ys Closes s short b h =
@@ -132,18 +126,16 @@ module _ (lines macros : ℕ) (texts : TextsLie) (gabc : SnippetsLie (λ xs. not
   -- ---- all parts
 
   pub pieces_lie : (pieces : List CutPart) (last : List Char) (part : PartAhead) (p : Place) (cs : List ℕ) → whole pieces last ≡ placed_characters_from p cs → Short p cs
-      → Begins part p (whole pieces last) → Cuts texts_by_definition lines macros part pieces last
+      → Begins lines macros part p (whole pieces last) → Cuts texts_by_definition lines macros part pieces last
       → (before : List BodyEvent) → LieLast p (place_past p cs) (found (concat_of (with_first_each before (whole pieces last) (events_of_cutting texts_by_definition lines macros part pieces last))))
   pieces_lie [] last part p cs e short b h before = subst (LieLast p (place_past p cs)) (sym (to_the_end lines part last before h)) (last_lies part p cs last e b)
   pieces_lie (q ∷ pieces) last part p cs e short b h before =
       let s = split q.characters q.end (whole pieces last) p cs e in
-      let r = place_past p s.prefix in
-      let next = next_place (place_past p s.prefix) s.c in
       let lists = events_of_cutting texts_by_definition lines macros (part_following texts_by_definition lines macros q.mark q.end (whole pieces last)) pieces last in
       let w = through_end lines part q.characters q.end (whole pieces last) q.mark before lists h.0 in
       let at : q.end.place ≡ place_past p s.prefix = ap (λ (y : Char). y.place) s.here in
       let f = lies_with_first p (place_past p s.prefix) (found (concat_of (events_through part q.characters))) w.0 w.1 (up_to_past p s.prefix)
-      (through_lies part p cs q.characters q.end (whole pieces last) s e b) (begun_codes part p q.characters (q.characters ++ q.end ∷ whole pieces last) b) in
+      (through_lies part p cs q.characters q.end (whole pieces last) s e b) (begun_codes lines macros texts.below part p q.characters (q.characters ++ q.end ∷ whole pieces last) b) in
       let g = pieces_lie pieces last (part_following texts_by_definition lines macros q.mark q.end (whole pieces last)) (next_place (place_past p s.prefix) s.c) s.rest s.after
       (short_next (place_past p s.prefix) s.c s.rest (short_past p s.prefix (s.c ∷ s.rest) (subst (Short p) s.all short)))
       (next_begins part p cs q.characters q.end (whole pieces last) q.mark s short b h.0) h.1 w.2 in

@@ -1,7 +1,7 @@
 -- What is found where a body is read is found in the headers, in the body, or at its end.
-use Rattle.std.proofs.Common.{◌≡◌, ℕ, ◌||◌, List, [], ◌∷◌, ◌++◌, Bool, true, false, cond, Option, Some, None, refl, sym, ap, subst, ◌∙◌}
+use Rattle.std.proofs.Common.{◌≡◌, ℕ, ◌||◌, List, [], ◌∷◌, ◌++◌, Bool, cond, Option, sym, ap, subst, ◌∙◌}
 use Rattle.std.specs.List.{All}
-use Rattle.std.proofs.lemmas.List.Elements.{All-nil, All-cons, All-head, All-tail, All-append}
+use Rattle.std.proofs.lemmas.List.Elements.{All-nil, All-cons, All-append}
 use Rattle.gabc_places.specs.declared.place.Place.{Place}
 use Rattle.gabc_places.specs.declared.code.Code.TheVariants.{W9, W11}
 use Rattle.gabc_places.specs.declared.code.Finding.{Finding}
@@ -9,15 +9,12 @@ use Rattle.gabc_places.specs.declared.code.Fault.{Fault}
 use Rattle.gabc_places.specs.declared.limits.Limits.{Limits}
 use Rattle.gabc_score.specs.declared.events.BodyEvent.{BodyEvent}
 use Rattle.gabc_score.specs.declared.ending.InputEnding.{InputEnding}
-use Rattle.gabc_score.specs.declared.ending.InputEnding.TheVariants.{Whole, Broken, At}
 use Rattle.gabc_score.specs.Syllable.{is_eu, is_nlba}
-use Rattle.gabc_score.specs.Body.{events_onto, findings_of, EventsToStop, result_by, result_at_end, result_by_fault, result_whole, result_stopped, found_at_end, has_last, fault_of_end, cut_of}
+use Rattle.gabc_score.specs.Body.{events_onto, findings_of, EventsToStop, result_by, result_whole, result_stopped, found_at_end, has_last}
 use Rattle.gabc_score.proofs.order.FindingsOfParts.{found, found_append, found_onto}
-use Rattle.gabc_score.proofs.order.FindingsOfScore.{IsFront}
-
-pub all_first : {X : Type 0} (P : X → Type 0) (xs ys : List X) → All P (xs ++ ys) → All P xs
-all_first P [] ys h = All-nil P
-all_first P (x ∷ xs) ys h = All-cons P x xs (All-head P x (xs ++ ys) h) (all_first P xs ys (All-tail P x (xs ++ ys) h))
+use Rattle.gabc_score.proofs.order.FindingsOfScore.{IsFront, read_so}
+use Rattle.gabc_score.proofs.order.FindingsOneAfterAnother.{all_first}
+use Rattle.std.proofs.lemmas.Bool.{cond_both}
 
 module _ (P : Finding → Type 0) (no_notes : (p : Place) → P (record { place = p; code = W9 })) (open_span : (p : Place) → P (record { place = p; code = W11 }))
     (limits : Limits) (head : ℕ) (fs : List Finding) (at : Place) (ts : List BodyEvent) (heads : All P fs) (body : All P (found ts)) where
@@ -27,8 +24,7 @@ module _ (P : Finding → Type 0) (no_notes : (p : Place) → P (record { place 
       (subst (All P) (sym (ap findings_of f ∙ found_onto prefix [])) (all_first P (found prefix) (found more) (subst (All P) (ap found e ∙ found_append prefix more) body)))
 
   one_if : (b : Bool) (f : Finding) → P f → All P (cond b (f ∷ []) [])
-  one_if true f h = All-cons P f [] h (All-nil P)
-  one_if false f h = All-nil P
+  one_if b f h = cond_both b (f ∷ []) [] (All P) (λ e. All-cons P f [] h (All-nil P)) (λ e. All-nil P)
 
   whole_finds : (all : List BodyEvent) → all ≡ events_onto ts [] → All P (result_whole fs at all).findings
   whole_finds all e =
@@ -38,17 +34,4 @@ module _ (P : Finding → Type 0) (no_notes : (p : Place) → P (record { place 
 
   -- this holds of all that is found, if it holds of what is found in the headers, in the body, and at its end
   pub read_finds : (ending : InputEnding) (r : EventsToStop) → IsFront [] ts r → All P (result_by limits head fs at ending r.before r.last r.fault).findings
-  read_finds ending r i = by r.fault i.last
-    where
-      ended : (o : Option Fault) → events_onto r.last r.before ≡ events_onto ts [] → All P (result_by_fault fs at r.before (events_onto r.last r.before) o).findings
-      ended (Some fault) e = stopped_finds i.prefix i.more r.before (Some fault) i.all i.emitted
-      ended None e = whole_finds (events_onto r.last r.before) e
-
-      at_end : (how : InputEnding) → events_onto r.last r.before ≡ events_onto ts [] → All P (result_at_end limits head fs at how r.before (events_onto r.last r.before)).findings
-      at_end Whole e = ended (fault_of_end limits head at (events_onto r.last r.before) (cut_of (events_onto r.last r.before))) e
-      at_end Broken e = stopped_finds i.prefix i.more r.before None i.all i.emitted
-      at_end (At fault) e = stopped_finds i.prefix i.more r.before (Some fault) i.all i.emitted
-
-      by : (o : Option Fault) → (o ≡ None → events_onto r.last r.before ≡ events_onto ts []) → All P (result_by limits head fs at ending r.before r.last o).findings
-      by (Some fault) e = stopped_finds i.prefix i.more r.before (Some fault) i.all i.emitted
-      by None e = at_end ending (e refl)
+  read_finds = read_so (λ w. All P w.findings) limits head fs at ts stopped_finds whole_finds

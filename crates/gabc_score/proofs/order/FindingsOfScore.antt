@@ -1,5 +1,5 @@
 -- The findings of a score stand in order.
-use Rattle.std.proofs.Common.{◌≡◌, ℕ, ◌+◌, ◌<◌, ◌≤◌, ◌^◌, nat_lt, List, [], ◌∷◌, ◌++◌, Bool, true, false, cond, refl, sym, ap, subst, ◌∙◌, append_assoc, append-nil, length, map, take, get_or, arith, inl, inr, Option, Some, None, Result, Ok, Err, take-append-drop}
+use Rattle.std.proofs.Common.{◌≡◌, ℕ, ◌+◌, ◌<◌, ◌≤◌, ◌^◌, nat_lt, List, [], ◌∷◌, ◌++◌, Bool, cond, refl, sym, ap, subst, ◌∙◌, append_assoc, append-nil, length, map, take, get_or, arith, inl, Option, Some, None, Result, Ok, Err, take-append-drop}
 use Rattle.std.proofs.lemmas.List.{take_more}
 use Rattle.std.specs.Option.{option_map}
 use Rattle.gabc_places.specs.declared.place.Place.{Place}
@@ -20,6 +20,7 @@ use Rattle.gabc_headers.specs.Heads.{head_len, heads_of, findings_of as heads_fo
 use Rattle.gabc_notes.specs.Events as notes
 use Rattle.gabc_nabc.specs.Events as nabc
 use Rattle.gabc_score.specs.declared.events.BodyEvent.{BodyEvent}
+use Rattle.gabc_score.specs.declared.body_result.BodyResult.{BodyResult}
 use Rattle.gabc_score.specs.declared.ending.InputEnding.{InputEnding}
 use Rattle.gabc_score.specs.declared.ending.InputEnding.TheVariants.{Whole, Broken, At}
 use Rattle.gabc_score.specs.Events.{texts_by_definition, text_from, snippet_from}
@@ -56,9 +57,7 @@ part_after_character (x ∷ prefix) ys p (c ∷ cs) e =
 first_begins : (ys : List Char) (p : Place) (cs : List ℕ) → ys ≡ placed_characters_from p cs → BeginsWithLf ys → first_text texts_by_definition ys ≡ text_from texts_by_definition p ys
 first_begins [] p cs e k = elim k [ ]
 first_begins (y ∷ ys) p [] e k = absurd (cc)
-first_begins (y ∷ ys) p (c ∷ cs) e k =
-    let f : y ≡ record { c = c; place = p } = cc in
-    ap (λ (z : Char). text_from texts_by_definition z.place (y ∷ ys)) f
+first_begins (y ∷ ys) p (c ∷ cs) e k = grind arith
 
 module _ (texts : TextsLie)
     (gabc : (lines macros : ℕ) → SnippetsLie (λ xs. notes.note_events (nat_lt 0 lines) macros xs)) (marks : SnippetsLie (λ xs. nabc.nabc_events xs))
@@ -69,9 +68,7 @@ module _ (texts : TextsLie)
   parts_lie lines macros p cs comment None short h =
       rw (h.0 ∙ sym (append-nil comment), after_comment comment [] [] (events_of_parts texts_by_definition lines macros None)) (record { order = tt; from = tt; before = tt })
   parts_lie lines macros p cs comment (Some d) short h =
-      let ys = whole d.pieces d.last in
       let b = part_after_character comment (whole d.pieces d.last) p cs h.0 in
-      let q = place_past p b.before in
       let k = pieces_lie lines macros texts (gabc lines macros) marks (closes lines macros) d.pieces d.last (first_text texts_by_definition (whole d.pieces d.last)) (place_past p b.before) b.rest b.placed
       (short_past p b.before b.rest (subst (Short p) b.all short))
       (inl (first_begins (whole d.pieces d.last) (place_past p b.before) b.rest b.placed h.1.1.0)) h.1.1.1 [] in
@@ -111,12 +108,30 @@ reached_prefix limits head before (x ∷ xs) (now ∷ lists) = by (code_at limit
       last = λ e. r.last e ∙ sym (onto_append now (concat_of lists) before);
     }
 
+-- what holds of a body that stopped somewhere, and of the whole body, holds of each that is read
+module _ (P : BodyResult → Type 0) (limits : Limits) (head : ℕ) (fs : List Finding) (at : Place) (ts : List BodyEvent)
+    (stopped : (prefix more before : List BodyEvent) (fault : Option Fault) → ts ≡ prefix ++ more → before ≡ events_onto prefix [] → P (result_stopped fs before fault))
+    (complete : (all : List BodyEvent) → all ≡ events_onto ts [] → P (result_whole fs at all)) where
+  pub read_so : (ending : InputEnding) (r : EventsToStop) → IsFront [] ts r → P (result_by limits head fs at ending r.before r.last r.fault)
+  read_so ending r i = by r.fault i.last
+    where
+      ended : (o : Option Fault) → events_onto r.last r.before ≡ events_onto ts [] → P (result_by_fault fs at r.before (events_onto r.last r.before) o)
+      ended (Some fault) e = stopped i.prefix i.more r.before (Some fault) i.all i.emitted
+      ended None e = complete (events_onto r.last r.before) e
+
+      at_end : (how : InputEnding) → events_onto r.last r.before ≡ events_onto ts [] → P (result_at_end limits head fs at how r.before (events_onto r.last r.before))
+      at_end Whole e = ended (fault_of_end limits head at (events_onto r.last r.before) (cut_of (events_onto r.last r.before))) e
+      at_end Broken e = stopped i.prefix i.more r.before None i.all i.emitted
+      at_end (At fault) e = stopped i.prefix i.more r.before (Some fault) i.all i.emitted
+
+      by : (o : Option Fault) → (o ≡ None → events_onto r.last r.before ≡ events_onto ts []) → P (result_by limits head fs at ending r.before r.last o)
+      by (Some fault) e = stopped i.prefix i.more r.before (Some fault) i.all i.emitted
+      by None e = at_end ending (e refl)
+
 -- ---- the end
 
 eu_last : (p : Place) (f : Finding) → ComesBefore f (no_notes p) → ComesBefore f (record { place = p; code = W11 })
-eu_last p f (inl l) = inl l
-eu_last p f (inr (l, inl c)) = inr (l, inl c)
-eu_last p f (inr (l, inr (c, r))) = inr (l, inr (c, omega (arith, r)))
+eu_last p f h = grind arith
 
 eu_all : (p : Place) (fs : List Finding) → AllBefore (no_notes p) fs → AllBefore (record { place = p; code = W11 }) fs
 eu_all p [] h = tt
@@ -124,10 +139,7 @@ eu_all p (f ∷ fs) h = (eu_last p f h.0, eu_all p fs h.1)
 
 with_end : (at : Place) (fs : List Finding) (a b : Bool) → AreInOrder fs → AllBefore (no_notes at) fs
     → AreInOrder (fs ++ (cond a (record { place = at; code = W9 } ∷ []) [] ++ cond b (record { place = at; code = W11 } ∷ []) []))
-with_end at fs true true h k = order_then fs (no_notes at) _ h k (inr (refl, inr (refl, omega arith)), tt)
-with_end at fs true false h k = order_then fs (no_notes at) [] h k tt
-with_end at fs false true h k = order_then fs (record { place = at; code = W11 }) [] h (eu_all at fs k) tt
-with_end at fs false false h k = subst AreInOrder (sym (append-nil fs)) h
+with_end at fs a b h k = grind (arith, order_then, eu_all, append-nil)
 
 module _ (limits : Limits) (head : ℕ) (fs : List Finding) (at q p : Place) (ts : List BodyEvent)
     (order : AreInOrder fs) (up : AllUpTo q fs) (next : IsEarlier q p) (end : IsUpTo p at) (all : LieLast p at (found ts)) where
@@ -146,20 +158,7 @@ module _ (limits : Limits) (head : ℕ) (fs : List Finding) (at q p : Place) (ts
       (all_append (λ f. ComesBefore f (no_notes at)) fs (found ts) (all_before q (no_notes at) fs up (before_then q p at next end)) all.before)))
 
   read_sorted : (ending : InputEnding) (r : EventsToStop) → IsFront [] ts r → AreInOrder (result_by limits head fs at ending r.before r.last r.fault).findings
-  read_sorted ending r i = by r.fault i.last
-    where
-      ended : (o : Option Fault) → events_onto r.last r.before ≡ events_onto ts [] → AreInOrder (result_by_fault fs at r.before (events_onto r.last r.before) o).findings
-      ended (Some fault) e = stopped_sorted i.prefix i.more r.before (Some fault) i.all i.emitted
-      ended None e = whole_sorted (events_onto r.last r.before) e
-
-      at_end : (how : InputEnding) → events_onto r.last r.before ≡ events_onto ts [] → AreInOrder (result_at_end limits head fs at how r.before (events_onto r.last r.before)).findings
-      at_end Whole e = ended (fault_of_end limits head at (events_onto r.last r.before) (cut_of (events_onto r.last r.before))) e
-      at_end Broken e = stopped_sorted i.prefix i.more r.before None i.all i.emitted
-      at_end (At fault) e = stopped_sorted i.prefix i.more r.before (Some fault) i.all i.emitted
-
-      by : (o : Option Fault) → (o ≡ None → events_onto r.last r.before ≡ events_onto ts []) → AreInOrder (result_by limits head fs at ending r.before r.last o).findings
-      by (Some fault) e = stopped_sorted i.prefix i.more r.before (Some fault) i.all i.emitted
-      by None e = at_end ending (e refl)
+  read_sorted = read_so (λ w. AreInOrder w.findings) limits head fs at ts stopped_sorted whole_sorted
 
 -- ---- the score
 
@@ -172,8 +171,6 @@ pub record HeadsLie : Type 0 where
 -- the body begins after the line `%%`
 body_after : (t : List ℕ) → head_len t + 2 ≤ length t → IsEarlier (place_after (take (head_len t) t)) (place_after (heads_text t))
 body_after t h =
-    let n = head_len t in
-    let f = take (head_len t) t in
     let c = get_or t (head_len t) 0 in
     let d = get_or t (head_len t + 1) 0 in
     let one : head_len t < length t = omega (arith, h) in
@@ -196,8 +193,6 @@ module _ (texts : TextsLie) (heads : HeadsLie)
     (closes : (lines macros line : ℕ) (opened : Place) (prefix : List Char) (x : Char) (rest : List Char) → EndsAfter lines (snippet_from lines macros line opened (prefix ++ x ∷ rest)) prefix Closes → x.c ≡ 41) where
   after_sorted : (limits : Limits) (ending : InputEnding) (t : List ℕ) (h : Heads) → length t < 2 ^ 63 → heads_of limits t ≡ Ok h → AreInOrder (score_by limits ending t (Ok h)).findings
   after_sorted limits ending t h short e =
-      let f = heads_text t in
-      let u = after_heads t in
       let xs : placed_characters_from (place_after (heads_text t)) (after_heads t) ≡ placed_characters_after (heads_text t) (after_heads t) = placed_after (heads_text t) (after_heads t) in
       let end : place_past (place_after (heads_text t)) (after_heads t) ≡ place_after t = after_joined (heads_text t) (after_heads t) ∙ ap place_after (take-append-drop (head_len t + 2) t) in
       let lists = score_events (nabc_lines_of h.book) (macros_of h.book) (placed_characters_after (heads_text t) (after_heads t)) in

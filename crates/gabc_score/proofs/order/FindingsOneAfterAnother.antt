@@ -1,6 +1,5 @@
 -- Findings of several parts, one after the other, in order.
-use Rattle.std.proofs.Common.{◌≡◌, ◌<◌, ◌≤◌, ◌==◌, List, [], ◌∷◌, ◌++◌, Bool, true, false, refl, arith, inl, inr, eqb-true}
-use Rattle.std.proofs.lemmas.Bool.{eqb-false}
+use Rattle.std.proofs.Common.{◌<◌, List, [], ◌∷◌, ◌++◌, arith}
 use Rattle.gabc_places.proofs.PlacesInOrder.{up_to_then, before_then, then_before, stands_before}
 use Rattle.gabc_places.specs.declared.place.Place.{Place}
 use Rattle.gabc_places.specs.declared.code.Finding.{Finding}
@@ -9,8 +8,19 @@ use Rattle.gabc_places.specs.declared.code.Code.TheVariants.{W9}
 use Rattle.gabc_places.specs.Code.{rank_of}
 use Rattle.gabc_places.specs.Findings.{ComesBefore, ComeAfter, AreInOrder, IsUpTo, LieBetween}
 use Rattle.gabc_places.specs.PlacesInOrder.{IsEarlier}
+use Rattle.std.proofs.lemmas.List.Elements.{All-nil, All-cons, All-head, All-tail}
+use Rattle.std.specs.List.{All}
 
 -- ---- lists of findings
+
+-- the first part of a list, and the rest
+pub all_first : {X : Type 0} (P : X → Type 0) (xs ys : List X) → All P (xs ++ ys) → All P xs
+all_first P [] ys h = All-nil P
+all_first P (x ∷ xs) ys h = All-cons P x xs (All-head P x (xs ++ ys) h) (all_first P xs ys (All-tail P x (xs ++ ys) h))
+
+pub all_rest : {X : Type 0} (P : X → Type 0) (xs ys : List X) → All P (xs ++ ys) → All P ys
+all_rest P [] ys h = h
+all_rest P (x ∷ xs) ys h = all_rest P xs ys (All-tail P x (xs ++ ys) h)
 
 -- this holds of each
 abbrev pub AllAre : (Finding → Type 0) → List Finding → Type 0
@@ -59,8 +69,7 @@ after_one f (x ∷ fs) gs q r u h l s o k = (s.0, after_one x fs gs q r h.0 h.1 
 
 -- findings in order up to q, and findings in order from a place after q on
 pub order_append : (fs gs : List Finding) (q r : Place) → AreInOrder fs → AllUpTo q fs → IsEarlier q r → AreInOrder gs → AllFrom r gs → AreInOrder (fs ++ gs)
-order_append [] gs q r s h l o k = o
-order_append (f ∷ fs) gs q r s h l o k = after_one f fs gs q r h.0 h.1 l s o k
+order_append fs gs q r s h l o k = grind (arith, after_one)
 
 one_more : (f : Finding) (fs : List Finding) (g : Finding) (gs : List Finding) → ComesBefore f g → AllBefore g fs → ComeAfter f fs → AreInOrder (g ∷ gs) → ComeAfter f (fs ++ g ∷ gs)
 one_more f [] g gs l h s o = (l, o)
@@ -68,8 +77,7 @@ one_more f (x ∷ fs) g gs l h s o = (s.0, one_more x fs g gs h.0 h.1 s.1 o)
 
 -- findings in order, and such as all of them stand before
 pub order_then : (fs : List Finding) (g : Finding) (gs : List Finding) → AreInOrder fs → AllBefore g fs → AreInOrder (g ∷ gs) → AreInOrder (fs ++ g ∷ gs)
-order_then [] g gs s h o = o
-order_then (f ∷ fs) g gs s h o = one_more f fs g gs h.0 h.1 s o
+order_then fs g gs s h o = grind (arith, one_more)
 
 stand_prefix : (f : Finding) (fs gs : List Finding) → ComeAfter f (fs ++ gs) → ComeAfter f fs
 stand_prefix f [] gs h = tt
@@ -77,8 +85,7 @@ stand_prefix f (x ∷ fs) gs h = (h.0, stand_prefix x fs gs h.1)
 
 -- a prefix of findings in order
 pub order_prefix : (fs gs : List Finding) → AreInOrder (fs ++ gs) → AreInOrder fs
-order_prefix [] gs h = tt
-order_prefix (f ∷ fs) gs h = stand_prefix f fs gs h
+order_prefix fs gs h = grind (arith, stand_prefix)
 
 -- ---- codes
 
@@ -97,15 +104,4 @@ no_notes p = record { place = p; code = W9 }
 -- findings up to a place, with codes below this one
 pub below_before : (code : Code) (p : Place) (fs : List Finding) → AllUpTo p fs → AllBelow code fs → AllBefore (record { place = p; code = code }) fs
 below_before code p [] h b = tt
-below_before code p (f ∷ fs) h b = (by h.0, below_before code p fs h.1 b.1)
-  where
-    by : IsUpTo f.place p → ComesBefore f (record { place = p; code = code })
-    by (inl l) = inl l
-    by (inr l) = (let c = l.1 in at (f.place.column == p.column) refl l.0 c)
-      where
-        at : (b : Bool) → (f.place.column == p.column) ≡ b → f.place.line ≡ p.line → f.place.column ≤ p.column → ComesBefore f (record { place = p; code = code })
-        at true e l c = inr (l, inr (eqb-true f.place.column p.column e, b.0))
-        at false e l c = inr (l, inl (less (eqb-false f.place.column p.column e) c))
-          where
-            less : ¬ (f.place.column ≡ p.column) → f.place.column ≤ p.column → f.place.column < p.column
-            less n c = omega (arith, n)
+below_before code p (f ∷ fs) h b = (let u = h.0 in let c = b.0 in grind arith, below_before code p fs h.1 b.1)

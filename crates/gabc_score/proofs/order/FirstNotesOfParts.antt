@@ -1,15 +1,13 @@
 -- A note before any clef is found at the mark that ends a snippet, and nowhere within a part.
-use Rattle.std.proofs.Common.{◌≡◌, ℕ, List, [], ◌∷◌, ◌++◌, map, Bool, true, false, cond, if◌then◌else◌, Option, Some, None, refl, sym, ap, subst, ◌∙◌, append_assoc, append-nil}
-use Rattle.std.specs.List.{All, list_any, flat_map}
-use Rattle.std.proofs.lemmas.List.Elements.{All-nil, All-cons, All-head, All-tail, All-append}
+use Rattle.std.proofs.Common.{◌≡◌, ℕ, List, [], ◌∷◌, ◌++◌, map, Bool, true, false, if◌then◌else◌, Option, Some, None, refl, sym, ap, subst, ◌∙◌, append_assoc, append-nil, arith}
+use Rattle.std.specs.List.{All, list_any}
+use Rattle.std.proofs.lemmas.List.Elements.{All-nil, All-cons, All-append}
 use Rattle.gabc_places.specs.StageLaw.{concat_of}
 use Rattle.gabc_places.specs.declared.code.Code.TheVariants.{W12}
 use Rattle.gabc_places.specs.declared.code.Finding.{Finding}
 use Rattle.gabc_places.specs.declared.place.Char.{Char}
 use Rattle.gabc_places.specs.declared.place.Place.{Place}
 use Rattle.gabc_text.specs.declared.text_event.TextEvent.{TextEvent}
-use Rattle.gabc_notes.specs.FirstNoteOrClef.{first_note_or_clef}
-use Rattle.gabc_notes.specs.Items.{items_of}
 use Rattle.gabc_notes.specs.declared.item.ItemKind.{ItemKind}
 use Rattle.gabc_notes.specs.declared.stage.NoteEnd.TheVariants as note_end
 use Rattle.gabc_notes.specs.declared.stage.NoteEvent.{NoteEvent}
@@ -21,6 +19,8 @@ use Rattle.gabc_score.specs.Units.{Mark, Next, Closes, part_onward, events_throu
 use Rattle.gabc_score.specs.declared.events.BodyEvent.{BodyEvent}
 use Rattle.gabc_score.specs.declared.events.BodyEvent.TheVariants as event
 use Rattle.gabc_score.proofs.order.FindingsOfParts.{found, found_append}
+use Rattle.gabc_score.proofs.order.FindingsOneAfterAnother.{all_first, all_rest}
+use Rattle.std.proofs.lemmas.Bool.{cond_both}
 
 -- ---- what is found where the first of the two comes
 
@@ -29,8 +29,7 @@ found_events [] = refl
 found_events (f ∷ fs) = ap (λ (gs : List Finding). f ∷ gs) (found_events fs)
 
 no_first : (was : Option ItemKind) (place : Place) → found_first was was place ≡ []
-no_first None place = refl
-no_first (Some kind) place = refl
+no_first was place = grind arith
 
 -- what is found at a character: what the body finds there, and a note before any clef
 found_here : (before : List BodyEvent) (x : Char) (now : List BodyEvent)
@@ -46,12 +45,9 @@ texts_end_none (o ∷ os) before = texts_end_none os (event.Text o ∷ before)
 notes_end_none : (line : ℕ) (opened : Place) (os : List NoteEvent) (before : List BodyEvent) → list_any is_next os ≡ false → list_any is_close os ≡ false
     → gabc_ended (events_onto (map (note_event line opened) os) before) ≡ gabc_ended before
 notes_end_none line opened [] before h k = refl
-notes_end_none line opened (note.Kept x ∷ os) before h k = notes_end_none line opened os (event.Notes line (note.Kept x) ∷ before) h k
-notes_end_none line opened (note.Found f ∷ os) before h k = notes_end_none line opened os (event.Notes line (note.Found f) ∷ before) h k
 notes_end_none line opened (note.Ended note_end.Next n ∷ os) before h k = absurd (cc)
 notes_end_none line opened (note.Ended note_end.Close n ∷ os) before h k = absurd (cc)
-notes_end_none line opened (note.Ended (note_end.Cut p) n ∷ os) before h k =
-    notes_end_none line opened os (note_event line opened (note.Ended (note_end.Cut p) n) ∷ before) h k
+notes_end_none line opened (o ∷ os) before h k = notes_end_none line opened os (note_event line opened o ∷ before) h k
 
 module _ (lines : ℕ) where
   ends_none : (part : PartAhead) (before : List BodyEvent) → mark_in lines part ≡ None → gabc_ended (events_onto (events_in part) before) ≡ gabc_ended before
@@ -68,12 +64,7 @@ module _ (lines : ℕ) where
 
   -- at such a character nothing is found beside what the body finds
   within_part : (part : PartAhead) (before : List BodyEvent) (x : Char) → mark_in lines part ≡ None → found (with_first before x (events_in part)) ≡ found (events_in part)
-  within_part part before x h =
-      found_here before x (events_in part)
-      ∙ ap (λ (fs : List Finding). found (events_in part) ++ fs)
-      (ap (λ (ended : List (List ℕ)). found_first (first_of before) (first_note_or_clef (flat_map (λ kept. items_of kept) ended)) x.place) (ends_none part before h)
-      ∙ no_first (first_of before) x.place)
-      ∙ append-nil (found (events_in part))
+  within_part part before x h = grind (arith, found_here, ends_none, no_first, append-nil)
 
   -- what a part finds through its end, with what the score finds at the mark, and what is found after it
   pub through_end : (part : PartAhead) (xs : List Char) (x : Char) (ys : List Char) (mark : Mark) (before : List BodyEvent) (later : List (List BodyEvent)) → EndsAfter lines part xs mark
@@ -97,13 +88,8 @@ module _ (lines : ℕ) where
         r.0,
         r.1,
         r.2,
-        found_append (with_first before z now) (concat_of (with_first_each next (xs ++ x ∷ ys) (events_through (part_onward part) xs ++ later)))
-            ∙ ap (λ (fs : List Finding). fs ++ found (concat_of (with_first_each next (xs ++ x ∷ ys) (events_through (part_onward part) xs ++ later)))) (within_part part before z h.0)
-            ∙ ap (λ (fs : List Finding). found now ++ fs) r.3
-            ∙ sym (append_assoc (found now) (found (concat_of (events_through (part_onward part) xs)) ++ found_first r.0 r.1 x.place) _)
-            ∙ ap (λ (fs : List Finding). fs ++ found (concat_of (with_first_each r.2 ys later)))
-            (sym (append_assoc (found now) (found (concat_of (events_through (part_onward part) xs))) (found_first r.0 r.1 x.place))
-            ∙ ap (λ (fs : List Finding). fs ++ found_first r.0 r.1 x.place) (sym (found_append now (concat_of (events_through (part_onward part) xs))))),
+        rw (found_append (with_first before z now) (concat_of (with_first_each next (xs ++ x ∷ ys) (events_through (part_onward part) xs ++ later))), within_part part before z h.0, r.3)
+            (simp (found_append now (concat_of (events_through (part_onward part) xs)), append_assoc)),
       )
 
   -- the last part has no mark
@@ -113,37 +99,24 @@ module _ (lines : ℕ) where
   to_the_end part (x ∷ xs) before h =
       let now = events_in part in
       let next = events_onto (with_first before x now) before in
-      found_append (with_first before x now) (concat_of (with_first_each next xs (events_through (part_onward part) xs)))
-      ∙ ap (λ (fs : List Finding). fs ++ found (concat_of (with_first_each next xs (events_through (part_onward part) xs)))) (within_part part before x h.0)
-      ∙ ap (λ (fs : List Finding). found now ++ fs) (to_the_end (part_onward part) xs next h.1)
-      ∙ sym (found_append now (concat_of (events_through (part_onward part) xs)))
+      rw (found_append (with_first before x now) (concat_of (with_first_each next xs (events_through (part_onward part) xs))), within_part part before x h.0, to_the_end (part_onward part) xs next h.1)
+      (sym (found_append now (concat_of (events_through (part_onward part) xs))))
 
 -- ---- the comment
+
+pub past_comment : (comment : List Char) (lists : List (List BodyEvent)) → found (concat_of (map (λ (x : Char). []) comment ++ lists)) ≡ found (concat_of lists)
+past_comment [] lists = refl
+past_comment (x ∷ comment) lists = past_comment comment lists
 
 pub after_comment : (comment ys : List Char) (before : List BodyEvent) (lists : List (List BodyEvent))
     → found (concat_of (with_first_each before (comment ++ ys) (map (λ (x : Char). []) comment ++ lists))) ≡ found (concat_of (with_first_each before ys lists))
 after_comment [] ys before lists = refl
-after_comment (x ∷ comment) ys before lists =
-    ap (λ (fs : List Finding). found (concat_of (map (λ (f : Finding). event.Notes 0 (note.Found f)) fs ∷ with_first_each (events_onto (map (λ (f : Finding). event.Notes 0 (note.Found f)) fs) before) (comment ++ ys) (map (λ (z : Char). []) comment ++ lists))))
-    (no_first (first_of before) x.place)
-    ∙ after_comment comment ys before lists
+after_comment (x ∷ comment) ys before lists = grind (arith, after_comment comment ys before lists, no_first)
 
 -- ---- all that is found
 
 if_first : (P : Finding → Type 0) → ((p : Place) → P (record { place = p; code = W12 })) → (was now : Option ItemKind) (place : Place) → All P (found_first was now place)
-if_first P w was now place = by (is_first_note was now)
-  where
-    by : (b : Bool) → All P (cond b (record { place = place; code = W12 } ∷ []) [])
-    by true = All-cons P (record { place = place; code = W12 }) [] (w place) (All-nil P)
-    by false = All-nil P
-
-all_last : (P : Finding → Type 0) (fs gs : List Finding) → All P (fs ++ gs) → All P gs
-all_last P [] gs h = h
-all_last P (f ∷ fs) gs h = all_last P fs gs (All-tail P f (fs ++ gs) h)
-
-all_front : (P : Finding → Type 0) (fs gs : List Finding) → All P (fs ++ gs) → All P fs
-all_front P [] gs h = All-nil P
-all_front P (f ∷ fs) gs h = All-cons P f fs (All-head P f (fs ++ gs) h) (all_front P fs gs (All-tail P f (fs ++ gs) h))
+if_first P w was now place = cond_both (is_first_note was now) _ [] (All P) (λ e. All-cons P _ [] (w place) (All-nil P)) (λ e. All-nil P)
 
 -- what holds of all that a body finds, and of a note before any clef, holds of all that the score finds
 pub all_with_first : (P : Finding → Type 0) → ((p : Place) → P (record { place = p; code = W12 })) → (before : List BodyEvent) (xs : List Char) (lists : List (List BodyEvent))
@@ -153,8 +126,6 @@ all_with_first P w before (x ∷ xs) [] h = h
 all_with_first P w before (x ∷ xs) (now ∷ lists) h =
     let next = events_onto (with_first before x now) before in
     let k = subst (All P) (found_append now (concat_of lists)) h in
-    subst (All P)
-    (sym (found_append (with_first before x now) (concat_of (with_first_each next xs lists))
-    ∙ ap (λ (fs : List Finding). fs ++ found (concat_of (with_first_each next xs lists))) (found_here before x now)))
-    (All-append P _ _ (All-append P (found now) _ (all_front P (found now) (found (concat_of lists)) k) (if_first P w (first_of before) (first_of (events_onto now before)) x.place))
-    (all_with_first P w next xs lists (all_last P (found now) (found (concat_of lists)) k)))
+    rw (found_append (with_first before x now) (concat_of (with_first_each next xs lists)), found_here before x now)
+    (All-append P _ _ (All-append P (found now) _ (all_first P (found now) (found (concat_of lists)) k) (if_first P w (first_of before) (first_of (events_onto now before)) x.place))
+    (all_with_first P w next xs lists (all_rest P (found now) (found (concat_of lists)) k)))

@@ -1,5 +1,5 @@
 -- The bytes of a regular syllable: a gap, a text, a `(`, and snippets with their marks.
-use Rattle.std.proofs.Common.{◌≡◌, ◌≢◌, ℕ, zero, suc, ◌+◌, ◌<◌, ◌≤◌, List, [], ◌∷◌, ◌++◌, length, take, drop, get_or, encode_utf8_all, refl, sym, ap, ap₂, subst, ◌∙◌, arith, append_assoc, append-nil, length-drop, IsUtf8}
+use Rattle.std.proofs.Common.{◌≡◌, ◌≢◌, ℕ, ◌+◌, ◌<◌, ◌≤◌, List, [], ◌∷◌, ◌++◌, length, take, drop, get_or, encode_utf8_all, refl, sym, ap, ap₂, subst, ◌∙◌, arith, append_assoc, append-nil, length-drop, IsUtf8}
 use Rattle.std.specs.List.{All}
 use Rattle.std.specs.Str.{chars, IsAscii, IsCharBoundary}
 use Rattle.std.specs.String.Boundary.{IsSplitPoint}
@@ -17,9 +17,8 @@ use Rattle.gabc_score.specs.machine.RegularLen.{IsPlainByte, with_bars_after, Sn
 use Rattle.gabc_text.proofs.RegularRawParts.{mark_before_notes}
 use Rattle.gabc_score.proofs.regular_syllables.RegularSyllableIsMade.{one_byte}
 
-ascii_one : (c : ℕ) → c < 128 → (i : ℕ) → get_or (c ∷ []) i 0 < 128
-ascii_one c less zero = less
-ascii_one c less (suc i) = omega arith
+pub ascii_one : (c : ℕ) → c < 128 → IsAscii (c ∷ [])
+ascii_one c less i = grind arith
 
 -- ---- plain bytes
 
@@ -44,16 +43,11 @@ plain_spelled (c ∷ t) h = All-cons IsPlain c t (no_cr, no_mark) (plain_spelled
 
 -- ---- cuts
 
--- a text may be cut after bytes that are a text
-pub cut_after : (text : List ℕ) (n : ℕ) → IsUtf8 text → n ≤ length text → IsUtf8 (take n text) → IsCharBoundary text n
-cut_after text n u le v = IsCharBoundary-from_take text n u le v
-
 rest_utf8 : (text : List ℕ) (n : ℕ) → IsUtf8 text → n ≤ length text → IsUtf8 (take n text) → IsUtf8 (drop n text)
-rest_utf8 text n u le v = IsUtf8-drop text n u (cut_after text n u le v)
+rest_utf8 text n u le v = IsUtf8-drop text n u (IsCharBoundary-from_take text n u le v)
 
 pub split_boundary : (text : List ℕ) (n : ℕ) → IsUtf8 text → IsSplitPoint text n → IsCharBoundary text n
-split_boundary text zero u cut = IsCharBoundary-start text u
-split_boundary text (suc n) u cut = (cut.0, cut.1 (omega arith))
+split_boundary text n u cut = grind (arith, IsCharBoundary-start)
 
 pub split_utf8 : (text : List ℕ) (n : ℕ) → IsUtf8 text → IsSplitPoint text n → IsUtf8 (take n text)
 split_utf8 text n u cut = IsUtf8-take text n u (split_boundary text n u cut)
@@ -68,11 +62,7 @@ one_chars : (c : ℕ) → c < 128 → chars (c ∷ []) ≡ c ∷ []
 one_chars c less = chars-IsAscii (c ∷ []) (ascii_one c less)
 
 -- bytes, some more and a character of ASCII
-module _ (text : List ℕ) (n k c : ℕ) (utf8 : IsUtf8 text) (within : n ≤ length text) (first : IsUtf8 (take n text)) (cut : IsSplitPoint (drop n text) k)
-    (less : n + k < length text) (at : get_or text (n + k) 0 ≡ c) (low : c < 128) where
-  middle : IsUtf8 (take k (drop n text))
-  middle = split_utf8 (drop n text) k (rest_utf8 text n utf8 within first) cut
-
+module _ (text : List ℕ) (n k c : ℕ) (first : IsUtf8 (take n text)) (middle : IsUtf8 (take k (drop n text))) (less : n + k < length text) (at : get_or text (n + k) 0 ≡ c) (low : c < 128) where
   parts_are : take (n + k + 1) text ≡ (take n text ++ take k (drop n text)) ++ c ∷ []
   parts_are = take_more text (n + k) 0 less ∙ ap₂ (λ (t : List ℕ) (x : ℕ). t ++ x ∷ []) (take-add n k text) at
 
@@ -80,9 +70,7 @@ module _ (text : List ℕ) (n k c : ℕ) (utf8 : IsUtf8 text) (within : n ≤ le
   parts_utf8 = subst IsUtf8 (sym parts_are) (IsUtf8-append (take n text ++ take k (drop n text)) (c ∷ []) (IsUtf8-append (take n text) (take k (drop n text)) first middle) (one_utf8 c low))
 
   parts_chars : chars (take (n + k + 1) text) ≡ (chars (take n text) ++ chars (take k (drop n text))) ++ c ∷ []
-  parts_chars =
-      ap chars parts_are ∙ (chars-append (take n text ++ take k (drop n text)) (c ∷ []) (IsUtf8-append (take n text) (take k (drop n text)) first middle)
-      ∙ ap₂ (λ (a b : List ℕ). a ++ b) (chars-append (take n text) (take k (drop n text)) first) (one_chars c low))
+  parts_chars = grind (arith, parts_are, chars-append, IsUtf8-append, middle, one_chars)
 
 -- ---- snippets
 
@@ -95,27 +83,23 @@ with_close [] s = refl
 with_close (b ∷ before) s = ap (λ (t : List ℕ). b ++ 124 ∷ t) (with_close before s) ∙ simp append_assoc
 
 pub no_snippets : (lines : ℕ) (text : List ℕ) → SnippetsBefore lines text 0 0
-no_snippets lines text = record {
-  before = [];
-  within = omega arith;
-  utf8 = IsUtf8-nil;
-  spelled_are = chars-nil;
-  goes_on = λ nexts final h. h;
-  single = λ e. refl;
-}
+no_snippets lines text = grind (arith, IsUtf8-nil, chars-nil)
 
 pub begun_cut : (lines : ℕ) (text : List ℕ) (n line : ℕ) → IsUtf8 text → SnippetsBefore lines text n line → IsCharBoundary text n
-begun_cut lines text n line utf8 s = cut_after text n utf8 s.within s.utf8
+begun_cut lines text n line utf8 s = IsCharBoundary-from_take text n utf8 s.within s.utf8
 
 -- one snippet more, of which this is known
 module _ (lines : ℕ) (text : List ℕ) (n line k : ℕ) (utf8 : IsUtf8 text) (s : SnippetsBefore lines text n line) (cut : IsSplitPoint (drop n text) k)
     (regular : IsRegularOn line (chars (take k (drop n text)))) (less : n + k < length text) where
+  middle : IsUtf8 (take k (drop n text))
+  middle = split_utf8 (drop n text) k (rest_utf8 text n utf8 s.within s.utf8) cut
+
   pub more_snippets : get_or text (n + k) 0 ≡ 124 → 0 < lines → SnippetsBefore lines text (n + k + 1) (next_line lines line)
   more_snippets at some = record {
     before = s.before ++ chars (take k (drop n text)) ∷ [];
     within = omega arith;
-    utf8 = parts_utf8 text n k 124 utf8 s.within s.utf8 cut less at (omega arith);
-    spelled_are = parts_chars text n k 124 utf8 s.within s.utf8 cut less at (omega arith)
+    utf8 = parts_utf8 text n k 124 s.utf8 middle less at (omega arith);
+    spelled_are = parts_chars text n k 124 s.utf8 middle less at (omega arith)
         ∙ (ap (λ (t : List ℕ). (t ++ chars (take k (drop n text))) ++ 124 ∷ []) s.spelled_are ∙ sym (with_bar s.before (chars (take k (drop n text)))));
     goes_on = λ nexts final h.
         subst (λ (all : List (List ℕ)). AreRegularFrom lines 0 all final) (sym (append_assoc s.before (chars (take k (drop n text)) ∷ []) nexts))
@@ -128,8 +112,8 @@ module _ (lines : ℕ) (text : List ℕ) (n line k : ℕ) (utf8 : IsUtf8 text) (
     nexts = s.before;
     final = chars (take k (drop n text));
     within = omega arith;
-    utf8 = parts_utf8 text n k 41 utf8 s.within s.utf8 cut less at (omega arith);
-    spelled_are = parts_chars text n k 41 utf8 s.within s.utf8 cut less at (omega arith)
+    utf8 = parts_utf8 text n k 41 s.utf8 middle less at (omega arith);
+    spelled_are = parts_chars text n k 41 s.utf8 middle less at (omega arith)
         ∙ (ap (λ (t : List ℕ). (t ++ chars (take k (drop n text))) ++ 41 ∷ []) s.spelled_are ∙ sym (with_close s.before (chars (take k (drop n text)))));
     regular = subst (λ (all : List (List ℕ)). AreRegularFrom lines 0 all (chars (take k (drop n text)))) (append-nil s.before)
         (s.goes_on [] (chars (take k (drop n text))) regular);
@@ -149,19 +133,16 @@ module _ (lines : ℕ) (text : List ℕ) (gap k : ℕ) (utf8 : IsUtf8 text) (wit
   gap_utf8 : IsUtf8 (take gap text)
   gap_utf8 = IsUtf8-from_ascii (take gap text) gap_ascii
 
-  begun_are : take (gap + k + 1) text ≡ (take gap text ++ take k (drop gap text)) ++ 40 ∷ []
-  begun_are = take_more text (gap + k) 0 less ∙ ap₂ (λ (t : List ℕ) (x : ℕ). t ++ x ∷ []) (take-add gap k text) at
-
   begun_utf8 : IsUtf8 (take (gap + k + 1) text)
-  begun_utf8 = subst IsUtf8 (sym begun_are) (IsUtf8-append (take gap text ++ take k (drop gap text)) (40 ∷ []) (IsUtf8-append (take gap text) (take k (drop gap text)) gap_utf8 word.utf8) (one_utf8 40 (omega arith)))
+  begun_utf8 = parts_utf8 text gap k 40 gap_utf8 word.utf8 less at (omega arith)
 
   begun_chars : chars (take (gap + k + 1) text) ≡ (take gap text ++ chars (take k (drop gap text))) ++ 40 ∷ []
   begun_chars =
-      ap chars begun_are ∙ (chars-append (take gap text ++ take k (drop gap text)) (40 ∷ []) (IsUtf8-append (take gap text) (take k (drop gap text)) gap_utf8 word.utf8)
-      ∙ ap₂ (λ (a b : List ℕ). a ++ b) (chars-append (take gap text) (take k (drop gap text)) gap_utf8 ∙ ap (λ (t : List ℕ). t ++ chars (take k (drop gap text))) (chars-IsAscii (take gap text) gap_ascii)) (one_chars 40 (omega arith)))
+      parts_chars text gap k 40 gap_utf8 word.utf8 less at (omega arith)
+      ∙ ap (λ (t : List ℕ). (t ++ chars (take k (drop gap text))) ++ 40 ∷ []) (chars-IsAscii (take gap text) gap_ascii)
 
   pub notes_cut : IsCharBoundary text (gap + k + 1)
-  notes_cut = cut_after text (gap + k + 1) utf8 (omega arith) begun_utf8
+  notes_cut = IsCharBoundary-from_take text (gap + k + 1) utf8 (omega arith) begun_utf8
 
   module _ (m : ℕ) (notes : BeginsWithSnippets lines (drop (gap + k + 1) text) m) where
     abbrev made : SyllableParts
@@ -174,9 +155,7 @@ module _ (lines : ℕ) (text : List ℕ) (gap k : ℕ) (utf8 : IsUtf8 text) (wit
     all_utf8 = subst IsUtf8 (sym all_are) (IsUtf8-append (take (gap + k + 1) text) (take m (drop (gap + k + 1) text)) begun_utf8 notes.utf8)
 
     all_chars : chars (take (gap + k + 1 + m) text) ≡ spelled made
-    all_chars =
-        ap chars all_are ∙ (chars-append (take (gap + k + 1) text) (take m (drop (gap + k + 1) text)) begun_utf8
-        ∙ (ap₂ (λ (a b : List ℕ). a ++ b) begun_chars notes.spelled_are ∙ append_assoc (take gap text ++ chars (take k (drop gap text))) (40 ∷ []) (notes_spelled notes.nexts notes.final)))
+    all_chars = grind (arith, all_are, chars-append, begun_utf8, begun_chars, append_assoc)
 
     fits : gap + k + 1 + m ≤ length text
     fits = omega (arith, notes.within, length-drop (gap + k + 1) text)
@@ -196,9 +175,7 @@ module _ (lines : ℕ) (text : List ℕ) (gap k : ℕ) (utf8 : IsUtf8 text) (wit
     rest_are = ap (drop gap) bytes_are ∙ drop_at (take gap text) (encode_utf8_all rest) gap (length-take-le gap text within)
 
     word_is : encode_utf8_all rest ≡ take k (drop gap text) ++ 40 ∷ encode_utf8_all (notes_spelled notes.nexts notes.final)
-    word_is =
-        encodes-append made.text (40 ∷ notes_spelled notes.nexts notes.final)
-        ∙ ap₂ (λ (a b : List ℕ). a ++ b) (encodes-chars (take k (drop gap text)) word.utf8) (one_byte 40 (notes_spelled notes.nexts notes.final) (omega arith))
+    word_is = grind (arith, encodes-append, encodes-chars, one_byte)
 
     pub syllable_here : All IsPlainByte (take (gap + k + 1 + m) text) → span_tags made.text ≡ tags_of (mark_at (take k (drop gap text)))
         → BeginsRegularly lines text (record { gap = gap; opening = gap + k; len = gap + k + 1 + m })
@@ -206,8 +183,8 @@ module _ (lines : ℕ) (text : List ℕ) (gap k : ℕ) (utf8 : IsUtf8 text) (wit
       syllable = made;
       is_regular = record { blanks = blanks.is; text = regular; notes = notes.regular; single = notes.single };
       some = omega arith;
-      cut = split_at text (gap + k + 1 + m) (cut_after text (gap + k + 1 + m) utf8 fits all_utf8);
-      cut_gap = split_at text gap (cut_after text gap utf8 within gap_utf8);
+      cut = split_at text (gap + k + 1 + m) (IsCharBoundary-from_take text (gap + k + 1 + m) utf8 fits all_utf8);
+      cut_gap = split_at text gap (IsCharBoundary-from_take text gap utf8 within gap_utf8);
       is_text = record {
         utf8 = all_utf8;
         plain = subst (All IsPlain) (sym (all_chars ∙ spelled_is))

@@ -1,5 +1,5 @@
 -- Blanks and comments before a text, byte by byte.
-use Rattle.std.proofs.Common.{◌≡◌, ℕ, zero, suc, ◌+◌, ◌<◌, List, [], ◌∷◌, ◌++◌, Bool, true, false, not, ◌&&◌, ◌==◌, nat_lt, if◌then◌else◌, length, take, drop, slice_index, refl, sym, ap, subst, ◌∙◌, arith, append_assoc}
+use Rattle.std.proofs.Common.{◌≡◌, ℕ, ◌+◌, ◌<◌, List, [], ◌∷◌, ◌++◌, Bool, true, false, not, ◌&&◌, ◌==◌, nat_lt, if◌then◌else◌, length, take, drop, slice_index, refl, sym, ap, subst, ◌∙◌, arith, append_assoc}
 use Rattle.std.specs.List.{All}
 use Rattle.std.specs.Str.{IsAscii}
 use Rattle.std.proofs.Math.Seq.{take-add}
@@ -12,13 +12,12 @@ use Rattle.gabc_places.specs.TextOfAnInput.{IsPlain}
 use Rattle.gabc_text.specs.Token.{is_blank}
 use Rattle.gabc_text.specs.RegularText.{is_gap, is_gap_after}
 use Rattle.gabc_score.specs.machine.RegularLen.{IsPlainGap, is_printable}
+use Rattle.gabc_score.proofs.regular_syllables.BytesOfRegularSyllables.{ascii_one}
 
 -- ---- two gaps, one after the other
 
 cases : (x y : Bool) {P Q R S : Bool} → (if x then P else (y && Q)) ≡ true → (P ≡ true → R ≡ true) → (Q ≡ true → S ≡ true) → (if x then R else (y && S)) ≡ true
-cases true y h f g = f h
-cases false true h f g = g h
-cases false false h f g = absurd (cc)
+cases x y h f g = grind arith
 
 gap_join : (within : Bool) (a b : List ℕ) → is_gap_after within a ≡ true → is_gap b ≡ true → is_gap_after within (a ++ b) ≡ true
 gap_join true [] b h k = absurd (cc)
@@ -37,10 +36,6 @@ pub more_joined : (bytes : List ℕ) (n more : ℕ) → IsPlainGap (take n bytes
 more_joined bytes n more g h = subst IsPlainGap (sym (take-add n more bytes)) (joined (take n bytes) (take more (drop n bytes)) g h)
 
 -- ---- one byte
-
-ascii_one : (c : ℕ) → c < 128 → IsAscii (c ∷ [])
-ascii_one c less zero = less
-ascii_one c less (suc i) = omega arith
 
 low_plain : (c : ℕ) → c < 128 → (13 == c) ≡ false → IsPlain c
 low_plain c less e = ((λ w. absurd (true≢false (sym (ap (λ (x : ℕ). 13 == x) w) ∙ e))), (λ w. omega arith))

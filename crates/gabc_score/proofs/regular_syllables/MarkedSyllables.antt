@@ -1,9 +1,8 @@
 -- The spans that are open after a syllable with one span mark, or none.
-use Rattle.std.proofs.Common.{◌≡◌, ℕ, suc, List, [], ◌∷◌, nat_lt, length, codes, Option, Some, refl, ap, ◌∙◌, arith}
+use Rattle.std.proofs.Common.{◌≡◌, ℕ, nat_lt, length, codes, Option, ap, ◌∙◌, arith}
 use Rattle.std.proofs.lemmas.Bool.{lt-ltb}
 use lib.Utf8.{encode}
 use Rattle.gabc_text.specs.declared.span_mark.SpanMark.{SpanMark}
-use Rattle.gabc_text.specs.declared.span_mark.SpanMark.TheVariants.{OpensEu}
 use Rattle.gabc_text.specs.RegularText.{tags_of}
 use Rattle.gabc_text.specs.ViewFacts.{span_tags}
 use Rattle.gabc_score.specs.declared.before.Spans.{Spans}
@@ -18,8 +17,7 @@ use Rattle.gabc_score.proofs.syllables_of_units.UnitGivesOneSyllable.{unit_past}
 after_mark : (o : Option SpanMark) (spans : Spans)
     → (after_tags (codes "<eu>") (codes "</eu>") spans.eu (tags_of o) ≡ (past_mark o spans).eu) × (after_tags (codes "<nlba>") (codes "</nlba>") spans.nlba (tags_of o) ≡ (past_mark o spans).nlba)
 unfolding encode
-after_mark (Some OpensEu) spans = (refl, refl)
-after_mark _ spans = (refl, refl)
+after_mark o spans = grind arith
 
 pub spans_past : (lines : ℕ) (u : ScoreUnit) (m : UnplacedSyllable) (holds : HoldsUnit lines u m) (spans : Spans) (o : Option SpanMark) → span_tags u.text ≡ tags_of o
     → (eu_past m spans.eu ≡ (past_mark o spans).eu) × (nlba_past m spans.nlba ≡ (past_mark o spans).nlba)
@@ -30,8 +28,4 @@ spans_past lines u m holds spans o e = (
 
 -- whether there is a gap says how many blanks it has
 pub gap_starts : (r : SyllableParts) (n : ℕ) → n ≡ length r.gap → nat_lt 0 n ≡ has_gap r.gap
-gap_starts r n e = ap (nat_lt 0) e ∙ by r.gap
-  where
-    by : (gap : List ℕ) → nat_lt 0 (length gap) ≡ has_gap gap
-    by [] = refl
-    by (c ∷ gap) = lt-ltb 0 (suc (length gap)) (omega arith)
+gap_starts r n e = grind (arith, lt-ltb)

@@ -1,7 +1,6 @@
 -- A score that holds one syllable at most reads another one, by the lists of its characters.
 use Rattle.std.proofs.Math.Bool.{or-false}
-use Rattle.std.proofs.Common.{◌≡◌, ℕ, zero, suc, ◌+◌, ◌-◌, ◌<◌, ◌≤◌, ◌||◌, not, nat_lt, Bool, true, false, List, [], ◌∷◌, ◌++◌, map, length, take, drop, Option, Some, None, is_some, refl, sym, ap, subst, ◌∙◌, arith, append_assoc, append-nil, length-append}
-use Rattle.std.proofs.lemmas.Bool.{true≢false}
+use Rattle.std.proofs.Common.{◌≡◌, ℕ, zero, suc, ◌+◌, ◌-◌, ◌<◌, ◌≤◌, ◌||◌, not, nat_lt, Bool, false, List, [], ◌∷◌, ◌++◌, map, length, take, drop, Option, None, is_some, refl, sym, ap, subst, ◌∙◌, arith, append_assoc, append-nil, length-append}
 use Rattle.std.proofs.lemmas.Bool.Decides.{nat_tests}
 use Rattle.gabc_places.specs.StageLaw.{concat_of}
 use Rattle.gabc_places.specs.Place.{saturating_next_place}
@@ -12,7 +11,6 @@ use Rattle.gabc_places.specs.declared.place.Place.{Place}
 use Rattle.gabc_places.proofs.NothingAfterAnEnd.{both_empty}
 use Rattle.gabc_text.specs.declared.text_event.TextEnd.TheVariants as text_end
 use Rattle.gabc_text.specs.declared.text_event.TextEvent.TheVariants as text
-use Rattle.gabc_text.specs.declared.text_event.TextPart.{TextPart}
 use Rattle.gabc_text.specs.declared.text_event.TextPart.TheVariants as part
 use Rattle.gabc_notes.specs.declared.item.ItemKind.{ItemKind}
 use Rattle.gabc_notes.specs.declared.stage.NoteEnd.TheVariants as note_end
@@ -21,29 +19,27 @@ use Rattle.gabc_score.specs.declared.events.BodyEvent.{BodyEvent}
 use Rattle.gabc_score.specs.declared.events.BodyEvent.TheVariants as event
 use Rattle.gabc_score.specs.Canonical.{placed_syllables_by}
 use Rattle.gabc_score.specs.NoteBeforeClef.{found_first}
-use Rattle.gabc_score.specs.ScoreEvents.{ScoreOutput, Syllable, findings_now, outputs_of}
+use Rattle.gabc_score.specs.ScoreEvents.{ScoreOutput, Syllable, findings_now}
 use Rattle.gabc_score.specs.Syllable.{UnplacedSyllable, PlacedSyllable}
 use Rattle.gabc_score.specs.machine.BodyBuilder.{with_all, code_in}
 use Rattle.gabc_score.specs.machine.Gatherer.{Gathered, with_event, with_snippet}
-use Rattle.gabc_score.specs.machine.ScoreStage.{HeldScore, placed_after, point_outputs, with_held, score_past}
+use Rattle.gabc_score.specs.machine.ScoreStage.{HeldScore, placed_after, point_outputs, score_past}
 use Rattle.gabc_score.specs.machine.SyllableBuilder.{made_from}
 use Rattle.gabc_score.proofs.building.EventsOfOnePoint.{with_all_append}
 use Rattle.gabc_score.proofs.order.FindingsOfParts.{found, found_append, found_onto}
 use Rattle.gabc_score.proofs.regular_syllables.PointsPass.{score_through, points_through, NoneStops}
 use Rattle.gabc_score.proofs.score_events.EventsStayWithinBounds.{none_passed}
 use Rattle.gabc_score.proofs.resuming.SameButHeld.{all_stay}
+use Rattle.gabc_score.proofs.resuming.MachinesPassAgain.{none_is}
+use Rattle.gabc_score.proofs.resuming.CharactersGathered.{few_dropped}
 
 -- ---- what was made before does not count
 
 abbrev put_before : List UnplacedSyllable → Gathered → Gathered
 put_before ps g = record g { made = ps ++ g.made }
 
-part_before : (ps : List UnplacedSyllable) (g : Gathered) (p : TextPart) → with_event (put_before ps g) (event.Text (text.Part p)) ≡ put_before ps (with_event g (event.Text (text.Part p)))
-part_before ps g part.WordStart = refl
-part_before ps g _ = refl
-
 event_before : (ps : List UnplacedSyllable) (g : Gathered) (e : BodyEvent) → with_event (put_before ps g) e ≡ put_before ps (with_event g e)
-event_before ps g (event.Text (text.Part p)) = part_before ps g p
+event_before ps g (event.Text (text.Part part.WordStart)) = refl
 event_before ps g (event.Text (text.Ended text_end.Notes)) = refl
 event_before ps g (event.Notes line (note.Ended note_end.Close n)) =
     ap (λ (ms : List UnplacedSyllable). record (with_event g (event.Notes line (note.Ended note_end.Close n))) { made = ms })
@@ -61,15 +57,8 @@ made_before es ps made g none some =
 
 -- ---- one syllable at most
 
-few_dropped : (ms : List UnplacedSyllable) → length ms ≤ 1 → drop (length ms - 1) ms ≡ ms
-few_dropped [] few = refl
-few_dropped (m ∷ []) few = refl
-few_dropped (m ∷ n ∷ ms) few = absurd (omega (arith, few))
-
 few_given : (first : Bool) (ms : List UnplacedSyllable) → length ms ≤ 1 → take (length ms - 1) (placed_syllables_by first ms) ≡ []
-few_given first [] few = refl
-few_given first (m ∷ []) few = refl
-few_given first (m ∷ n ∷ ms) few = absurd (omega (arith, few))
+few_given first ms few = grind arith
 
 few_lent : (has_lent : Bool) (ms : List UnplacedSyllable) → length ms ≤ 1 → (has_lent || nat_lt 1 (length ms)) ≡ has_lent
 few_lent has_lent ms few = ap (λ (b : Bool). has_lent || b) {x = nat_lt 1 (length ms)} {y = false} (grind (arith, nat_tests, few)) ∙ or-false has_lent
@@ -80,41 +69,19 @@ held_more (k ∷ []) m h = refl
 held_more (k ∷ l ∷ ms) m h = absurd (omega (arith, h))
 
 lent_more : (ms : List UnplacedSyllable) (m : UnplacedSyllable) → length ms ≤ 1 → nat_lt 1 (length (ms ++ m ∷ [])) ≡ nat_lt 0 (length ms)
-lent_more [] m h = refl
-lent_more (k ∷ []) m h = refl
-lent_more (k ∷ l ∷ ms) m h = absurd (omega (arith, h))
+lent_more ms m h = grind (arith, nat_tests, length-append ms (m ∷ []))
 
 count_more : (ms : List UnplacedSyllable) (m : UnplacedSyllable) → length (ms ++ m ∷ []) - 1 ≡ length ms
 count_more ms m = omega (arith, length-append ms (m ∷ []))
 
 -- ---- what comes first, a note or a clef
 
-none_is : (k : Option ItemKind) → is_some k ≡ false → k ≡ None
-none_is None e = refl
-none_is (Some k) e = absurd (true≢false e)
-
 -- what has come or not at the end has come or not at each point before
 pub stays_before : (es more : List BodyEvent) (g : Gathered) → is_some (with_all g (es ++ more)).first_kind ≡ is_some g.first_kind → (with_all g es).first_kind ≡ g.first_kind
-stays_before es more g same = by (is_some g.first_kind) refl
-  where
-    later : Gathered
-    later = with_all g es
-
-    -- one that came would be there at the end
-    none_comes : is_some g.first_kind ≡ false → (b : Bool) → is_some later.first_kind ≡ b → later.first_kind ≡ g.first_kind
-    none_comes none true e = absurd (true≢false (
-        sym (ap (λ (k : Option ItemKind). is_some k) (all_stay more later e) ∙ e)
-        ∙ ap (λ (h : Gathered). is_some h.first_kind) (sym (with_all_append g es more)) ∙ same ∙ none
-        ))
-    none_comes none false e = none_is later.first_kind e ∙ sym (none_is g.first_kind none)
-
-    by : (b : Bool) → is_some g.first_kind ≡ b → later.first_kind ≡ g.first_kind
-    by true e = all_stay es g e
-    by false e = none_comes e (is_some later.first_kind) refl
+stays_before es more g same = grind (arith, all_stay, with_all_append, none_is)
 
 not_found : (k : Option ItemKind) (p : Place) → found_first k k p ≡ []
-not_found None p = refl
-not_found (Some k) p = refl
+not_found k p = grind arith
 
 -- ---- what one syllable more gathers
 
@@ -186,12 +153,6 @@ module _ (limits : Limits) (lent : Bool) (ms : List UnplacedSyllable) (few : len
     abbrev s : HeldScore
     s = holding next g
 
-    abbrev past_by : Gathered → HeldScore
-    past_by h = record { next = saturating_next_place x.place x.c; gathered = with_held h; has_lent = lent || nat_lt 1 (length h.made) }
-
-    abbrev outputs_by : Gathered → List ScoreOutput
-    outputs_by h = outputs_of (findings_now now ++ found_first g.first_kind h.first_kind x.place) (take (length h.made - 1) (placed_after lent h.made))
-
     goes_on : (made : List UnplacedSyllable) → (with_all g now).made ≡ made → code_in limits (with_all s.gathered now) ≡ None
     goes_on made e = ap (code_in limits) (made_before now ms made g a.none e) ∙ fits_any limits (with_all g now) (ms ++ made) (fits_now limits g now lists m a)
 
@@ -207,16 +168,10 @@ module _ (limits : Limits) (lent : Bool) (ms : List UnplacedSyllable) (few : len
       early_is = made_before now ms [] g a.none none ∙ ap (λ (made : List UnplacedSyllable). record (with_all g now) { made = made }) (append-nil ms)
 
       early_past : score_past s x now ≡ holding (saturating_next_place x.place x.c) (with_all g now)
-      early_past =
-          ap past_by early_is
-          ∙ ap (λ (made : List UnplacedSyllable). record { next = saturating_next_place x.place x.c; gathered = record (with_all g now) { made = made }; has_lent = lent || nat_lt 1 (length ms) }) (few_dropped ms few)
-          ∙ ap (λ (b : Bool). record { next = saturating_next_place x.place x.c; gathered = record (with_all g now) { made = ms }; has_lent = b }) (few_lent lent ms few)
+      early_past = rw (early_is, few_dropped ms few, few_lent lent ms few) refl
 
       early_outputs : point_outputs s x now ≡ []
-      early_outputs =
-          ap outputs_by early_is
-          ∙ ap (λ (fs : List Finding). outputs_of fs (take (length ms - 1) (placed_after lent ms))) found_none
-          ∙ ap (λ (ss : List PlacedSyllable). outputs_of [] ss) (few_given (not lent) ms few)
+      early_outputs = rw (early_is, found_none, few_given (not lent) ms few) refl
 
     -- the last one
     module _ (one : (with_all g now).made ≡ m ∷ []) where
@@ -224,23 +179,14 @@ module _ (limits : Limits) (lent : Bool) (ms : List UnplacedSyllable) (few : len
       last_is = made_before now ms (m ∷ []) g a.none one
 
       last_past : score_past s x now ≡ holding_one (saturating_next_place x.place x.c) (with_all g now) m
-      last_past =
-          ap past_by last_is
-          ∙ ap (λ (made : List UnplacedSyllable). record { next = saturating_next_place x.place x.c; gathered = record (with_all g now) { made = made }; has_lent = lent || nat_lt 1 (length (ms ++ m ∷ [])) }) (held_more ms m few)
-          ∙ ap (λ (b : Bool). record { next = saturating_next_place x.place x.c; gathered = record (with_all g now) { made = m ∷ [] }; has_lent = lent || b }) (lent_more ms m few)
+      last_past = rw (last_is, held_more ms m few, lent_more ms m few) refl
 
       last_outputs : point_outputs s x now ≡ map (λ (s : PlacedSyllable). Syllable s) (take (length ms) (placed_after lent (ms ++ m ∷ [])))
-      last_outputs =
-          ap outputs_by last_is
-          ∙ ap (λ (fs : List Finding). outputs_of fs (take (length (ms ++ m ∷ []) - 1) (placed_after lent (ms ++ m ∷ [])))) found_none
-          ∙ ap (λ (n : ℕ). outputs_of [] (take n (placed_after lent (ms ++ m ∷ [])))) (count_more ms m)
+      last_outputs = rw (last_is, found_none, count_more ms m) refl
 
   pub one_passes : (next : Place) (g : Gathered) (us : List Char) (lists : List (List BodyEvent)) (m : UnplacedSyllable) → length us ≡ length lists → Gathers limits g lists m
       → Pass (holding next g) us lists (holding_one (next_of us next) (with_all g (concat_of lists)) m) (take (length ms) (placed_after lent (ms ++ m ∷ [])))
-  one_passes next g us [] m each a = absurd (none_made (sym a.made ∙ a.none))
-    where
-      none_made : m ∷ [] ≡ [] → ⊥
-      none_made e = cc e
+  one_passes next g us [] m each a = absurd (cc (sym a.made ∙ a.none))
   one_passes next g [] (now ∷ lists) m each a = absurd (omega (arith, each))
   one_passes next g (x ∷ us) (now ∷ more ∷ lists) m each a =
       let later_one = later limits g now (more ∷ lists) m a (omega arith) in

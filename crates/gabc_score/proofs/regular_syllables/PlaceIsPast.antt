@@ -12,13 +12,11 @@ use Rattle.gabc_score.proofs.regular_syllables.OneMore.{next_of}
 
 placed_past : (at : Place) (t : List ℕ) → HasRoom at (length t) → next_of (placed_characters_from at t) at ≡ place_past at t
 placed_past at [] h = refl
-placed_past at (c ∷ t) h =
-    ap (λ (p : Place). next_of (placed_characters_from (next_place at c) t) p) (same_place at c (length t) h) ∙ placed_past (next_place at c) t (room_after at c (length t) h)
+placed_past at (c ∷ t) h = grind (arith, placed_past (next_place at c) t (room_after at c (length t) h), same_place, room_after)
 
 room_past : (at : Place) (t : List ℕ) (n : ℕ) → HasRoom at (length t + n) → HasRoom (place_past at t) n
-room_past at [] n h = let l = h.line in let k = h.column in record { line = omega (arith, l); column = omega (arith, k) }
-room_past at (c ∷ t) n h = let l = h.line in let k = h.column in
-    room_past (next_place at c) t n (room_after at c (length t + n) (record { line = omega (arith, l); column = omega (arith, k) }))
+room_past at [] n h = record { line = omega (arith, h.line); column = omega (arith, h.column) }
+room_past at (c ∷ t) n h = room_past (next_place at c) t n (room_after at c (length t + n) (record { line = omega (arith, h.line); column = omega (arith, h.column) }))
 
 -- after some characters the place does not depend on the one before
 next_any : (us : List Char) (p q : Place) → 0 < length us → next_of us p ≡ next_of us q

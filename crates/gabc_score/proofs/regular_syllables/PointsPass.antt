@@ -1,5 +1,5 @@
 -- A score passes the characters of its body one by one, where no limit is passed.
-use Rattle.std.proofs.Common.{◌≡◌, List, [], ◌∷◌, ◌++◌, map, None, refl, ap, ◌∙◌}
+use Rattle.std.proofs.Common.{◌≡◌, List, [], ◌∷◌, ◌++◌, map, None, refl, ap, arith}
 use Rattle.gabc_places.specs.declared.limits.Limits.{Limits}
 use Rattle.gabc_places.specs.declared.place.Char.{Char}
 use Rattle.gabc_headers.specs.declared.head_event.HeadEvent.{HeadEvent}
@@ -7,7 +7,7 @@ use Rattle.gabc_headers.specs.declared.head_event.HeadEvent.TheVariants as head_
 use Rattle.gabc_score.specs.declared.events.BodyEvent.{BodyEvent}
 use Rattle.gabc_score.specs.ScoreEvents.{ScoreOutput, characters_in}
 use Rattle.gabc_score.specs.machine.BodyBuilder.{with_all, code_in}
-use Rattle.gabc_score.specs.machine.ScoreStage.{HeldScore, point_outputs, score_past, left_by, body_left}
+use Rattle.gabc_score.specs.machine.ScoreStage.{HeldScore, point_outputs, score_past, body_left}
 
 -- these characters as inputs of the body
 abbrev pub inputs_of : List Char → List HeadEvent
@@ -40,6 +40,4 @@ pub points_pass : (limits : Limits) (s : HeldScore) (us : List Char) (lists late
 points_pass limits s [] [] later xs h = refl
 points_pass limits s [] (now ∷ lists) later xs h = absurd h
 points_pass limits s (x ∷ us) [] later xs h = absurd h
-points_pass limits s (x ∷ us) (now ∷ lists) later xs h =
-    ap (λ o. left_by o s x now (inputs_of us ++ xs) (body_left limits (score_past s x now) (lists ++ later) (inputs_of us ++ xs))) h.0
-    ∙ ap (λ (points : List (List ScoreOutput)). point_outputs s x now ∷ points) (points_pass limits (score_past s x now) us lists later xs h.1)
+points_pass limits s (x ∷ us) (now ∷ lists) later xs h = grind (arith, points_pass limits (score_past s x now) us lists later xs h.1)

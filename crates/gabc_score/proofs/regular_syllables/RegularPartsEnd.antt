@@ -1,5 +1,5 @@
 -- Regular texts and snippets end at their marks, and nothing is found in them.
-use Rattle.std.proofs.Common.{◌≡◌, ◌⊎◌, inl, inr, ℕ, zero, suc, ◌+◌, nat_lt, Bool, true, if◌then◌else◌, List, [], ◌∷◌, ◌++◌, length, take, drop, Option, Some, None, refl, sym, ap, subst, ◌∙◌, arith, append_assoc, append-nil, length-append, take-append-drop}
+use Rattle.std.proofs.Common.{◌≡◌, ◌⊎◌, inl, inr, ℕ, zero, suc, nat_lt, Bool, true, if◌then◌else◌, List, [], ◌∷◌, ◌++◌, length, take, drop, Option, Some, None, refl, sym, ap, ◌∙◌, arith, length-append, take-append-drop}
 use Rattle.std.specs.List.{list_any}
 use Rattle.gabc_text.proofs.order.FindingsLieWithin.{found_more}
 use Rattle.gabc_places.specs.StageLaw.{concat_of}
@@ -10,12 +10,11 @@ use Rattle.gabc_places.proofs.PlacesOfAText.{placed_append}
 use Rattle.gabc_places.proofs.PushesAreOne.{joined-append}
 use Rattle.gabc_places.proofs.NothingAfterAnEnd.{both_empty}
 use Rattle.gabc_places.proofs.NumbersByTests.{suc_eqb}
-use Rattle.gabc_text.specs.declared.text_event.TextEnd.{TextEnd}
 use Rattle.gabc_text.specs.declared.text_event.TextEnd.TheVariants as text_end
 use Rattle.gabc_text.specs.declared.text_event.TextEvent.{TextEvent}
 use Rattle.gabc_text.specs.declared.text_event.TextEvent.TheVariants as text
 use Rattle.gabc_text.specs.BuiltText.{found_in}
-use Rattle.gabc_text.specs.Ends.{ends_in, Leaves, EndsOnce}
+use Rattle.gabc_text.specs.Ends.{ends_in, EndsOnce}
 use Rattle.gabc_text.specs.Events.{codes_of, after_tokens, no_events_each}
 use Rattle.gabc_notes.specs.declared.stage.NoteEnd.{NoteEnd}
 use Rattle.gabc_notes.specs.declared.stage.NoteEnd.TheVariants as note_end
@@ -31,17 +30,13 @@ use Rattle.gabc_score.specs.FoundInParts.{snippet_events}
 use Rattle.gabc_score.specs.RegularSyllable.{IsRegularOn, ended_at}
 use Rattle.gabc_score.specs.Units.{Mark, Opens, Next, Closes, events_through, EndsAfter}
 use Rattle.gabc_score.proofs.order.FindingsOfParts.{found, text_through, snippet_through}
+use Rattle.gabc_score.proofs.stopped_scores.PrefixesAreReadAlike.{all_agree}
 use Rattle.gabc_score.proofs.texts_of_body.TextEmitsThroughEnd.{any_after, none_ends, ends_apart, length_of_codes, codes_append}
 
 -- ---- texts
 
 length_back : (a b c d : List ℕ) → a ++ b ≡ c ++ d → b ≡ d → length a ≡ length c
-length_back a b c d e f =
-    let both : length (a ++ b) ≡ length (c ++ d) = ap (length {A = ℕ}) e in
-    let left : length (a ++ b) ≡ length a + length b = length-append a b in
-    let right : length (c ++ d) ≡ length c + length d = length-append c d in
-    let same : length b ≡ length d = ap (length {A = ℕ}) f in
-    omega (arith, both, left, right, same)
+length_back a b c d e f = omega (arith, ap (length {A = ℕ}) e, length-append a b, length-append c d, ap (length {A = ℕ}) f)
 
 module _ (lines : ℕ) where
   abbrev opens_by : Bool → Option Mark
@@ -59,19 +54,7 @@ module _ (lines : ℕ) where
   -- a text ends at the `(` that its tokens leave
   pub text_ends : (at : Place) (prefix : List Char) (end : Char) (rest : List Char) → (let xs = prefix ++ end ∷ rest in
       EndsOnce at (codes_of xs) → after_tokens (codes_of xs) ≡ codes_of (end ∷ rest) → EndsAfter lines (text_from texts_by_definition at xs) prefix Opens)
-  text_ends at prefix end rest e h =
-      let xs = prefix ++ end ∷ rest in
-      let rest_is : e.rest ≡ codes_of (end ∷ rest) = e.rest_is ∙ h in
-      let count : length e.before ≡ length prefix =
-      e.one_each ∙ length_back e.prefix e.rest (codes_of prefix) (codes_of (end ∷ rest)) (sym e.text_is ∙ codes_append prefix (end ∷ rest)) rest_is ∙ length_of_codes prefix in
-      subst (λ ls. EndsAfter lines (InText ls) prefix Opens)
-      (sym (e.events_are ∙ ap (λ how. e.before ++ (e.last ++ text.Ended how ∷ []) ∷ no_events_each e.rest) (notes_end e.how e.leaves rest_is)))
-      (ends_there e.before e.last e.rest prefix count e.none_before e.none_in_last)
-    where
-      notes_end : (how : TextEnd) → Leaves how e.rest → e.rest ≡ codes_of (end ∷ rest) → how ≡ text_end.Notes
-      notes_end text_end.Notes l k = refl
-      notes_end text_end.Finished l k = absurd (cc)
-      notes_end (text_end.Cut place) l k = absurd (cc)
+  text_ends at prefix end rest e h = grind (arith, length_back, codes_append, length_of_codes, ends_there)
 
 -- what is found in a text through some of its characters, where nothing is found in all
 pub text_none : (lists : List (List TextEvent)) (xs : List Char) → found_in (concat_of lists) ≡ [] → found (concat_of (events_through (InText lists) xs)) ≡ []
@@ -109,13 +92,7 @@ module _ (lines line : ℕ) (opened : Place) where
       → take (suc (length prefix)) lists ≡ through_end prefix how n → EndsAfter lines (InNotes line opened lists) prefix (mark_by lines line opened how)
   notes_ends [] [] how n k h = absurd (cc)
   notes_ends [] (x ∷ prefix) how n k h = absurd (cc)
-  notes_ends (l ∷ lists) [] how n k h = ap mark_of (head_same l (note.Ended how n ∷ []) [] [] h) ∙ by how k
-    where
-      by : (how : NoteEnd) → (how ≡ note_end.Next) ⊎ (how ≡ note_end.Close) → mark_of (note.Ended how n ∷ []) ≡ Some (mark_by lines line opened how)
-      by note_end.Next k = refl
-      by note_end.Close k = refl
-      by (note_end.Cut place) (inl e) = absurd (cc)
-      by (note_end.Cut place) (inr e) = absurd (cc)
+  notes_ends (l ∷ lists) [] how n k h = grind (arith, head_same)
   notes_ends (l ∷ lists) (x ∷ prefix) how n k h = (
     ap mark_of (head_same l (note.Kept x ∷ []) (take (suc (length prefix)) lists) (through_end prefix how n) h),
     notes_ends lists prefix how n k (tail_same l (note.Kept x ∷ []) (take (suc (length prefix)) lists) (through_end prefix how n) h),
@@ -141,15 +118,8 @@ module _ (gabc_prefix : (split : Bool) (macros : ℕ) (xs ys zs : List Char) →
       → (let e = ended_at at t (code_of how) in take (suc (length e.characters)) (events (e.characters ++ e.end ∷ rest)) ≡ through_end e.characters how n)
   alone events prefix at t how n rest h =
       let e = ended_at at t (code_of how) in
-      let xs = e.characters ++ e.end ∷ [] in
-      let count : length xs ≡ suc (length e.characters) = length-append e.characters (e.end ∷ []) ∙ omega arith in
-      let placed : placed_characters_from at (t ++ code_of how ∷ []) ≡ xs = placed_append at t (code_of how ∷ []) in
-      ap (λ ys. take (suc (length e.characters)) (events ys)) (sym (append_assoc e.characters (e.end ∷ []) rest))
-      ∙ ap (λ k. take k (events (xs ++ rest))) (sym count)
-      ∙ prefix xs rest []
-      ∙ ap (λ ys. take (length xs) (events ys)) (append-nil xs ∙ sym placed)
-      ∙ ap (take (length xs)) h
-      ∙ ap (λ k. take k (each_kept e.characters ++ (note.Ended how n ∷ []) ∷ ([] ∷ []))) count
+      all_agree events prefix e.characters e.end rest []
+      ∙ ap (take (suc (length e.characters))) (ap events (sym (placed_append at t (code_of how ∷ []))) ∙ h)
       ∙ front e.characters
     where
       front : (cs : List Char) → take (suc (length cs)) (each_kept cs ++ (note.Ended how n ∷ []) ∷ ([] ∷ [])) ≡ through_end cs how n
@@ -175,13 +145,7 @@ module _ (gabc_prefix : (split : Bool) (macros : ℕ) (xs ys zs : List Char) →
     pub nothing : (let e = ended_at at t (code_of how) in found (concat_of (events_through (snippet_from lines macros line opened (e.characters ++ e.end ∷ rest)) e.characters)) ≡ [])
 
   ends_by : (line : ℕ) (opened at : Place) (t : List ℕ) (how : NoteEnd) (rest : List Char) → (how ≡ note_end.Next) ⊎ (how ≡ note_end.Close) → ReadThrough line at t how rest → SnippetEnds line opened at t how rest
-  ends_by line opened at t how rest k r =
-      let e = ended_at at t (code_of how) in
-      let lists = snippet_events lines macros line (e.characters ++ e.end ∷ rest) in
-      record {
-        ends = notes_ends lines line opened lists e.characters how r.bytes k r.events_are;
-        nothing = snippet_through line opened lists e.characters ∙ ap (λ ls. notes_found (concat_of ls)) r.events_are ∙ nothing_found e.characters how r.bytes;
-      }
+  ends_by line opened at t how rest k r = grind (arith, notes_ends, snippet_through, nothing_found)
 
   pub next_ends : (line : ℕ) (opened at : Place) (t : List ℕ) (rest : List Char) → IsRegularOn line t → nat_lt 0 lines ≡ true → SnippetEnds line opened at t note_end.Next rest
   next_ends line opened at t rest r s = ends_by line opened at t note_end.Next rest (inl refl) (read_through line at t note_end.Next rest r (refl, s) (refl, refl))

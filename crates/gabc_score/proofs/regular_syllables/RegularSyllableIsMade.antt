@@ -48,6 +48,8 @@ use Rattle.gabc_score.specs.Units.{Closes, EndedPart, BodyUnit, JustText, CutPar
 use Rattle.gabc_score.proofs.holding.SnippetsAreHeld.{bytes_stand, next_turn}
 use Rattle.gabc_score.proofs.holding.SpansBetweenCharacters.{part_text}
 use Rattle.gabc_score.proofs.order.FindingsOfParts.{found, found_onto}
+use Rattle.gabc_score.proofs.holding.PartsAreAUnit.{none_left}
+use Rattle.gabc_score.proofs.resuming.PartsAreOne.{nothing_marked}
 use Rattle.gabc_score.proofs.regular_syllables.RegularPartsEnd.{head_same, tail_same, next_ends, close_ends}
 use Rattle.gabc_score.proofs.regular_syllables.RegularSyllableIsRead.{notes_at, unit_placed, syllable_passes, text_there, split_of, splits}
 use Rattle.gabc_score.proofs.syllables_of_units.UnitGivesOneSyllable.{one_syllable}
@@ -61,14 +63,6 @@ one_byte c t h = ap (λ (bs : List ℕ). bs ++ encodes t) (encode_ascii c (omega
 with_byte : (a : List ℕ) (c : ℕ) (b : List ℕ) → c < 128 → encodes a ++ c ∷ encodes b ≡ encodes (a ++ c ∷ b)
 with_byte a c b h = ap (λ (k : List ℕ). encodes a ++ k) (sym (one_byte c b h)) ∙ sym (encodes-append a (c ∷ b))
 
-pub none_left : {X Y : Type 0} (f : X → Y) (xs : List X) (x : X) → map f (xs ++ x ∷ []) ≡ [] → ⊥
-none_left f [] x e = cc
-none_left f (y ∷ xs) x e = cc
-
-not_none : {X : Type 0} (xs : List X) (x : X) → xs ++ x ∷ [] ≡ [] → ⊥
-not_none [] x e = cc
-not_none (y ∷ xs) x e = cc
-
 abbrev kept_texts : List ReadSnippet → List (List ℕ)
 kept_texts ss = map (λ (s : ReadSnippet). s.kept) ss
 
@@ -78,7 +72,7 @@ kept_texts ss = map (λ (s : ReadSnippet). s.kept) ss
 brackets : (earlier : List ReadSnippet) (last : ReadSnippet) (nexts : List (List ℕ)) (final : List ℕ) → kept_texts (earlier ++ last ∷ []) ≡ nexts ++ final ∷ []
     → flat_map (λ (s : ReadSnippet). s.kept ++ codes "|") earlier ++ (last.kept ++ codes ")") ≡ notes_spelled nexts final
 brackets [] last [] final e = ap (λ (t : List ℕ). t ++ 41 ∷ []) (head_same last.kept final [] [] e)
-brackets [] last (t ∷ nexts) final e = absurd (not_none nexts final (sym (tail_same last.kept t [] (nexts ++ final ∷ []) e)))
+brackets [] last (t ∷ nexts) final e = absurd (nothing_marked nexts [] final (tail_same last.kept t [] (nexts ++ final ∷ []) e))
 brackets (s ∷ earlier) last [] final e = absurd (none_left (λ (s : ReadSnippet). s.kept) earlier last (tail_same s.kept final (kept_texts (earlier ++ last ∷ [])) [] e))
 brackets (s ∷ earlier) last (t ∷ nexts) final e =
     let tail : List ℕ = last.kept ++ codes ")" in
@@ -94,9 +88,9 @@ HaveBytes bytes (s ∷ ss) = (slice s.snippet.span bytes ≡ encodes s.kept) × 
 
 bars : (bytes : List ℕ) (ss : List ReadSnippet) (nexts : List (List ℕ)) (final : List ℕ) → kept_texts ss ≡ nexts ++ final ∷ [] → HaveBytes bytes ss
     → with_bars bytes (map (λ (s : ReadSnippet). s.snippet) ss) ++ codes ")" ≡ encodes (notes_spelled nexts final)
-bars bytes [] nexts final e h = absurd (not_none nexts final (sym e))
+bars bytes [] nexts final e h = absurd (nothing_marked nexts [] final e)
 bars bytes (s ∷ []) [] final e h = ap (λ (t : List ℕ). t ++ codes ")") (h.0 ∙ ap encodes (head_same s.kept final [] [] e)) ∙ with_byte final 41 [] (omega arith)
-bars bytes (s ∷ []) (t ∷ nexts) final e h = absurd (not_none nexts final (sym (tail_same s.kept t [] (nexts ++ final ∷ []) e)))
+bars bytes (s ∷ []) (t ∷ nexts) final e h = absurd (nothing_marked nexts [] final (tail_same s.kept t [] (nexts ++ final ∷ []) e))
 bars bytes (s ∷ z ∷ ss) [] final e h = absurd (let k = tail_same s.kept final (kept_texts (z ∷ ss)) [] e in cc)
 bars bytes (s ∷ z ∷ ss) (t ∷ nexts) final e h =
     let more : List ℕ = with_bars bytes (map (λ (s : ReadSnippet). s.snippet) (z ∷ ss)) in
@@ -112,15 +106,13 @@ have_bytes lines all text before (s ∷ ss) h =
 
 on_line : (lines : ℕ) (all text : List ℕ) (before : List ReadSnippet) (s : ReadSnippet) (line : ℕ) (t : List ℕ) → line ≡ length before % (lines + 1) → IsHeld lines all text before s → s.kept ≡ t
     → line_and_text (encodes all) s.snippet ≡ (line, encodes t)
-on_line lines all text before s line t l h e =
-    ap₂ (λ (n : ℕ) (bytes : List ℕ). (n, bytes)) (h.line_is ∙ sym l)
-    (part_text all s.snippet.span s.kept h.stands ∙ bytes_stand all s.snippet.span s.kept h.stands ∙ ap encodes e)
+on_line lines all text before s line t l h e = grind (arith, part_text, bytes_stand)
 
 -- each snippet stands on the line whose turn it is
 on_lines : (lines : ℕ) (all text : List ℕ) (nexts : List (List ℕ)) (final : List ℕ) (line : ℕ) (before ss : List ReadSnippet) → line ≡ length before % (lines + 1) → kept_texts ss ≡ nexts ++ final ∷ []
     → ((b a : List ReadSnippet) (s : ReadSnippet) → before ++ ss ≡ b ++ s ∷ a → IsHeld lines all text b s)
     → map (line_and_text (encodes all)) (map (λ (s : ReadSnippet). s.snippet) ss) ≡ with_lines lines line nexts final
-on_lines lines all text nexts final line before [] l e h = absurd (not_none nexts final (sym e))
+on_lines lines all text nexts final line before [] l e h = absurd (nothing_marked nexts [] final e)
 on_lines lines all text [] final line before (s ∷ z ∷ ss) l e h = absurd (let k = tail_same s.kept final (kept_texts (z ∷ ss)) [] e in cc)
 on_lines lines all text [] final line before (s ∷ []) l e h =
     ap (λ (t : ℕ × List ℕ). t ∷ []) (on_line lines all text before s line final l (h before [] s refl) (head_same s.kept final [] [] e))
@@ -141,15 +133,13 @@ module _ (gabc_again : (split : Bool) (macros : ℕ) (at : Place) (how : NoteEnd
   module _ (all text : List ℕ) where
     kept_here : (line : ℕ) (at : Place) (t : List ℕ) (before : List ReadSnippet) (s : ReadSnippet) → line ≡ length before % (lines + 1) → IsHeld lines all text before s
         → s.characters ≡ placed_characters_from at t → IsRegularOn line t → s.kept ≡ t
-    kept_here line at t before s l h e r =
-        h.kept_is ∙ ap (λ (k : ℕ). kept_on_line k s.characters) (h.line_is ∙ sym l) ∙ ap (λ (xs : List Char). kept_on_line line xs) e ∙ kept_regular line at t r
+    kept_here line at t before s l h e r = grind (arith, kept_regular)
 
     kept_all : (nexts : List (List ℕ)) (final : List ℕ) (at : Place) (line : ℕ) (before ss : List ReadSnippet) → line ≡ length before % (lines + 1) → AreRegularFrom lines line nexts final
         → map (λ (s : ReadSnippet). s.characters) ss ≡ map (λ (e : EndedPart). e.characters) (notes_at at nexts final)
         → ((b a : List ReadSnippet) (s : ReadSnippet) → before ++ ss ≡ b ++ s ∷ a → IsHeld lines all text b s) → kept_texts ss ≡ nexts ++ final ∷ []
     kept_all [] final at line before [] l r e h = absurd (cc)
-    kept_all [] final at line before (s ∷ z ∷ ss) l r e h =
-        absurd (let k = tail_same s.characters (placed_characters_from at final) (map (λ (s : ReadSnippet). s.characters) (z ∷ ss)) [] e in cc)
+    kept_all [] final at line before (s ∷ z ∷ ss) l r e h = grind (arith, tail_same)
     kept_all [] final at line before (s ∷ []) l r e h =
         ap (λ (t : List ℕ). t ∷ []) (kept_here line at final before s l (h before [] s refl) (head_same s.characters (placed_characters_from at final) [] [] e) r)
     kept_all (t ∷ nexts) final at line before [] l r e h = absurd (cc)
@@ -167,8 +157,7 @@ module _ (gabc_again : (split : Bool) (macros : ℕ) (at : Place) (how : NoteEnd
 module _ (kept_alone : (t rest : List ℕ) → IsRegularText t → kept (t ++ 40 ∷ rest) ≡ t)
     (kept_after : (b : ℕ) (gap t rest : List ℕ) → is_gap (b ∷ gap) ≡ true → IsRegularText t → kept (b ∷ gap ++ (t ++ 40 ∷ rest)) ≡ 32 ∷ t) where
   pub text_kept : (gap t rest : List ℕ) → is_gap gap ≡ true → IsRegularText t → kept ((gap ++ t) ++ 40 ∷ rest) ≡ gap_kept gap ++ t
-  text_kept [] t rest b r = kept_alone t rest r
-  text_kept (c ∷ gap) t rest b r = ap kept (append_assoc (c ∷ gap) t (40 ∷ rest)) ∙ kept_after c gap t rest b r
+  text_kept gap t rest b r = grind (arith, append_assoc)
 
 -- ---- its text and its translation
 
@@ -191,8 +180,7 @@ module _ (starts : (t : List ℕ) → (view_in t).word_start ≡ (view_facts t).
     (kept_after : (b : ℕ) (gap t rest : List ℕ) → is_gap (b ∷ gap) ≡ true → IsRegularText t → kept (b ∷ gap ++ (t ++ 40 ∷ rest)) ≡ 32 ∷ t)
     (is_printed : (whole t : List ℕ) → StandsForView whole (view_in t) t → canonical_text (view_in t) (encodes whole) ≡ encodes (text_of_tokens (text_tokens (view_facts t)))) where
   text_says : (gap t rest : List ℕ) → is_gap gap ≡ true → IsRegularText t → view_facts ((gap ++ t) ++ 40 ∷ rest) ≡ record (view_facts t) { word_start = has_gap gap }
-  text_says [] t rest b r = says_alone t rest r ∙ ap (λ (w : Bool). record (view_facts t) { word_start = w }) r.no_start
-  text_says (c ∷ gap) t rest b r = ap view_facts (append_assoc (c ∷ gap) t (40 ∷ rest)) ∙ says_after c gap t rest b r
+  text_says gap t rest b r = grind (arith, append_assoc)
 
   -- the canonical text of a syllable that has this text and these notes
   canonical_by : (w : Bool) (a b t notes bars : List ℕ) → a ++ b ≡ encodes t → bars ++ codes ")" ≡ encodes notes
@@ -200,11 +188,7 @@ module _ (starts : (t : List ℕ) → (view_in t).word_start ≡ (view_facts t).
   canonical_by w a b t notes bars h k =
       ap (λ (z : List ℕ). cond w (10 ∷ []) [] ++ z)
       (sym (append_assoc a b (codes "(" ++ (bars ++ codes ")"))) ∙ ap (λ (z : List ℕ). z ++ (codes "(" ++ (bars ++ codes ")"))) h ∙ ap (λ (z : List ℕ). encodes t ++ 40 ∷ z) k ∙ with_byte t 40 notes (omega arith))
-      ∙ by w
-    where
-      by : (w : Bool) → cond w (10 ∷ []) [] ++ encodes (t ++ 40 ∷ notes) ≡ encodes (cond w (10 ∷ []) [] ++ (t ++ 40 ∷ notes))
-      by true = sym (one_byte 10 (t ++ 40 ∷ notes) (omega arith))
-      by false = refl
+      ∙ grind (arith, one_byte 10 (t ++ 40 ∷ notes) (omega arith))
 
   -- ---- a syllable that holds the unit
 

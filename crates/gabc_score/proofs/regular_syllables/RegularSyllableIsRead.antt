@@ -1,11 +1,11 @@
 -- A regular syllable is read as it stands.
-use Rattle.std.proofs.Common.{◌≡◌, ◌⊎◌, inl, inr, ℕ, zero, suc, ◌+◌, nat_lt, Bool, true, List, [], ◌∷◌, ◌++◌, length, refl, sym, ap, subst, ◌∙◌, arith, append_assoc, length-append, take}
+use Rattle.std.proofs.Common.{◌≡◌, ◌⊎◌, inr, ℕ, suc, ◌+◌, nat_lt, Bool, true, List, [], ◌∷◌, ◌++◌, length, refl, sym, ap, subst, ◌∙◌, arith, append_assoc, length-append, take}
 use Rattle.gabc_text.proofs.KeptCharacters.{codes_placed}
 use Rattle.gabc_places.specs.StageLaw.{concat_of}
 use Rattle.gabc_places.specs.declared.place.Place.{Place}
 use Rattle.gabc_places.specs.declared.place.Char.{Char}
 use Rattle.gabc_places.specs.declared.code.Finding.{Finding}
-use Rattle.gabc_places.specs.Place.{place_past, placed_characters_from}
+use Rattle.gabc_places.specs.Place.{placed_characters_from}
 use Rattle.gabc_places.proofs.PlacesOfAText.{length_placed, placed_append}
 use Rattle.gabc_places.proofs.PushesAreOne.{joined-append}
 use Rattle.gabc_text.specs.RegularText.{IsRegularText, is_gap}
@@ -33,19 +33,14 @@ notes_at at nexts final = nexts_at at nexts ++ final_at at nexts final ∷ []
 
 notes_placed : (at : Place) (nexts : List (List ℕ)) (final : List ℕ) → with_ends (notes_at at nexts final) ≡ placed_characters_from at (notes_spelled nexts final)
 notes_placed at [] final = sym (placed_append at final (41 ∷ []))
-notes_placed at (s ∷ nexts) final =
-    ap (λ (xs : List Char). placed_characters_from at s ++ record { c = 124; place = place_past at s } ∷ xs) (notes_placed (after_part at s 124) nexts final)
-    ∙ sym (placed_append at s (124 ∷ notes_spelled nexts final))
+notes_placed at (s ∷ nexts) final = grind (arith, notes_placed (after_part at s 124) nexts final, placed_append)
 
 pub unit_placed : (at : Place) (r : SyllableParts) → characters_in (unit_at at r) ≡ placed_characters_from at (spelled r)
-unit_placed at r = let t = r.gap ++ r.text in
-    ap (λ (xs : List Char). placed_characters_from at t ++ record { c = 40; place = place_past at t } ∷ xs) (notes_placed (after_part at t 40) r.nexts r.final)
-    ∙ sym (placed_append at t (40 ∷ notes_spelled r.nexts r.final))
+unit_placed at r = grind (arith, notes_placed, placed_append)
 
 -- where more than one snippet stands, there are NABC lines
 pub splits : (t : List ℕ) (nexts : List (List ℕ)) (lines : ℕ) → ((t ∷ nexts) ≡ []) ⊎ (nat_lt 0 lines ≡ true) → nat_lt 0 lines ≡ true
-splits t nexts lines (inl k) = absurd (cc)
-splits t nexts lines (inr k) = k
+splits t nexts lines h = grind arith
 
 -- ---- the events
 
@@ -71,11 +66,10 @@ module _ (lines macros : ℕ) where
       let own : length first ≡ suc (length e.characters) = through_length part e.characters in
       let both : length (first ++ p.front) ≡ length first + length p.front = length-append first p.front in
       let whole : length (e.characters ++ e.end ∷ []) ≡ length e.characters + 1 = length-append e.characters (e.end ∷ []) in
-      let on = p.count in
       record {
         front = first ++ p.front;
         all_is = h ∙ ap (λ (ls : List (List BodyEvent)). first ++ ls) p.all_is ∙ sym (append_assoc first p.front later);
-        count = omega (arith, own, both, whole, on);
+        count = omega (arith, own, both, whole, p.count);
         nothing = nothing_joined first p.front none p.nothing;
       }
 
@@ -83,10 +77,7 @@ module _ (lines macros : ℕ) where
   pass_none later = record { front = []; all_is = refl; count = refl; nothing = refl }
 
   ends_more : (e : EndedPart) (us : List Char) → length (e.characters ++ e.end ∷ us) ≡ length (e.characters ++ e.end ∷ []) + length us
-  ends_more e us =
-      let a : length (e.characters ++ e.end ∷ us) ≡ length e.characters + suc (length us) = length-append e.characters (e.end ∷ us) in
-      let b : length (e.characters ++ e.end ∷ []) ≡ length e.characters + 1 = length-append e.characters (e.end ∷ []) in
-      omega (arith, a, b)
+  ends_more e us = omega (arith, length-append e.characters (e.end ∷ us), length-append e.characters (e.end ∷ []))
 
   module _ (gabc_prefix : (split : Bool) (macros : ℕ) (xs ys zs : List Char) → take (length xs) (note_events split macros (xs ++ ys)) ≡ take (length xs) (note_events split macros (xs ++ zs)))
       (nabc_prefix : (xs ys zs : List Char) → take (length xs) (nabc_events (xs ++ ys)) ≡ take (length xs) (nabc_events (xs ++ zs))) where
@@ -129,25 +120,17 @@ module _ (lines macros : ℕ) where
         (ends_after_it : (b : ℕ) (gap t rest : List ℕ) → is_gap (b ∷ gap) ≡ true → IsRegularText t → after_tokens (b ∷ gap ++ (t ++ 40 ∷ rest)) ≡ 40 ∷ rest) where
       text_laws : (gap t rest : List ℕ) → is_gap gap ≡ true → IsRegularText t → TextLaws gap t rest
       text_laws [] t rest b r = record { ends = ends_alone t rest r; nothing = λ at. found_alone at t rest r }
-      text_laws (c ∷ gap) t rest b r = let e = append_assoc (c ∷ gap) t (40 ∷ rest) in record {
-        ends = ap after_tokens e ∙ ends_after_it c gap t rest b r;
-        nothing = λ at. ap (findings at) e ∙ found_after at c gap t rest b r;
-      }
+      text_laws (c ∷ gap) t rest b r = grind (arith, append_assoc)
 
       codes_are : (at : Place) (t : List ℕ) (ys : List Char) → (let e = ended_at at t 40 in codes_of (e.characters ++ e.end ∷ ys) ≡ t ++ 40 ∷ codes_of ys)
       codes_are at t ys = let e = ended_at at t 40 in codes_append e.characters (e.end ∷ ys) ∙ ap (λ (cs : List ℕ). cs ++ 40 ∷ codes_of ys) (codes_placed at t)
 
       pub text_there : (at : Place) (r : SyllableParts) (ys : List Char) → IsRegularSyllable lines r
           → (let e = ended_at at (r.gap ++ r.text) 40 in EndsAfter lines (text_from texts_by_definition at (e.characters ++ e.end ∷ ys)) e.characters Opens)
-      text_there at r ys h =
-          let e = ended_at at (r.gap ++ r.text) 40 in
-          let laws = text_laws r.gap r.text (codes_of ys) h.blanks h.text in
-          text_ends lines at e.characters e.end ys (ends at (codes_of (e.characters ++ e.end ∷ ys)))
-          (ap after_tokens (codes_are at (r.gap ++ r.text) ys) ∙ laws.ends)
+      text_there at r ys h = grind (arith, text_laws, text_ends, codes_are)
 
       pub split_of : (lines : ℕ) (nexts : List (List ℕ)) → (lines ≡ 0 → nexts ≡ []) → (nexts ≡ []) ⊎ (nat_lt 0 lines ≡ true)
-      split_of zero nexts h = inl (h refl)
-      split_of (suc n) nexts h = inr (grind arith)
+      split_of lines nexts h = grind arith
 
       pub syllable_passes : (at : Place) (r : SyllableParts) (xs : List Char) → IsRegularSyllable lines r → (let u = unit_at at r in let us = characters_in u in
           Passes (length us) (lists_of (text_from texts_by_definition at (us ++ xs)) (us ++ xs)) (lists_of (text_from texts_by_definition (after_mark u.final.end.place) xs) xs))

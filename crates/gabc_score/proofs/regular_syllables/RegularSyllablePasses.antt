@@ -10,48 +10,41 @@ use Rattle.gabc_places.specs.declared.place.Place.{Place}
 use Rattle.gabc_places.specs.declared.place.Char.{Char}
 use Rattle.gabc_places.specs.Place.{place_past, placed_characters_from}
 use Rattle.gabc_places.proofs.PlacesOfAText.{length_placed}
-use Rattle.gabc_headers.specs.declared.head_event.HeadEvent.{HeadEvent}
-use Rattle.gabc_text.specs.Events.{CountsFit, codes_of}
+use Rattle.gabc_text.specs.Events.{CountsFit}
 use Rattle.gabc_text.specs.RegularText.{IsRegularText, is_gap}
 use Rattle.gabc_text.specs.View.{kept}
-use Rattle.gabc_text.specs.ViewFacts.{ViewFacts, view_facts, span_tags, tags_among}
+use Rattle.gabc_text.specs.ViewFacts.{view_facts, span_tags}
 use Rattle.gabc_text.proofs.KeptCharacters.{codes_placed}
 use Rattle.gabc_score.specs.declared.before.Spans.{Spans}
 use Rattle.gabc_score.specs.declared.events.BodyEvent.{BodyEvent}
 use Rattle.gabc_score.specs.Before.{sounds}
 use Rattle.gabc_score.specs.Body.{findings_of, is_none}
 use Rattle.gabc_score.specs.Events.{Texts, texts_by_definition, text_from, after_mark, events_from}
-use Rattle.gabc_score.specs.GivesSyllables.{text_inputs}
 use Rattle.gabc_score.specs.RegularSyllable.{SyllableParts, IsRegularSyllable, MakesItsSpelling, spelled, notes_spelled, after_part, nexts_at, unit_at}
-use Rattle.gabc_score.specs.ScoreEvents.{characters_in}
 use Rattle.gabc_score.specs.SpansPast.{eu_past, nlba_past}
 use Rattle.gabc_score.specs.Syllable.{UnplacedSyllable}
 use Rattle.gabc_score.specs.SyllablesOfUnits as units
 use Rattle.gabc_score.specs.UnitRead.{first_events}
 use Rattle.gabc_score.specs.Units.{BodyUnit, EndedPart}
 use Rattle.gabc_score.specs.witness.BodyStage.{texts_by_stage}
-use Rattle.gabc_score.specs.machine.Between.{with_one, past_one, given_before, SoundsNoMore, IsBetween, LeavesRoomFor, GoesThrough, left_between, lists_between, IsAloneWith, IsMadeOf}
+use Rattle.gabc_score.specs.machine.Between.{with_one, past_one, given_before, SoundsNoMore, IsBetween, LeavesRoomFor, GoesThrough, lists_between, IsAloneWith, IsMadeOf}
 use Rattle.gabc_score.specs.machine.BodyBuilder.{with_all}
 use Rattle.gabc_score.specs.machine.Gatherer.{Gathered}
 use Rattle.gabc_score.specs.machine.Preceded.{spans_of}
 use Rattle.gabc_score.specs.machine.ReadAlone.{is_error}
-use Rattle.gabc_score.specs.machine.ScoreStage.{HeldScore, body_left}
+use Rattle.gabc_score.specs.machine.ScoreStage.{HeldScore}
 use Rattle.gabc_score.specs.machine.SyllableBuilder.{nothing_open}
 use Rattle.gabc_score.proofs.building.OneListEachCharacter.{events_each}
 use Rattle.gabc_score.proofs.order.FindingsOfParts.{found, found_onto}
 use Rattle.gabc_score.proofs.regular_syllables.OneMore.{Gathers, holding_one, Pass, next_of, one_passes}
 use Rattle.gabc_score.proofs.regular_syllables.PlaceIsPast.{mark_past, next_past}
-use Rattle.gabc_score.proofs.regular_syllables.PointsPass.{inputs_of, inputs_are_in, score_through, points_through, points_pass}
-use Rattle.gabc_score.proofs.regular_syllables.RegularSyllableIsMade.{none_left}
+use Rattle.gabc_score.proofs.regular_syllables.PointsPass.{inputs_are_in, score_through, points_pass}
+use Rattle.gabc_score.proofs.holding.PartsAreAUnit.{none_left}
 use Rattle.gabc_score.proofs.regular_syllables.RegularSyllableIsRead.{unit_placed}
 use Rattle.gabc_score.proofs.regular_syllables.SpellingIsShort.{canonical_short, keeps_within}
 use Rattle.gabc_score.proofs.regular_syllables.UnitIsGathered.{unit_gathers, unit_is_gathered}
 use Rattle.gabc_score.proofs.resuming.HeldIsRead.{alone_of}
 use Rattle.gabc_score.proofs.resuming.OpenSpans.{opened, leaves_open, none_cut}
-
--- the span marks among what a text says
-abbrev tags_said : ViewFacts → List (List ℕ)
-tags_said v = tags_among v.pieces
 
 module _ (lines macros : ℕ) (at : Place) (r : SyllableParts) (regular : IsRegularSyllable lines r) (fits : CountsFit at (spelled r)) where
   abbrev us : List Char
@@ -80,9 +73,7 @@ module _ (lines macros : ℕ) (at : Place) (r : SyllableParts) (regular : IsRegu
   unit_each = lists_each ∙ ap (length {A = Char}) (sym (unit_placed at r))
 
   first_are : (n : ℕ) → n ≤ length lists → first_events lines macros at (units.characters_in unit ++ []) n ≡ concat_of (take n lists)
-  first_are n h =
-      ap (λ (ys : List Char). first_events lines macros at ys n) (append-nil (units.characters_in unit) ∙ unit_placed at r)
-      ∙ ap (concat_of {T = BodyEvent}) (sym (take-take n (length us) (lists_by texts_by_definition at us) (omega (arith, h, lists_each))))
+  first_are n h = grind (arith, append-nil, unit_placed, take-take, lists_each)
 
   some_stand : 0 < length us
   some_stand = let n = length-append (r.gap ++ r.text) (40 ∷ notes_spelled r.nexts r.final) in omega (arith, size_of_us, n)
@@ -106,16 +97,7 @@ module _ (lines macros : ℕ) (at : Place) (r : SyllableParts) (regular : IsRegu
     tags_are : (says_alone : (t rest : List ℕ) → IsRegularText t → view_facts (t ++ 40 ∷ rest) ≡ view_facts t)
         → (says_after : (b : ℕ) (gap t rest : List ℕ) → is_gap (b ∷ gap) ≡ true → IsRegularText t → view_facts (b ∷ gap ++ (t ++ 40 ∷ rest)) ≡ record (view_facts t) { word_start = true })
         → span_tags (units.score_unit unit []).text ≡ span_tags r.text
-    tags_are says_alone says_after = ap span_tags text_is ∙ by r.gap regular.blanks
-      where
-        text_is : (units.score_unit unit []).text ≡ (r.gap ++ r.text) ++ 40 ∷ notes_spelled r.nexts r.final
-        text_is = ap codes_of (append-nil (units.characters_in unit) ∙ unit_placed at r) ∙ codes_placed at (spelled r)
-
-        by : (gap : List ℕ) → is_gap gap ≡ true → span_tags ((gap ++ r.text) ++ 40 ∷ notes_spelled r.nexts r.final) ≡ span_tags r.text
-        by [] b = ap tags_said (says_alone r.text (notes_spelled r.nexts r.final) regular.text)
-        by (c ∷ gap) b =
-            ap span_tags (append_assoc (c ∷ gap) r.text (40 ∷ notes_spelled r.nexts r.final))
-            ∙ ap tags_said (says_after c gap r.text (notes_spelled r.nexts r.final) b regular.text)
+    tags_are says_alone says_after = grind (arith, append-nil, unit_placed, codes_placed, append_assoc)
 
     pub made_of : (says_alone : (t rest : List ℕ) → IsRegularText t → view_facts (t ++ 40 ∷ rest) ≡ view_facts t)
         → (says_after : (b : ℕ) (gap t rest : List ℕ) → is_gap (b ∷ gap) ≡ true → IsRegularText t → view_facts (b ∷ gap ++ (t ++ 40 ∷ rest)) ≡ record (view_facts t) { word_start = true })
@@ -175,16 +157,7 @@ module _ (lines macros : ℕ) (at : Place) (r : SyllableParts) (regular : IsRegu
           (gathered_is limits g spans_are (record { syllable = room.syllable; input = room.input }) between.nothing between.limit between.follows sounded between.over refl ms)
 
       pub through : GoesThrough limits lines macros at held (spelled r) (given_before held m) next (past_one held next m)
-      through = record { points = points_through held us lists; one_each = passes.one_each ∙ size_of_us; law = law; given_are = passes.given_are }
-        where
-          law : (xs : List HeadEvent) → left_between limits lines macros at held (text_inputs at (spelled r) ++ xs) ≡ points_through held us lists ++ left_between limits lines macros next (past_one held next m) xs
-          law xs =
-              let cs = characters_in xs in
-              ap (λ (ys : List Char). body_left limits held (lists_by texts_by_stage at ys) (inputs_of us ++ xs)) (inputs_are_in us xs)
-              ∙ ap (λ (ls : List (List BodyEvent)). body_left limits held ls (inputs_of us ++ xs)) (stage cs)
-              ∙ points_pass limits held us lists (lists_by texts_by_stage (after_mark unit.final.end.place) cs) xs passes.none_stops
-              ∙ ap (λ (p : Place). points_through held us lists ++ body_left limits (score_through held us lists) (lists_by texts_by_stage p cs) xs) (mark_past at r fits)
-              ∙ ap (λ (h : HeldScore). points_through held us lists ++ body_left limits h (lists_by texts_by_stage next cs) xs) after_is
+      through = grind (arith, passes, size_of_us, inputs_are_in, points_pass, mark_past, after_is)
 
       pub alone : ms ≡ [] → IsAloneWith limits held.gathered (lists_between lines macros at (spelled r)) m
       alone none = subst (λ (ls : List (List BodyEvent)). IsAloneWith limits held.gathered ls m) (sym lists_are) (record {

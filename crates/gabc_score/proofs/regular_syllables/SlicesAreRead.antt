@@ -4,7 +4,7 @@ use Rattle.std.specs.Str.{chars, IsCharBoundary}
 use Rattle.std.proofs.Math.Seq.{get_or-append_seam}
 use Rattle.std.proofs.lemmas.List.{take_at, drop_at}
 use Rattle.std.proofs.lemmas.List.{length-take-le}
-use Rattle.std.proofs.lemmas.Str.{IsUtf8-append, IsUtf8-drop, chars-append, chars_from_encodes, encodes-append, encodes-chars, scalars-chars}
+use Rattle.std.proofs.lemmas.Str.{IsUtf8-append, IsUtf8-drop, chars-append, chars_from_encodes, encodes-append, encodes-chars, scalars-chars, IsCharBoundary-from_take}
 use lib.Utf8.{encodes, scalars}
 use Rattle.gabc_places.specs.declared.place.Char.{Char}
 use Rattle.gabc_places.specs.declared.place.Place.{Place}
@@ -25,7 +25,7 @@ use Rattle.gabc_score.specs.Events.{next_line}
 use Rattle.gabc_score.specs.RegularSyllable.{IsRegularOn, AreRegularFrom, notes_spelled, with_lines}
 use Rattle.gabc_text.specs.RegularText.{IsRegularText, text_part, translation_part}
 use Rattle.gabc_score.specs.SpelledSyllable.{AreTextsOf, AreToCome, IsSpelling, ToCome, first_of}
-use Rattle.gabc_score.proofs.regular_syllables.BytesOfRegularSyllables.{cut_after, one_utf8, split_utf8}
+use Rattle.gabc_score.proofs.regular_syllables.BytesOfRegularSyllables.{one_utf8, split_utf8}
 use Rattle.gabc_score.proofs.regular_syllables.RegularSyllableIsMade.{one_byte}
 
 -- ---- a regular snippet ends at its mark
@@ -33,11 +33,7 @@ use Rattle.gabc_score.proofs.regular_syllables.RegularSyllableIsMade.{one_byte}
 -- lists of events that begin alike, through the one at a mark
 no_mark : (kept more : List (List NoteEvent)) (last at : List NoteEvent) (later : List (List NoteEvent)) → (n : ℕ) → n ≡ length kept + 1
     → take n (kept ++ last ∷ later) ≡ take n (kept ++ at ∷ more) → last ≡ at
-no_mark [] more last at later n e h = by n e h
-  where
-    by : (n : ℕ) → n ≡ 1 → take n (last ∷ later) ≡ take n (at ∷ more) → last ≡ at
-    by zero e h = absurd (omega (arith, e))
-    by (suc n) e h = cc
+no_mark [] more last at later n e h = grind arith
 no_mark (k ∷ kept) more last at later zero e h = absurd (omega (arith, e))
 no_mark (k ∷ kept) more last at later (suc n) e h = no_mark kept more last at later n (omega (arith, e)) (let f : k ∷ take n (kept ++ last ∷ later) ≡ k ∷ take n (kept ++ at ∷ more) = h in cc)
 
@@ -81,17 +77,14 @@ module _ (events : List Char → List (List NoteEvent)) (prefix : (xs ys zs : Li
   many = ap (λ (l : List Char). length l) xs_are ∙ length-append (placed_characters_from at s) (m ∷ []) ∙ ap (λ (n : ℕ). n + 1) (sym (count_kept (placed_characters_from at s)))
 
   ends_at_mark : ⊥
-  ends_at_mark = by (no_mark kept _ (note.Ended how n ∷ []) (note.Kept m ∷ []) ([] ∷ []) (length xs) many
+  ends_at_mark = let same : note.Ended how n ∷ [] ≡ note.Kept m ∷ [] = no_mark kept _ (note.Ended how n ∷ []) (note.Kept m ∷ []) ([] ∷ []) (length xs) many
       (ap (take (length xs)) (sym short)
       ∙ ap (λ (l : List Char). take (length xs) (events l)) (sym (append-nil xs))
       ∙ prefix xs [] zs
       ∙ ap (λ (l : List Char). take (length xs) (events l)) (sym all_are)
       ∙ ap (take (length xs)) long
       ∙ ap (λ (l : List (List NoteEvent)). take (length xs) (l ++ (note.Ended other k ∷ []) ∷ ([] ∷ []))) (ap each_kept (placed_append at s (mark ∷ v)) ∙ kept_through (placed_characters_from at s) m _)
-      ∙ ap (take (length xs)) (append_assoc kept ((note.Kept m ∷ []) ∷ _) _)))
-    where
-      by : note.Ended how n ∷ [] ≡ note.Kept m ∷ [] → ⊥
-      by e = cc
+      ∙ ap (take (length xs)) (append_assoc kept ((note.Kept m ∷ []) ∷ _) _)) in cc
 
 abbrev IsMark : ℕ → Type 0
 IsMark c = (c ≡ 41) ⊎ (c ≡ 124)
@@ -128,9 +121,8 @@ module _ (gabc_prefix : (split : Bool) (macros : ℕ) (xs ys zs : List Char) →
 
       by : ((q : List ℕ) × (s ≡ chars (take n text) ++ q)) ⊎ ((v : List ℕ) × (chars (take n text) ≡ s ++ mark ∷ v) × (v ++ chars (drop n text) ≡ u)) → n ≡ length (encodes s)
       by (inl (q, f)) =
-          let less = h.longest s (mark ∷ u) (sym (chars_from_encodes (s ++ mark ∷ u) text utf8 (sym e))) r in
           let parts = ap (λ (l : List ℕ). length l) (ap encodes f ∙ encodes-append (chars (take n text)) q) ∙ length-append (encodes (chars (take n text))) (encodes q) in
-          omega (arith, less, parts, size)
+          omega (arith, h.longest s (mark ∷ u) (sym (chars_from_encodes (s ++ mark ∷ u) text utf8 (sym e))) r, parts, size)
       by (inr (v, f, g)) = absurd (goes_no_further line s v mark is r (subst (IsRegularOn line) f h.is))
 
 -- ---- the bytes up to a mark, and after it
@@ -167,10 +159,10 @@ module _ (text s u : List ℕ) (mark : ℕ) (utf8 : IsUtf8 text) (e : text ≡ e
   front_utf8 = subst IsUtf8 (sym front_is) (s, ((scalars_parts s (mark ∷ u) scalars_are).0, refl))
 
   pub cut_here : IsCharBoundary text (length (encodes s))
-  cut_here = cut_after text (length (encodes s)) utf8 (omega (arith, less)) front_utf8
+  cut_here = IsCharBoundary-from_take text (length (encodes s)) utf8 (omega (arith, less)) front_utf8
 
   pub cut_next : IsCharBoundary text (length (encodes s) + 1)
-  cut_next = cut_after text (length (encodes s) + 1) utf8 (omega (arith, less))
+  cut_next = IsCharBoundary-from_take text (length (encodes s) + 1) utf8 (omega (arith, less))
       (subst IsUtf8 (sym (ap (take (length (encodes s) + 1)) more_are ∙ take_at (encodes s ++ mark ∷ []) (encodes u) (length (encodes s) + 1) more_len))
       (IsUtf8-append (encodes s) (mark ∷ []) (subst IsUtf8 front_is front_utf8) (one_utf8 mark low)))
 
@@ -181,12 +173,10 @@ to_come it [] final a = ([], (final, (a, refl)))
 to_come it (s ∷ nexts) final a = (s ∷ nexts, (final, (a, refl)))
 
 pub some_come : (it : SpelledSnippets) (texts : List (ℕ × List ℕ)) → ToCome it texts → it.over ≡ false → (nexts : List (List ℕ)) × ((final : List ℕ) × AreToCome it nexts final)
-some_come it [] h goes = absurd (cc (sym h ∙ goes))
-some_come it (t ∷ texts) h goes = (h.0, (h.1.0, h.1.1.0))
+some_come it texts h goes = grind arith
 
 pub none_come : (it : SpelledSnippets) (texts : List (ℕ × List ℕ)) → ToCome it texts → it.over ≡ true → texts ≡ []
-none_come it [] h over = refl
-none_come it (t ∷ texts) h over = absurd (cc (sym over ∙ h.1.1.0.goes_on))
+none_come it texts h over = grind arith
 
 mark_of : List (List ℕ) → ℕ
 mark_of [] = 41
@@ -199,22 +189,18 @@ after_first (s ∷ nexts) final = notes_spelled nexts final
 module _ (it : SpelledSnippets) where
   spelled_parts : (nexts : List (List ℕ)) (final : List ℕ) → notes_spelled nexts final ≡ first_of nexts final ++ mark_of nexts ∷ after_first nexts final
   unfolding mark_of after_first
-  spelled_parts [] final = refl
-  spelled_parts (s ∷ nexts) final = refl
+  spelled_parts nexts final = grind arith
 
   is_mark : (nexts : List (List ℕ)) → IsMark (mark_of nexts)
   unfolding mark_of
-  is_mark [] = inl refl
-  is_mark (s ∷ nexts) = inr refl
+  is_mark nexts = grind arith
 
   low_mark : (nexts : List (List ℕ)) → mark_of nexts < 128
   unfolding mark_of
-  low_mark [] = omega arith
-  low_mark (s ∷ nexts) = omega arith
+  low_mark nexts = grind arith
 
   first_regular : (line : ℕ) (nexts : List (List ℕ)) (final : List ℕ) → AreRegularFrom it.lines line nexts final → IsRegularOn line (first_of nexts final)
-  first_regular line [] final r = r
-  first_regular line (s ∷ nexts) final r = r.0
+  first_regular line nexts final r = grind arith
 
   bytes_are : (nexts : List (List ℕ)) (final : List ℕ) → AreToCome it nexts final → it.rest.now ≡ encodes (first_of nexts final ++ mark_of nexts ∷ after_first nexts final)
   bytes_are nexts final a = a.rest_is ∙ ap encodes (spelled_parts nexts final)
@@ -242,18 +228,14 @@ module _ (it : SpelledSnippets) where
   module _ (gabc_prefix : (split : Bool) (macros : ℕ) (xs ys zs : List Char) → take (length xs) (note_events split macros (xs ++ ys)) ≡ take (length xs) (note_events split macros (xs ++ zs)))
       (nabc_prefix : (xs ys zs : List Char) → take (length xs) (nabc_events (xs ++ ys)) ≡ take (length xs) (nabc_events (xs ++ zs))) where
     pub one_of_some : (n : ℕ) → IsLongestPrefix (IsRegularOn it.line) it.rest.now n → (nexts : List (List ℕ)) (final : List ℕ) → AreToCome it nexts final → n ≡ length (encodes (first_of nexts final))
-    one_of_some n h nexts final a =
-        before_mark gabc_prefix nabc_prefix it.line it.rest.now (first_of nexts final) (after_first nexts final) (mark_of nexts) (is_mark nexts) a.utf8 (bytes_are nexts final a)
-        (first_regular it.line nexts final a.regular) n h
+    one_of_some n h nexts final a = grind (arith, before_mark, after_first, is_mark, bytes_are, first_regular)
 
   -- what comes first, and what is to come then
   module _ (n : ℕ) (len : (nexts : List (List ℕ)) (final : List ℕ) → AreToCome it nexts final → n ≡ length (encodes (first_of nexts final)))
       (after : SpelledSnippets) (lines : after.lines ≡ it.lines) (line : after.line ≡ next_line it.lines it.line) (rest : after.rest.now ≡ drop (n + 1) it.rest.now)
       (over : after.over ≡ not (slice_index it.rest.now n == 124)) (text : List ℕ) (is : text ≡ take n it.rest.now) where
     text_is : (nexts : List (List ℕ)) (final : List ℕ) → AreToCome it nexts final → text ≡ encodes (first_of nexts final)
-    text_is nexts final a =
-        is ∙ ap (λ k. take k it.rest.now) (len nexts final a)
-        ∙ front_is it.rest.now (first_of nexts final) (after_first nexts final) (mark_of nexts) a.utf8 (bytes_are nexts final a) (low_mark nexts)
+    text_is nexts final a = grind (arith, front_is, after_first, bytes_are, low_mark)
 
     mark_there : (nexts : List (List ℕ)) (final : List ℕ) → AreToCome it nexts final → slice_index it.rest.now n ≡ mark_of nexts
     mark_there nexts final a =
@@ -268,23 +250,7 @@ module _ (it : SpelledSnippets) where
     gives : (nexts : List (List ℕ)) (final : List ℕ) → AreToCome it nexts final → (texts : List (ℕ × List ℕ)) → texts ≡ with_lines it.lines it.line nexts final
         → (more : List (ℕ × List ℕ)) × ((texts ≡ (it.line, text) ∷ more) × ToCome after more)
     unfolding mark_of after_first
-    gives [] final a texts e =
-        ([], (e ∙ ap (λ (t : List ℕ). (it.line, t) ∷ []) (sym (text_is [] final a)), over ∙ ap (λ k. not (k == 124)) (mark_there [] final a)))
-    gives (s ∷ nexts) final a texts e =
-        let more = with_lines it.lines (next_line it.lines it.line) nexts final in
-        let left : AreToCome after nexts final = record {
-          regular = subst (λ l. AreRegularFrom l after.line nexts final) (sym lines) (subst (λ l. AreRegularFrom it.lines l nexts final) (sym line) a.regular.1);
-          single = λ z. absurd (cc (a.single (sym lines ∙ z)));
-          rest_is = rest_there (s ∷ nexts) final a;
-          utf8 = subst IsUtf8 (sym rest) (IsUtf8-drop it.rest.now (n + 1) a.utf8 (subst (λ k. IsCharBoundary it.rest.now (k + 1)) (sym (len (s ∷ nexts) final a)) (next_cut (s ∷ nexts) final a)));
-          goes_on = over ∙ ap (λ k. not (k == 124)) (mark_there (s ∷ nexts) final a);
-        } in (
-          more,
-          (
-            e ∙ ap (λ (t : List ℕ). (it.line, t) ∷ more) (sym (text_is (s ∷ nexts) final a)),
-            subst (ToCome after) (ap (λ l. with_lines l after.line nexts final) lines ∙ ap (λ l. with_lines it.lines l nexts final) line) (to_come after nexts final left),
-          ),
-        )
+    gives nexts final a texts e = grind (arith, text_is, mark_there, rest_is, rest_there, IsUtf8-drop, next_cut)
 
     pub gives_next : (texts : List (ℕ × List ℕ)) → ToCome it texts → it.over ≡ false → (more : List (ℕ × List ℕ)) × ((texts ≡ (it.line, text) ∷ more) × ToCome after more)
     gives_next [] h goes = absurd (cc (sym h ∙ goes))

@@ -1,7 +1,7 @@
 -- A regular syllable keeps no more bytes than it has, and its canonical text has no more.
-use Rattle.std.proofs.Common.{◌≡◌, ℕ, ◌+◌, ◌<◌, ◌≤◌, Bool, true, cond, List, [], ◌∷◌, ◌++◌, length, sym, ap, ◌∙◌, arith, append-nil, length-append, encode_utf8}
+use Rattle.std.proofs.Common.{◌≡◌, ℕ, ◌+◌, ◌<◌, ◌≤◌, Bool, true, cond, List, [], ◌∷◌, ◌++◌, length, ap, ◌∙◌, arith, append-nil, length-append}
 use Rattle.std.proofs.lemmas.List.{append_cancel_left}
-use Rattle.std.proofs.lemmas.Str.{length-encode, len_utf8_bounds}
+use Rattle.std.proofs.lemmas.Str.{length-encode}
 use lib.Utf8.{encodes}
 use Rattle.gabc_text.proofs.KeptCharacters.{codes_placed}
 use Rattle.gabc_places.specs.declared.place.Place.{Place}
@@ -11,7 +11,7 @@ use Rattle.gabc_text.specs.View.{kept}
 use Rattle.gabc_score.specs.Canonical.{canonical}
 use Rattle.gabc_score.specs.RegularSyllable.{SyllableParts, IsRegularSyllable, has_gap, gap_kept, canonical_spelled, notes_spelled, spelled, unit_at}
 use Rattle.gabc_score.specs.Syllable.{UnplacedSyllable}
-use Rattle.gabc_score.specs.SyllablesOfUnits.{with_ends, snippets_in, characters_in, score_unit}
+use Rattle.gabc_score.specs.SyllablesOfUnits.{characters_in, score_unit}
 use Rattle.gabc_score.specs.WithinLimits.{KeepsWithin}
 use Rattle.gabc_score.proofs.regular_syllables.RegularSyllableIsMade.{one_byte, text_kept}
 use Rattle.gabc_score.proofs.regular_syllables.RegularSyllableIsRead.{unit_placed}
@@ -22,12 +22,7 @@ use Rattle.gabc_score.proofs.texts_of_body.TextEmitsThroughEnd.{codes_append}
 
 -- one byte in place of a gap
 one_for_gap : (b : ℕ) (gap : List ℕ) → b < 128 → size (cond (has_gap gap) (b ∷ []) []) ≤ size gap
-one_for_gap b [] h = omega arith
-one_for_gap b (c ∷ gap) h =
-    let one : size (b ∷ []) ≡ 1 = ap (length {A = ℕ}) (one_byte b [] h) in
-    let more : size (c ∷ gap) ≡ length (encode_utf8 c) + size gap = length-append (encode_utf8 c) (encodes gap) in
-    let wide = length-encode c in
-    let some = (len_utf8_bounds c).0 in omega (arith, one, more, wide, some)
+one_for_gap b gap h = grind (arith, one_byte, length-append, length-encode)
 
 module _ (r : SyllableParts) where
   abbrev notes : List ℕ
@@ -38,12 +33,7 @@ module _ (r : SyllableParts) where
 
   -- its canonical text, where an LF stands for blanks
   pub canonical_short : (m : UnplacedSyllable) → m.text.word_start ≡ has_gap r.gap → ((starts : Bool) → canonical starts m ≡ encodes (canonical_spelled starts r)) → length (canonical m.text.word_start m) ≤ size (spelled r)
-  canonical_short m starts are =
-      let same : length (canonical m.text.word_start m) ≡ size (canonical_spelled (has_gap r.gap) r) = ap (λ (b : Bool). length (canonical b m)) starts ∙ ap (length {A = ℕ}) (are (has_gap r.gap)) in
-      let parts : size (canonical_spelled (has_gap r.gap) r) ≡ size (cond (has_gap r.gap) (10 ∷ []) []) + (size r.text + size notes) =
-      size_append (cond (has_gap r.gap) (10 ∷ []) []) (r.text ++ notes) ∙ ap (λ (n : ℕ). size (cond (has_gap r.gap) (10 ∷ []) []) + n) (size_append r.text notes) in
-      let few = one_for_gap 10 r.gap (omega arith) in
-      let all = sizes in omega (arith, same, parts, few, all)
+  canonical_short m starts are = grind (arith, size_append, one_for_gap, sizes)
 
   -- ---- what is kept of its unit
 
@@ -60,15 +50,7 @@ module _ (r : SyllableParts) where
     text_is = ap kept (ap codes_of (append-nil (characters_in (unit_at at r))) ∙ codes_are) ∙ text_kept kept_alone kept_after r.gap r.text (notes_spelled r.nexts r.final) regular.blanks regular.text
 
     notes_are : (score_unit (unit_at at r) []).notes ≡ notes
-    notes_are =
-        let u = unit_at at r in
-        append_cancel_left (r.gap ++ r.text) (codes_of (u.text.end ∷ with_ends (snippets_in u))) notes
-        (ap (λ (t : List ℕ). t ++ codes_of (u.text.end ∷ with_ends (snippets_in u))) (sym (codes_placed at (r.gap ++ r.text)))
-        ∙ sym (codes_append u.text.characters (u.text.end ∷ with_ends (snippets_in u))) ∙ codes_are)
+    notes_are = grind (arith, append_cancel_left, codes_placed, codes_append, codes_are)
 
     pub keeps_within : (limit : ℕ) → size (spelled r) ≤ limit → KeepsWithin limit (score_unit (unit_at at r) [])
-    keeps_within limit h =
-        let text : size (kept (score_unit (unit_at at r) []).text) ≡ size (gap_kept r.gap) + size r.text = ap size text_is ∙ size_append (gap_kept r.gap) r.text in
-        let rest : size (score_unit (unit_at at r) []).notes ≡ size notes = ap size notes_are in
-        let few = one_for_gap 32 r.gap (omega arith) in
-        let all = sizes in omega (arith, text, rest, few, all, h)
+    keeps_within limit h = grind (arith, text_is, size_append, notes_are, one_for_gap, sizes)

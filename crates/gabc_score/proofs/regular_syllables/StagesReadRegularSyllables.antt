@@ -23,8 +23,7 @@ use Rattle.gabc_score.specs.Units.{Opens, Next, Closes, events_through}
 use Rattle.gabc_score.specs.witness.BodyStage.{texts_by_stage}
 use Rattle.gabc_score.proofs.regular_syllables.RegularPartsEnd.{next_ends, close_ends}
 use Rattle.gabc_score.proofs.regular_syllables.RegularSyllableIsRead.{notes_at, unit_placed, text_there, split_of, splits}
-use Rattle.gabc_score.proofs.stopped_scores.PrefixesAreReadAlike.{Agree, agree_ends, agree_through, through_length, snippet_agrees}
-use Rattle.gabc_score.proofs.texts_of_body.TextEmitsThroughEnd.{length_of_codes, codes_append}
+use Rattle.gabc_score.proofs.stopped_scores.PrefixesAreReadAlike.{Agree, agree_ends, agree_through, through_length, snippet_agrees, text_agree}
 use Rattle.gabc_score.proofs.units.BodyHasOneCutting.{ends_emitted}
 
 module _ (fresh_is : (at : Place) (t : List ℕ) → CountsFit at t → events_left (fresh_stage at) t ≡ events_by_point at t)
@@ -48,10 +47,7 @@ module _ (fresh_is : (at : Place) (t : List ℕ) → CountsFit at t → events_l
       events_through (text_from texts_by_definition at (e.characters ++ e.end ∷ notes_of next r.nexts r.final)) e.characters ++ through_notes 0 e.end.place next r.nexts r.final
 
   through_notes_length : (line : ℕ) (opened at : Place) (nexts : List (List ℕ)) (final : List ℕ) → length (through_notes line opened at nexts final) ≡ length (notes_of at nexts final)
-  through_notes_length line opened at [] final =
-      let e = ended_at at final 41 in
-      let a : length (e.characters ++ e.end ∷ []) ≡ length e.characters + 1 = length-append e.characters (e.end ∷ []) in
-      through_length (snippet_from lines macros line opened (e.characters ++ e.end ∷ [])) e.characters ∙ sym (a ∙ omega arith)
+  through_notes_length line opened at [] final = grind (arith, length-append, through_length)
   through_notes_length line opened at (t ∷ nexts) final =
       let e = ended_at at t 124 in
       let next = after_part at t 124 in
@@ -65,17 +61,7 @@ module _ (fresh_is : (at : Place) (t : List ℕ) → CountsFit at t → events_l
       omega (arith, a, b, c, d)
 
   through_unit_length : (at : Place) (r : SyllableParts) → length (through_unit at r) ≡ length (characters_in (unit_at at r))
-  through_unit_length at r =
-      let e = ended_at at (r.gap ++ r.text) 40 in
-      let next = after_part at (r.gap ++ r.text) 40 in
-      let us = notes_of next r.nexts r.final in
-      let more = through_notes 0 e.end.place next r.nexts r.final in
-      let first = events_through (text_from texts_by_definition at (e.characters ++ e.end ∷ us)) e.characters in
-      let a : length (e.characters ++ e.end ∷ us) ≡ length e.characters + suc (length us) = length-append e.characters (e.end ∷ us) in
-      let b : length (first ++ more) ≡ length first + length more = length-append first more in
-      let c : length first ≡ suc (length e.characters) = through_length (text_from texts_by_definition at (e.characters ++ e.end ∷ us)) e.characters in
-      let d : length more ≡ length us = through_notes_length 0 e.end.place next r.nexts r.final in
-      omega (arith, a, b, c, d)
+  through_unit_length at r = grind (arith, length-append, through_length, through_notes_length)
 
   snippets_alike : (line : ℕ) (opened : Place) (prefix : List Char) (end : Char) (rest other : List Char)
       → Agree (suc (length prefix)) (snippet_from lines macros line opened (prefix ++ end ∷ rest)) (snippet_from lines macros line opened (prefix ++ end ∷ other))
@@ -111,14 +97,8 @@ module _ (fresh_is : (at : Place) (t : List ℕ) → CountsFit at t → events_l
   texts_alike : (at : Place) (prefix : List Char) (end : Char) (rest other : List Char) → CountsFit at (codes_of (prefix ++ end ∷ other))
       → Agree (suc (length prefix)) (text_from texts_by_definition at (prefix ++ end ∷ other)) (text_from texts_by_stage at (prefix ++ end ∷ rest))
   texts_alike at prefix end rest other fits =
-      let t = codes_of (prefix ++ end ∷ []) in
-      let n : length t ≡ suc (length prefix) = length_of_codes (prefix ++ end ∷ []) ∙ length-append prefix (end ∷ []) ∙ omega arith in
-      let codes = λ (zs : List Char). sym (codes_append (prefix ++ end ∷ []) zs) ∙ ap codes_of (append_assoc prefix (end ∷ []) zs) in
-      ap (λ ls. take (suc (length prefix)) ls) (sym (ap (events_left (fresh_stage at)) (codes other) ∙ fresh_is at (codes_of (prefix ++ end ∷ other)) fits))
-      ∙ ap (λ m. take m (events_left (fresh_stage at) (t ++ codes_of other))) (sym n)
-      ∙ so_far (fresh_stage at) t (codes_of other) (codes_of rest)
-      ∙ ap (λ m. take m (events_left (fresh_stage at) (t ++ codes_of rest))) n
-      ∙ ap (λ k. take (suc (length prefix)) (events_left (fresh_stage at) k)) (codes rest)
+      ap (λ ls. take (suc (length prefix)) ls) (sym (fresh_is at (codes_of (prefix ++ end ∷ other)) fits))
+      ∙ text_agree so_far (fresh_stage at) prefix end other rest
 
   module _ (ends : (at : Place) (t : List ℕ) → EndsOnce at t) (all_found : (at : Place) (t : List ℕ) → found_in (concat_of (events_by_point at t)) ≡ findings at t)
       (found_alone : (at : Place) (t rest : List ℕ) → IsRegularText t → findings at (t ++ 40 ∷ rest) ≡ [])

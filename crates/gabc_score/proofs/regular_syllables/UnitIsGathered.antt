@@ -5,13 +5,11 @@ use Rattle.std.proofs.Common.{◌≡◌, ℕ, suc, ◌+◌, ◌<◌, ◌≤◌, 
 use Rattle.std.proofs.lemmas.Bool.Decides.{nat_tests}
 use Rattle.std.proofs.lemmas.List.{append_cancel_left}
 use Rattle.std.proofs.lemmas.List.Elements.{All-nil}
-use Rattle.std.specs.List.{All}
 use Rattle.gabc_places.specs.StageLaw.{concat_of}
 use Rattle.gabc_places.specs.declared.limits.Limits.{Limits}
 use Rattle.gabc_places.specs.declared.place.Place.{Place}
 use Rattle.gabc_text.specs.declared.text_event.TextEnd.TheVariants as text_end
 use Rattle.gabc_text.specs.declared.text_event.TextEvent.TheVariants as text
-use Rattle.gabc_text.specs.declared.text_event.TextPart.{TextPart}
 use Rattle.gabc_text.specs.declared.text_event.TextPart.TheVariants as part
 use Rattle.gabc_notes.specs.declared.item.ItemKind.{ItemKind}
 use Rattle.gabc_notes.specs.declared.stage.NoteEnd.TheVariants as note_end
@@ -33,7 +31,7 @@ use Rattle.gabc_score.specs.machine.Between.{with_one, SoundsNoMore}
 use Rattle.gabc_score.specs.machine.BodyBuilder.{with_all}
 use Rattle.gabc_score.specs.machine.Gatherer.{Gathered, with_event}
 use Rattle.gabc_score.specs.machine.PartKeeps.{ReadAlike}
-use Rattle.gabc_score.specs.machine.Preceded.{EndsBefore, IsPreceded}
+use Rattle.gabc_score.specs.machine.Preceded.{IsPreceded}
 use Rattle.gabc_score.specs.machine.SyllableBuilder.{OpenSyllable, nothing_open}
 use Rattle.gabc_score.proofs.building.BuilderHoldsDefinition.{gathered}
 use Rattle.gabc_score.proofs.order.FindingsOfParts.{found}
@@ -45,12 +43,8 @@ use Rattle.gabc_score.proofs.score_events.WhatPrecedes.{preceded_all}
 
 -- ---- a syllable stands before
 
-part_follows : (g : Gathered) (p : TextPart) → (with_event g (event.Text (text.Part p))).follows ≡ g.follows
-part_follows g part.WordStart = refl
-part_follows g _ = refl
-
 event_follows : (g : Gathered) (e : BodyEvent) → g.follows ≡ true → (with_event g e).follows ≡ true
-event_follows g (event.Text (text.Part p)) h = part_follows g p ∙ h
+event_follows g (event.Text (text.Part part.WordStart)) h = h
 event_follows g (event.Text (text.Ended text_end.Notes)) h = h
 event_follows g (event.Notes line (note.Ended note_end.Close n)) h = refl
 event_follows g _ h = h
@@ -62,20 +56,14 @@ all_follow (e ∷ es) g h = all_follow es (with_event g e) (event_follows g e h)
 -- ---- no bracket is left open
 
 event_cuts : (e : BodyEvent) (before : List BodyEvent) → cut_of (e ∷ before) ≡ None → cut_of before ≡ None
-event_cuts (event.Text (text.Ended (text_end.Cut p))) before h = absurd (cc h)
-event_cuts (event.Notes line (note.Ended (note_end.Cut p) n)) before h = absurd (cc h)
-event_cuts _ before h = h
+event_cuts e before h = grind arith
 
 all_cut : (es before : List BodyEvent) → cut_of (events_onto es before) ≡ None → cut_of before ≡ None
 all_cut [] before h = h
 all_cut (e ∷ es) before h = event_cuts e before (all_cut es (e ∷ before) h)
 
-part_cut : (g : Gathered) (p : TextPart) → (with_event g (event.Text (text.Part p))).cut ≡ g.cut
-part_cut g part.WordStart = refl
-part_cut g _ = refl
-
 event_cut : (g : Gathered) (e : BodyEvent) (before : List BodyEvent) → cut_of (e ∷ before) ≡ None → (with_event g e).cut ≡ g.cut
-event_cut g (event.Text (text.Part p)) before h = part_cut g p
+event_cut g (event.Text (text.Part part.WordStart)) before h = refl
 event_cut g (event.Text (text.Ended (text_end.Cut p))) before h = absurd (cc h)
 event_cut g (event.Notes line (note.Ended (note_end.Cut p) n)) before h = absurd (cc h)
 event_cut g _ before h = refl
@@ -128,15 +116,7 @@ module _ (g : Gathered) (spans : Spans) (nothing : g.builder ≡ nothing_open) (
   preceding = record { syllables = 1; canonical = g.total; spans = spans; sounded = is_some g.first_kind }
 
   preceded_now : IsPreceded preceding g
-  preceded_now = record {
-    follows = follows ∙ ap (λ (ms : List UnplacedSyllable). nat_lt 0 (with_each preceding ms).syllables) (sym none);
-    total = ap (λ (ms : List UnplacedSyllable). (with_each preceding ms).canonical) (sym none);
-    sounded =
-        sym (or-false (is_some g.first_kind)) ∙ ap (λ (o : OpenSyllable). is_some g.first_kind || sounds_in o.kept o.snippets) (sym nothing)
-        ∙ ap (λ (ms : List UnplacedSyllable). (with_each preceding ms).sounded || sounds_in g.builder.kept g.builder.snippets) (sym none);
-    snippets = subst (λ (o : OpenSyllable). All (EndsBefore o.from) o.snippets) (sym nothing) (All-nil (EndsBefore 0));
-    from = subst (λ (o : OpenSyllable). o.from ≤ length o.kept) (sym nothing) (omega arith);
-  }
+  preceded_now = grind (arith, or-false, All-nil)
 
   -- a note or a clef has come then if it had come before
   sounds_on : is_some (with_all g (concat_of lists)).first_kind ≡ is_some g.first_kind

@@ -1,5 +1,5 @@
 -- What was gathered after syllables which another stage has read: nothing.
-use Rattle.std.proofs.Common.{◌≡◌, ℕ, ◌||◌, Bool, true, false, [], None, is_some, refl, arith}
+use Rattle.std.proofs.Common.{◌≡◌, ℕ, ◌||◌, Bool, false, [], None, is_some, refl, arith}
 use Rattle.std.proofs.lemmas.List.Elements.{All-nil}
 use Rattle.gabc_text.specs.witness.Keeps as text
 use Rattle.gabc_score.specs.declared.before.Before.{Before}
@@ -14,8 +14,7 @@ use Rattle.gabc_score.specs.machine.Preceded.{EndsBefore, IsPreceded}
 use Rattle.gabc_score.specs.machine.Resumed.{first_sounded, gathered_after}
 
 sounds_then : (b : Bool) → is_some (first_sounded b) ≡ (b || false)
-sounds_then true = refl
-sounds_then false = refl
+sounds_then b = grind arith
 
 pub preceded_after : (b : Before) (limit : ℕ) → IsPreceded (preceding_of b) (gathered_after b (nothing_gathered limit 0))
 preceded_after b limit = record { follows = refl; total = refl; sounded = sounds_then b.sounded; snippets = All-nil (EndsBefore 0); from = omega arith }

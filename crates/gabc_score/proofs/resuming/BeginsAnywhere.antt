@@ -1,8 +1,5 @@
 -- In front of the first text the place of the next character counts for nothing until this character has come.
-use Rattle.std.proofs.Common.{◌≡◌, ℕ, List, [], ◌∷◌, Bool, true, false, Option, Some, None, refl, sym, ap, ◌∙◌, subst}
-use Rattle.std.specs.Option.{option_map}
-use Rattle.gabc_places.specs.StageLaw.{silence}
-use Rattle.gabc_places.specs.declared.code.Code.{Code}
+use Rattle.std.proofs.Common.{◌≡◌, ℕ, List, [], ◌∷◌, Bool, true, false, Option, None, refl, sym, ap, ◌∙◌, subst, arith}
 use Rattle.gabc_places.specs.declared.limits.Limits.{Limits}
 use Rattle.gabc_places.specs.declared.place.Place.{Place}
 use Rattle.gabc_headers.specs.declared.head_event.HeadEvent.{HeadEvent}
@@ -17,17 +14,16 @@ use Rattle.gabc_score.specs.declared.score_machine.ScoreMachine.{ScoreMachine}
 use Rattle.gabc_score.specs.declared.score_machine.ScorePart.{ScorePart}
 use Rattle.gabc_score.specs.declared.score_machine.ScorePart.TheVariants as score_part
 use Rattle.gabc_score.specs.Before.{with_each}
-use Rattle.gabc_score.specs.Body.{fault_at}
-use Rattle.gabc_score.specs.Events.{InComment, events_from, events_in, events_at_end, part_at, part_after_character}
-use Rattle.gabc_score.specs.ScoreEvents.{ScoreOutput, Found, characters_in}
-use Rattle.gabc_score.specs.ScoreReports.{is_in_front, held_in_body, moved_part}
+use Rattle.gabc_score.specs.Events.{InComment, events_from}
+use Rattle.gabc_score.specs.ScoreEvents.{Found, characters_in}
+use Rattle.gabc_score.specs.ScoreReports.{is_in_front, held_in_body, moved_part, reading_in_body}
 use Rattle.gabc_score.specs.Syllable.{UnplacedSyllable}
-use Rattle.gabc_score.specs.machine.BodyBuilder.{code_in, with_all}
+use Rattle.gabc_score.specs.machine.BodyBuilder.{code_in}
 use Rattle.gabc_score.specs.machine.Gatherer.{Gathered}
 use Rattle.gabc_score.specs.machine.PartCounts.{CountsHold}
 use Rattle.gabc_score.specs.machine.PartKeeps.{begun, ReadAlike}
 use Rattle.gabc_score.specs.machine.ScoreMachine.{held_score, IsInBody, IsScoreAt}
-use Rattle.gabc_score.specs.machine.ScoreStage.{HeldScore, body_left, end_outputs_by, left_by, outputs_left, score_past}
+use Rattle.gabc_score.specs.machine.ScoreStage.{HeldScore, body_left, outputs_left}
 use Rattle.gabc_score.specs.machine.SyllableBuilder.{OpenSyllable, nothing_open}
 use Rattle.gabc_score.specs.witness.BodyStage.{running_events_left, texts_by_stage}
 use Rattle.gabc_score.proofs.resuming.NothingIsRead.{nothing_alike}
@@ -46,20 +42,8 @@ module _ (limits : Limits) (lines macros : ℕ) (limit : ℕ) (made : List Unpla
 
   same_left : (xs : List HeadEvent) → body_left limits (at p) (ahead xs) xs ≡ body_left limits (at q) (ahead xs) xs
   same_left [] = refl
-  same_left (head_event.Body x ∷ xs) = by (code_in limits (with_all (at p).gathered now))
-    where
-      now : List BodyEvent
-      now = events_in (part_at texts_by_stage InComment x (characters_in xs))
-
-      later : List (List BodyEvent)
-      later = events_from texts_by_stage lines macros (part_after_character texts_by_stage lines macros (part_at texts_by_stage InComment x (characters_in xs)) x (characters_in xs)) (characters_in xs)
-
-      by : (c : Option Code) → left_by c (at p) x now xs (body_left limits (score_past (at p) x now) later xs) ≡ left_by c (at q) x now xs (body_left limits (score_past (at q) x now) later xs)
-      by (Some code) = refl
-      by None = refl
-  same_left (head_event.End ∷ xs) =
-      ap (λ (c : Option Code). end_outputs_by (at p) (events_at_end InComment) (option_map (fault_at p) c) ∷ silence xs) fine
-      ∙ sym (ap (λ (c : Option Code). end_outputs_by (at q) (events_at_end InComment) (option_map (fault_at q) c) ∷ silence xs) fine)
+  same_left (head_event.Body x ∷ xs) = grind arith
+  same_left (head_event.End ∷ xs) = grind arith
   same_left (head_event.Stop fault ∷ xs) = refl
   same_left (head_event.Found f ∷ xs) = ap (λ later. (Found f ∷ []) ∷ later) (same_left xs)
   same_left (head_event.Heads l m c ∷ xs) = ap (λ later. [] ∷ later) (same_left xs)
@@ -67,22 +51,20 @@ module _ (limits : Limits) (lines macros : ℕ) (limit : ℕ) (made : List Unpla
 -- ---- a machine
 
 pub front_is : (p : BodyPart) → is_in_front p ≡ true → p ≡ part.Comment
-front_is part.Comment e = refl
-front_is _ e = absurd (cc e)
+front_is p e = grind arith
 
 pub front_reads : (p : BodyPart) (o : OpenSyllable) → is_in_front p ≡ true → CountsHold p o → o ≡ nothing_open
 front_reads p o front counts = subst (λ (b : BodyPart). CountsHold b o) (front_is p front) counts
 
-none_made : (made : List UnplacedSyllable) → held_in_body score_part.Body made ≡ None → made ≡ []
-none_made [] e = refl
-none_made (m ∷ made) e = absurd (cc e)
+pub none_in_body : (p : ScorePart) (ms : List UnplacedSyllable) → p ≡ score_part.Body → held_in_body p ms ≡ None → ms ≡ []
+none_in_body p [] e h = refl
+none_in_body p (m ∷ ms) e h = absurd (cc (sym (ap (λ (q : ScorePart). held_in_body q (m ∷ ms)) e) ∙ h))
+
+pub nothing_in_body : (p : ScorePart) (kept : List ℕ) → p ≡ score_part.Body → reading_in_body p kept ≡ [] → kept ≡ []
+nothing_in_body p kept e h = sym (ap (λ (q : ScorePart). reading_in_body q kept) e) ∙ h
 
 is_unread : (g : Gathered) → g.builder ≡ nothing_open → g.eu ≡ false → g.nlba ≡ false → g.cut ≡ None → g ≡ unread g.limit g.made g.follows g.total g.over g.first_kind
-is_unread g builder eu nlba cut =
-    ap (λ (o : OpenSyllable). record g { builder = o }) builder
-    ∙ ap (λ (b : Bool). record g { builder = nothing_open; eu = b }) eu
-    ∙ ap (λ (b : Bool). record g { builder = nothing_open; eu = false; nlba = b }) nlba
-    ∙ ap (λ (c : Option Place). record g { builder = nothing_open; eu = false; nlba = false; cut = c }) cut
+is_unread g builder eu nlba cut = grind arith
 
 module _ (m : ScoreMachine) (front : is_in_front m.body.part ≡ true) (first : m.bounds.before.syllables ≡ 0) (place : Place) where
   comment : m.body.part ≡ part.Comment
@@ -103,24 +85,10 @@ module _ (m : ScoreMachine) (front : is_in_front m.body.part ≡ true) (first : 
   in_body : IsInBody m → m.pair.gathered.made ≡ [] → (xs : List HeadEvent)
       → body_left m.limits (record (held_score m) { next = place }) (running_events_left (record m.body { part = moved_part place m.body.part }) (characters_in xs)) xs
       ≡ body_left m.limits (held_score m) (running_events_left m.body (characters_in xs)) xs
-  in_body h none xs =
-      ap (λ (b : BodyPart). left place m.pair.gathered (moved_part place b)) comment
-      ∙ ap (λ (g : Gathered). left place g part.Comment) is
-      ∙ same_left m.limits m.body.nabc_lines m.body.macros g.limit g.made g.follows g.total g.over g.first_kind m.has_lent place m.next (sym (ap (code_in m.limits) is) ∙ h.code) xs
-      ∙ sym (ap (λ (g : Gathered). left m.next g part.Comment) is)
-      ∙ sym (ap (λ (b : BodyPart). left m.next m.pair.gathered b) comment)
-    where
-      g : Gathered
-      g = m.pair.gathered
-
-      is : g ≡ unread g.limit g.made g.follows g.total g.over g.first_kind
-      is = unread_in h none
-
-      left : Place → Gathered → BodyPart → List (List ScoreOutput)
-      left next gathered b = body_left m.limits (record { next = next; gathered = gathered; has_lent = m.has_lent }) (running_events_left (record m.body { part = b }) (characters_in xs)) xs
+  in_body h none xs = grind (arith, comment, same_left, unread_in)
 
   -- What is left for a machine in front does not hang on the place of the next character.
   pub left_anywhere : (p : ScorePart) → IsScoreAt p m → held_in_body p m.pair.gathered.made ≡ None → (xs : List HeadEvent)
       → outputs_left m.limits p (record (held_score m) { next = place }) (record m.body { part = moved_part place m.body.part }) xs ≡ outputs_left m.limits p (held_score m) m.body xs
-  left_anywhere score_part.Body h none xs = in_body h (none_made m.pair.gathered.made none) xs
+  left_anywhere score_part.Body h none xs = in_body h (none_in_body score_part.Body m.pair.gathered.made refl none) xs
   left_anywhere _ h none xs = refl

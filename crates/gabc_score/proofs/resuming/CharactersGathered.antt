@@ -1,6 +1,6 @@
 -- What a machine gives at a character, where no syllable is given.
 use Rattle.std.proofs.Math.Bool.{or-false}
-use Rattle.std.proofs.Common.{◌≡◌, ◌⊎◌, inl, inr, ℕ, ◌-◌, ◌≤◌, ◌||◌, ◌&&◌, ◌++◌, not, nat_lt, Bool, false, List, [], ◌∷◌, length, length-append, take, drop, Option, Some, None, is_some, refl, sym, ap, ◌∙◌, arith}
+use Rattle.std.proofs.Common.{◌≡◌, inl, inr, ℕ, ◌-◌, ◌≤◌, ◌||◌, ◌&&◌, ◌++◌, not, nat_lt, Bool, false, List, [], ◌∷◌, length, take, drop, Option, is_some, refl, sym, ap, ◌∙◌, arith}
 use Rattle.std.specs.List.{list_any}
 use Rattle.std.proofs.lemmas.List.Folds.{list_any-append}
 use Rattle.std.proofs.lemmas.Bool.{true≢false}
@@ -11,7 +11,6 @@ use Rattle.gabc_places.specs.declared.code.Finding.{Finding}
 use Rattle.gabc_places.specs.declared.place.Char.{Char}
 use Rattle.gabc_places.specs.declared.place.Place.{Place}
 use Rattle.gabc_notes.specs.declared.item.ItemKind.{ItemKind}
-use Rattle.gabc_notes.specs.declared.item.ItemKind.TheVariants.{Note}
 use Rattle.gabc_score.specs.declared.events.BodyEvent.{BodyEvent}
 use Rattle.gabc_score.specs.declared.score_event.ScoreEvent.{ScoreEvent}
 use Rattle.gabc_score.specs.declared.score_machine.ScoreMachine.{ScoreMachine}
@@ -30,19 +29,15 @@ use Rattle.gabc_score.specs.machine.ReadsChar.{Gathers, Passes, ReadsChar, found
 use Rattle.gabc_score.specs.machine.ScoreMachine.{IsInBody}
 use Rattle.gabc_score.specs.machine.ScoreStage.{placed_after, with_held}
 use Rattle.gabc_score.specs.machine.SlotPair.{SlotPairState}
-use Rattle.gabc_score.specs.machine.SyllableBuilder.{nothing_open}
 use Rattle.gabc_score.specs.witness.BodyStage.{BodyStageState}
 use Rattle.gabc_score.proofs.building.EventsOfSnippets.{stage_emits}
 use Rattle.gabc_score.proofs.building.PartsKeepOnly.{keeps_only}
 use Rattle.gabc_score.proofs.building.SyllableEndsLast.{closes_last}
 use Rattle.gabc_score.proofs.score_events.CharactersAreRead.{before_is, found_is, has_turned}
-use Rattle.gabc_score.proofs.score_events.WhatPrecedes.{Closed, same_or_closed}
+use Rattle.gabc_score.proofs.score_events.WhatPrecedes.{same_or_closed}
 
 pub few_is : (n : ℕ) → n ≤ 1 → nat_lt 1 n ≡ false
 few_is n h = grind (arith, nat_tests, h)
-
-none_left : (n : ℕ) → n ≤ 1 → n - 1 ≡ 0
-none_left n h = omega (arith, h)
 
 -- ---- a character that is read where none is held
 
@@ -52,27 +47,25 @@ any_event (f ∷ fs) = ap (λ b. is_error f || b) (any_event fs)
 
 -- a note before any clef is no error
 first_warns : (was now : Option ItemKind) (p : Place) → list_any is_error (found_first was now p) ≡ false
-first_warns None (Some Note) p = refl
-first_warns _ _ p = refl
+first_warns was now p = grind arith
 
 any_given : (fs : List Finding) (was now : Option ItemKind) (p : Place) → list_any is_error_event (events_of (outputs_of (fs ++ found_first was now p) [])) ≡ list_any is_error fs
 any_given fs was now p = any_event (fs ++ found_first was now p) ∙ list_any-append is_error fs (found_first was now p) ∙ ap (λ (b : Bool). list_any is_error fs || b) (first_warns was now p) ∙ or-false (list_any is_error fs)
 
 few_made : (g : Gathered) (now : List BodyEvent) → ClosesLast now → g.made ≡ [] → length (with_all g now).made ≤ 1
-few_made g now last none = by (same_or_closed g now last)
-  where
-    by : ((with_all g now).made ≡ g.made) ⊎ Closed g (with_all g now) → length (with_all g now).made ≤ 1
-    by (inl same) = let l = ap length same in let n = ap length none in omega (arith, l, n)
-    by (inr c) = let l = ap length c.made in let n = ap length none in let k = length-append g.made (c.m ∷ []) in omega (arith, l, n, k)
+few_made g now last none = elim (same_or_closed g now last) [
+  | inl same ↦ (let l = ap length (same ∙ none) in omega (arith, l))
+  | inr c ↦ (let l = ap length (c.made ∙ ap (λ (ms : List UnplacedSyllable). ms ++ c.m ∷ []) none) in omega (arith, l))
+]
+
+pub few_dropped : (ms : List UnplacedSyllable) → length ms ≤ 1 → drop (length ms - 1) ms ≡ ms
+few_dropped [] few = refl
+few_dropped (m ∷ []) few = refl
+few_dropped (m ∷ n ∷ ms) few = absurd (omega (arith, few))
 
 -- none is given then
 pub held_all : (g : Gathered) → length g.made ≤ 1 → with_held g ≡ g
-held_all g few = by g.made few
-  where
-    by : (ms : List UnplacedSyllable) → length ms ≤ 1 → record g { made = drop (length ms - 1) ms } ≡ record g { made = ms }
-    by [] h = refl
-    by (m ∷ []) h = refl
-    by (m ∷ n ∷ ms) h = absurd (omega (arith, h))
+held_all g few = ap (λ (ms : List UnplacedSyllable). record g { made = ms }) (few_dropped g.made few)
 
 module _ {old : ScoreMachine} {x : Char} {given left : BoundedList ScoreEvent} (part : old.part ≡ score_part.Body) (h : IsInBody old) (none : old.pair.gathered.made ≡ []) (empty : given.items ≡ []) where
   -- where no limit is passed
@@ -92,16 +85,12 @@ module _ {old : ScoreMachine} {x : Char} {given left : BoundedList ScoreEvent} (
     few : length then.made ≤ 1
     few = few_made was now last none
 
-    on : (then.made ≡ was.made) ⊎ Closed was then → is_none then.made ≡ false → then.builder ≡ nothing_open
-    on (inl same) some = absurd (true≢false (sym (ap is_none (same ∙ none)) ∙ some))
-    on (inr c) some = c.builder
-
     -- n are given
     abbrev given_of : ℕ → List PlacedSyllable
     given_of n = take n (placed_after old.has_lent p.gathered.made)
 
     left_none : length p.gathered.made - 1 ≡ 0
-    left_none = none_left (length p.gathered.made) (let is = ap (λ (k : Gathered). length k.made) a.gathered in omega (arith, few, is))
+    left_none = let is = ap (λ (k : Gathered). length k.made) a.gathered in omega (arith, few, is)
 
     items : left.items ≡ events_of (outputs_of (findings_now now ++ found_first was.first_kind then.first_kind x.place) [])
     items =
@@ -130,7 +119,7 @@ module _ {old : ScoreMachine} {x : Char} {given left : BoundedList ScoreEvent} (
             macros = ap (λ (k : BodyStageState). k.macros) a.body;
             before = before_is part h a s.none (has_turned s) ∙ ap (λ (n : ℕ). with_placed old.bounds.before (given_of n)) left_none;
             limits = refl;
-            whole = λ some. on (same_or_closed was now last) some;
+            whole = λ some. elim (same_or_closed was now last) [ inl same ↦ absurd (true≢false (sym (ap is_none (same ∙ none)) ∙ some)) | inr c ↦ c.builder ];
           };
         }
 

@@ -11,7 +11,7 @@ use Rattle.gabc_score.specs.ScoreEvents.{first_place}
 use Rattle.gabc_score.specs.ScoreReports.{IsInFront, before_of}
 use Rattle.gabc_score.specs.machine.PartKeeps.{in_text}
 use Rattle.gabc_score.specs.witness.ScoreStage.{ScoreStageState}
-use Rattle.gabc_score.proofs.resuming.HeldIsHeld.{nothing_in_body}
+use Rattle.gabc_score.proofs.resuming.BeginsAnywhere.{nothing_in_body}
 use Rattle.gabc_score.proofs.resuming.MachinesReadAgain.{in_body_by}
 
 -- a text whose first character was a `%`
@@ -19,12 +19,7 @@ abbrev commented : TextStage
 commented = record (fresh_stage first_place) { state = Comment }
 
 comment_keeps : Keeps commented []
-comment_keeps = record {
-  goes_on = refl;
-  reached = record { between = λ e. absurd (cc e); start = λ e. refl; blank = λ e. absurd (cc e); starts = λ e. absurd (cc e) };
-  alike = record { place = record { line = 0; column = 0 }; next = record { line = 0; column = 0 }; same = refl };
-  whole = refl;
-}
+comment_keeps = grind arith
 
 pub front_in_text : (s : ScoreStageState) → is_some (before_of s) ≡ true → IsInFront s → CanBeReadInText s
 unfolding fresh_events.events_left

@@ -1,5 +1,5 @@
 -- In front of the first text the same is emitted as in a comment of a text that keeps nothing, where the characters stand in line.
-use Rattle.std.proofs.Common.{◌≡◌, ◌==◌, ℕ, List, [], ◌∷◌, Bool, true, false, refl, sym, ap, ◌∙◌, subst, if◌then◌else◌}
+use Rattle.std.proofs.Common.{◌≡◌, ◌==◌, ℕ, List, [], ◌∷◌, Bool, true, false, refl, sym, ap, ◌∙◌, subst, if◌then◌else◌, arith}
 use Rattle.std.proofs.lemmas.Bool.{eqb-true}
 use Rattle.gabc_places.specs.Place.{saturating_next_place}
 use Rattle.gabc_places.specs.declared.place.Place.{Place}
@@ -16,7 +16,6 @@ use Rattle.gabc_text.specs.declared.text_event.TextEvent.TheVariants as text_eve
 use Rattle.gabc_text.specs.witness.EventsLeft.{events_left}
 use Rattle.gabc_text.specs.witness.Keeps.{Keeps}
 use Rattle.gabc_score.specs.declared.body_stage.BodyPart.{BodyPart}
-use Rattle.gabc_score.specs.declared.body_stage.BodyPart.TheVariants as part
 use Rattle.gabc_score.specs.declared.events.BodyEvent.{BodyEvent}
 use Rattle.gabc_score.specs.Events.{PartAhead, InComment, InText, events_from, events_in, part_after_character, text_from}
 use Rattle.gabc_score.specs.ScoreEvents.{characters_in}
@@ -43,9 +42,6 @@ module _ (law : CommentsCountForNothing) where
     text_ahead s xs = ahead (InText (events_left s (codes_of (characters_in xs)))) xs
 
     comment_is_text : (s : TextStage) → Keeps s [] → text.is_in_comment s ≡ true → (xs : List HeadEvent) → AreInLine (text_reports.next_of s) xs → ahead InComment xs ≡ text_ahead s xs
-    comment_is_text s keeps open_is [] line = ap (λ (lists : List (List TextEvent)). ahead (InText lists) []) (sym (law.ends s keeps open_is))
-    comment_is_text s keeps open_is (head_event.End ∷ xs) line = ap (λ (lists : List (List TextEvent)). ahead (InText lists) []) (sym (law.ends s keeps open_is))
-    comment_is_text s keeps open_is (head_event.Stop fault ∷ xs) line = ap (λ (lists : List (List TextEvent)). ahead (InText lists) []) (sym (law.ends s keeps open_is))
     comment_is_text s keeps open_is (head_event.Found f ∷ xs) line = comment_is_text s keeps open_is xs line.1
     comment_is_text s keeps open_is (head_event.Heads l m c ∷ xs) line = comment_is_text s keeps open_is xs line.1
     comment_is_text s keeps open_is (head_event.Body x ∷ xs) line =
@@ -73,19 +69,14 @@ module _ (law : CommentsCountForNothing) where
         by again false e =
             ap (λ (lists : List (List BodyEvent)). [] ∷ lists) again
             ∙ ap (λ (lists : List (List TextEvent)). read (InText lists)) (sym (law.on s x.c codes keeps open_is e))
+    comment_is_text s keeps open_is _ line = ap (λ (lists : List (List TextEvent)). ahead (InText lists) []) (sym (law.ends s keeps open_is))
 
     in_comment : (p : BodyPart) → PartKeeps lines macros p (in_text []) → is_in_comment p ≡ true → (place : Place) (xs : List HeadEvent) → IsAt place p → AreInLine place xs
         → ahead InComment xs ≡ ahead (part_with p (characters_in xs)) xs
-    in_comment part.Comment keeps comment place xs stands line = refl
-    in_comment (part.Text s) keeps comment place xs stands line = comment_is_text s keeps comment xs (subst (λ (p : Place). AreInLine p xs) (sym stands) line)
-    in_comment (part.Notes opened s) keeps comment place xs stands line = absurd keeps
-    in_comment (part.Nabc l opened s) keeps comment place xs stands line = absurd keeps
+    in_comment p keeps comment place xs stands line = grind (arith, comment_is_text)
 
   -- What is left in front of the first text is what is left in such a comment.
   pub fronts_emit : (a b : BodyStageState) → a.nabc_lines ≡ b.nabc_lines → a.macros ≡ b.macros → is_in_front a.part ≡ true → PartKeeps b.nabc_lines b.macros b.part (in_text []) → is_in_comment b.part ≡ true
       → (place : Place) (xs : List HeadEvent) → IsAt place b.part → AreInLine place xs → running_events_left a (characters_in xs) ≡ running_events_left b (characters_in xs)
   fronts_emit a b same_lines same_macros front keeps comment place xs stands line =
-      ap (λ (p : BodyPart). events_from texts_by_stage a.nabc_lines a.macros (part_with p (characters_in xs)) (characters_in xs)) (front_is a.part front)
-      ∙ ap (λ (l : ℕ). events_from texts_by_stage l a.macros InComment (characters_in xs)) same_lines
-      ∙ ap (λ (l : ℕ). events_from texts_by_stage b.nabc_lines l InComment (characters_in xs)) same_macros
-      ∙ in_comment b.nabc_lines b.macros b.part keeps comment place xs stands line
+      rw (front_is a.part front, same_lines, same_macros) (in_comment b.nabc_lines b.macros b.part keeps comment place xs stands line)

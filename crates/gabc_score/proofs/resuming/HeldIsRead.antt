@@ -1,7 +1,7 @@
 -- A text that is read by itself is one syllable exactly where reading it one character after the other finds one.
 use Rattle.gabc_score.proofs.score_events.EventsStayWithinBounds.{IsWithinLimits, is_within, none_passed}
-use Rattle.std.proofs.Common.{◌≡◌, ℕ, zero, suc, ◌-◌, ◌<◌, ◌≤◌, ◌^◌, ◌||◌, ◌&&◌, not, min, nat_lt, Bool, true, false, List, [], ◌∷◌, ◌++◌, length, take, take_all, take-take, Option, is_some, refl, sym, ap, subst, ◌∙◌, arith, append-nil}
-use Rattle.std.proofs.lemmas.Bool.{true≢false, and_parts, or_parts, not-true, and_from, or_from}
+use Rattle.std.proofs.Common.{◌≡◌, ℕ, zero, suc, ◌-◌, ◌<◌, ◌≤◌, ◌^◌, ◌||◌, ◌&&◌, not, min, nat_lt, Bool, true, false, List, [], ◌∷◌, ◌++◌, length, take, take_all, take-take, is_some, refl, sym, ap, subst, ◌∙◌, arith, append-nil}
+use Rattle.std.proofs.lemmas.Bool.{true≢false, and_parts, or_parts, not-true, or_from}
 use Rattle.std.proofs.lemmas.Bool.Decides.{nat_tests}
 use Rattle.std.proofs.lemmas.List.{append_cancel_left}
 use Rattle.std.proofs.lemmas.List.Elements.{All-nil, All-cons, All-head, All-tail}
@@ -10,7 +10,6 @@ use Rattle.std.specs.List.{All, list_any}
 use Rattle.gabc_places.specs.Code.{severity_of}
 use Rattle.gabc_places.specs.Place.{placed_characters_from}
 use Rattle.gabc_places.specs.StageLaw.{concat_of}
-use Rattle.gabc_places.specs.declared.code.Code.{Code}
 use Rattle.gabc_places.specs.declared.code.Finding.{Finding}
 use Rattle.gabc_places.specs.declared.limits.Limits.{Limits}
 use Rattle.gabc_places.specs.declared.severity.Severity.{Severity}
@@ -35,7 +34,7 @@ use Rattle.gabc_score.proofs.resuming.MadeOfEvents.{Counts, counts_from, made_af
 use Rattle.gabc_score.proofs.resuming.OpenSpans.{opened, leaves_open}
 use Rattle.gabc_score.proofs.score_events.WhatPrecedes.{not_some}
 use Rattle.gabc_score.proofs.building.EventsOfSyllableParts.{onto_append}
-use Rattle.gabc_score.proofs.resuming.MachinesPassAgain.{no_code_by}
+use Rattle.gabc_score.proofs.resuming.MachinesPassAgain.{none_is}
 
 -- ---- through lists of events
 
@@ -46,14 +45,10 @@ pub record IsAlone (limits : Limits) (g : Gathered) (lists : List (List BodyEven
   pub fine : list_any is_error (findings_now (concat_of lists)) ≡ false
 
 none_of : (ms : List UnplacedSyllable) → is_none ms ≡ true → ms ≡ []
-none_of [] e = refl
-none_of (m ∷ ms) e = absurd (true≢false (sym e))
+none_of ms e = grind arith
 
 errors_are : (now more : List BodyEvent) → list_any is_error (findings_now (now ++ more)) ≡ (list_any is_error (findings_now now) || list_any is_error (findings_now more))
-errors_are now more =
-    ap (λ (es : List BodyEvent). list_any is_error (findings_of es)) (onto_append now more [])
-    ∙ ap (list_any is_error) (found_on (events_onto now []) more)
-    ∙ list_any-append is_error (findings_now now) (findings_now more)
+errors_are now more = grind (arith, onto_append, found_on, list_any-append)
 
 pub alone_is : (limits : Limits) (lists : List (List BodyEvent)) (g : Gathered) → is_alone limits g lists ≡ true → IsAlone limits g lists
 alone_is limits [] g e = record { earlier = λ n h. absurd (omega (arith, h)); some = not-true (is_none g.made) e; within = λ n h. absurd (omega (arith, h)); fine = refl }
@@ -65,7 +60,7 @@ alone_is limits (now ∷ lists) g e =
     record {
       earlier = earlier (none_of g.made a.0) rest;
       some = ap (λ (h : Gathered). is_none h.made) (with_all_append g now (concat_of lists)) ∙ rest.some;
-      within = within (is_within limits (with_all g now) (no_code_by (code_in limits (with_all g now)) (not-true (is_some (code_in limits (with_all g now))) c.0))) rest;
+      within = within (is_within limits (with_all g now) (none_is (code_in limits (with_all g now)) (not-true (is_some (code_in limits (with_all g now))) c.0))) rest;
       fine = errors_are now (concat_of lists) ∙ or_from (list_any is_error (findings_now now)) (list_any is_error (findings_now (concat_of lists))) (not-true (list_any is_error (findings_now now)) c.1) rest.fine;
     }
   where
@@ -88,16 +83,12 @@ alone_of limits (now ∷ lists) g a =
       within = λ n h. subst (IsWithinLimits limits) (with_all_append g now (concat_of (take (suc n) lists))) (a.within (suc n) (omega (arith, h)));
       fine = errors.1;
     } in
-    and_from (is_none g.made) (is_fine limits g now && is_alone limits (with_all g now) lists) (ap is_none (a.earlier zero (omega arith)))
-    (and_from (is_fine limits g now) (is_alone limits (with_all g now) lists)
-    (and_from (not (is_some (code_in limits (with_all g now)))) (not (list_any is_error (findings_now now))) (ap (λ (k : Option Code). not (is_some k)) (none_passed limits (with_all g now) first)) (ap not errors.0))
-    (alone_of limits lists (with_all g now) rest))
+    rw (none_passed limits (with_all g now) first, errors.0, ap is_none (a.earlier zero (omega arith))) (alone_of limits lists (with_all g now) rest)
 
 -- ---- warnings
 
 grave_is : (s : Severity) → is_grave s ≡ false → s ≡ Warning
-grave_is Warning e = refl
-grave_is _ e = absurd (true≢false e)
+grave_is s e = grind arith
 
 warn : (fs : List Finding) → list_any is_error fs ≡ false → All IsWarning fs
 warn [] e = All-nil IsWarning
@@ -109,6 +100,12 @@ warnings_are (f ∷ fs) a = or_from (is_error f) (list_any is_error fs) (ap is_g
 
 -- ---- the text
 
+-- the text is one syllable
+pub record Found (limits : Limits) (b : Before) (g : Gathered) (text : List ℕ) (lists : List (List BodyEvent)) : Type 0 where
+  pub syllable : UnplacedSyllable
+  pub made : (with_all g (concat_of lists)).made ≡ syllable ∷ []
+  pub may : MayBeHeld limits b text syllable
+
 module _ (limits : Limits) (b : Before) (g : Gathered) (limit : g.limit ≡ limits.syllable) (nothing : g.builder ≡ nothing_open) (eu : g.eu ≡ b.spans.eu) (nlba : g.nlba ≡ b.spans.nlba) (none : g.made ≡ [])
     (over : g.over ≡ false) (total : g.total ≡ b.canonical) (follows : g.follows ≡ nat_lt 0 b.syllables) (text : List ℕ) (lists : List (List BodyEvent))
     (are : (let xs = placed_characters_from first_place text in lists ≡ take (length text) (events_from texts_by_definition b.nabc_lines b.macros (text_from texts_by_definition first_place xs) xs)))
@@ -117,10 +114,7 @@ module _ (limits : Limits) (b : Before) (g : Gathered) (limit : g.limit ≡ limi
   small = let r = limits.in_range in omega (arith, r)
 
   emitted : (n : ℕ) → n ≤ length text → emitted_first b.nabc_lines b.macros first_place text n ≡ concat_of (take n lists)
-  emitted n h =
-      let xs = placed_characters_from first_place text in
-      let all = events_from texts_by_definition b.nabc_lines b.macros (text_from texts_by_definition first_place xs) xs in
-      ap (concat_of {T = BodyEvent}) (sym (take-take n (length text) all h) ∙ ap (take n) (sym are))
+  emitted n h = grind (arith, take-take)
 
   whole : emitted_first b.nabc_lines b.macros first_place text (length text) ≡ concat_of lists
   whole = emitted (length text) (omega arith) ∙ ap (concat_of {T = BodyEvent}) (take_all (length text) lists (omega (arith, each)))
@@ -150,18 +144,12 @@ module _ (limits : Limits) (b : Before) (g : Gathered) (limit : g.limit ≡ limi
   errors : list_any is_error (findings_of (emitted_after b.nabc_lines b.macros first_place text [] (length text))) ≡ list_any is_error (findings_now (concat_of lists))
   errors = ap (λ (es : List BodyEvent). list_any is_error (findings_of (events_onto es []))) whole
 
-  -- one that is found
-  pub record Found : Type 0 where
-    pub m : UnplacedSyllable
-    pub made : (with_all g (concat_of lists)).made ≡ m ∷ []
-    pub may : MayBeHeld limits b text m
-
   one_of : (ms : List UnplacedSyllable) → is_none ms ≡ false → length ms ≤ 1 → (m : UnplacedSyllable) × (ms ≡ m ∷ [])
   one_of [] e h = absurd (true≢false e)
   one_of (m ∷ []) e h = (m, refl)
   one_of (m ∷ n ∷ ms) e h = absurd (omega (arith, h))
 
-  pub found : is_alone limits g lists ≡ true → length (with_all g (concat_of lists)).made ≤ 1 → Found
+  pub found : is_alone limits g lists ≡ true → length (with_all g (concat_of lists)).made ≤ 1 → Found limits b g text lists
   found e few =
       let a = alone_is limits lists g e in
       let one = one_of (with_all g (concat_of lists)).made a.some few in
@@ -174,9 +162,8 @@ module _ (limits : Limits) (b : Before) (g : Gathered) (limit : g.limit ≡ limi
       let passed = or_parts (is_longer g.limit m.kept) (nat_lt g.limit (size_of g.follows m)) (or_parts g.over _ (sym here.0 ∙ last.over)).1 in
       let size = starts m in
       let file = last.file a.some in
-      let input = limits.in_range in
       record {
-        m = m;
+        syllable = m;
         made = one.1;
         may = record {
           read = record {
@@ -189,7 +176,7 @@ module _ (limits : Limits) (b : Before) (g : Gathered) (limit : g.limit ≡ limi
           };
           kept = let k = passed.0 in grind (arith, nat_tests, k, limit);
           short = let k = passed.1 in grind (arith, nat_tests, k, limit, size, small);
-          file = let t = here.1 in omega (arith, file, t, total, size, input);
+          file = let t = here.1 in let input = limits.in_range in omega arith;
         };
       }
     where

@@ -1,5 +1,5 @@
 -- A machine in the body reads the next character of a kept text again: it passes no limit, and stays in the body.
-use Rattle.std.proofs.Common.{◌≡◌, ◌⊎◌, inl, inr, ℕ, zero, suc, ◌≤◌, ◌<◌, nat_lt, Bool, true, false, List, [], ◌∷◌, ◌++◌, length, Option, Some, None, is_some, encode_utf8, encode_utf8_all, refl, sym, ap, subst, ◌∙◌, arith, append-nil, append_assoc, length-append}
+use Rattle.std.proofs.Common.{◌≡◌, ℕ, ◌≤◌, nat_lt, Bool, true, false, List, [], ◌∷◌, ◌++◌, length, Option, Some, None, is_some, encode_utf8, encode_utf8_all, refl, sym, ap, subst, ◌∙◌, arith, append-nil, append_assoc, length-append}
 use Rattle.std.proofs.lemmas.Bool.{true≢false}
 use Rattle.std.proofs.lemmas.Bool.Decides.{nat_tests}
 use Rattle.std.proofs.lemmas.Str.{cons_from_encodes, encodes_same}
@@ -20,7 +20,6 @@ use Rattle.gabc_score.specs.declared.events.BodyEvent.{BodyEvent}
 use Rattle.gabc_score.specs.declared.events.BodyEvent.TheVariants as event
 use Rattle.gabc_score.specs.declared.score_machine.ScoreMachine.{ScoreMachine}
 use Rattle.gabc_score.specs.declared.score_machine.ScorePart.TheVariants as score_part
-use Rattle.gabc_score.specs.Body.{is_none}
 use Rattle.gabc_score.specs.declared.body_tells.Openers.{Openers}
 use Rattle.gabc_score.specs.ScoreReports.{is_in_comment, is_in_front, moved_part}
 use Rattle.gabc_score.specs.Syllable.{UnplacedSyllable}
@@ -37,64 +36,41 @@ use Rattle.gabc_score.proofs.resuming.CharactersGathered.{few_is, held_all}
 use Rattle.gabc_score.proofs.score_events.CharactersAreRead.{HasTurned}
 use Rattle.gabc_score.proofs.resuming.NextIsKept.{next_is}
 use Rattle.gabc_score.proofs.resuming.PartsAreOne.{parts_are_one}
-use Rattle.gabc_score.proofs.score_events.EventsStayWithinBounds.{is_within, none_passed, limit_stays}
+use Rattle.gabc_score.proofs.score_events.EventsStayWithinBounds.{none_passed, limit_stays}
+use Rattle.gabc_score.proofs.building.SnippetsTakeCharacters.{on_nabc}
 
 -- ---- what is counted, where no syllable becomes whole
 
--- no syllable was made more, and the same is counted; or there are more
-abbrev CountAlike : Gathered → Gathered → Type 0
-CountAlike g h = ((h.made ≡ g.made) × (h.total ≡ g.total) × (h.over ≡ g.over)) ⊎ (length g.made < length h.made)
+made_grows : (now : List BodyEvent) (g : Gathered) → length g.made ≤ length (with_all g now).made
+made_grows [] g = omega arith
+made_grows (event.Text (text_out.Part text_part.WordStart) ∷ now) g = made_grows now (with_event g (event.Text (text_out.Part text_part.WordStart)))
+made_grows (event.Text (text_out.Ended text_end.Notes) ∷ now) g = made_grows now (with_event g (event.Text (text_out.Ended text_end.Notes)))
+made_grows (event.Notes line (note.Ended note_end.Close n) ∷ now) g =
+    let more = made_grows now (with_event g (event.Notes line (note.Ended note_end.Close n))) in omega (arith, more, length-append {A = UnplacedSyllable})
+made_grows (t ∷ now) g = made_grows now (with_event g t)
 
-event_counts : (g : Gathered) (t : BodyEvent) → CountAlike g (with_event g t)
-event_counts g (event.Text (text_out.Part text_part.WordStart)) = inl (refl, refl, refl)
-event_counts g (event.Text (text_out.Ended text_end.Notes)) = inl (refl, refl, refl)
-event_counts g (event.Notes line (note.Ended note_end.Close n)) = inr (longer g.made _)
-  where
-    longer : (ms : List UnplacedSyllable) (m : UnplacedSyllable) → length ms < length (ms ++ m ∷ [])
-    longer ms m = let l = length-append ms (m ∷ []) in omega (arith, l)
-event_counts g _ = inl (refl, refl, refl)
-
-through : (g h i : Gathered) → CountAlike g h → CountAlike h i → CountAlike g i
-through g h i (inl a) (inl b) = inl (b.0 ∙ a.0, b.1 ∙ a.1, b.2 ∙ a.2)
-through g h i (inl a) (inr b) = inr (let e = ap length a.0 in omega (arith, e, b))
-through g h i (inr a) (inl b) = inr (let e = ap length b.0 in omega (arith, e, a))
-through g h i (inr a) (inr b) = inr (omega (arith, a, b))
-
-all_count : (now : List BodyEvent) (g : Gathered) → CountAlike g (with_all g now)
-all_count [] g = inl (refl, refl, refl)
-all_count (t ∷ now) g = through g (with_event g t) (with_all g (t ∷ now)) (event_counts g t) (all_count now (with_event g t))
-
+-- no syllable was made more, and the same is counted
 counted : (g : Gathered) (now : List BodyEvent) → length (with_all g now).made ≤ length g.made → ((with_all g now).made ≡ g.made) × ((with_all g now).total ≡ g.total) × ((with_all g now).over ≡ g.over)
-counted g now few = by (all_count now g)
-  where
-    by : CountAlike g (with_all g now) → ((with_all g now).made ≡ g.made) × ((with_all g now).total ≡ g.total) × ((with_all g now).over ≡ g.over)
-    by (inl h) = h
-    by (inr more) = absurd (omega (arith, few, more))
-
-none_more : (g h : Gathered) → nat_lt (length g.made) (length h.made) ≡ false → length h.made ≤ length g.made
-none_more g h e = grind (arith, nat_tests, e)
+counted g [] few = (refl, refl, refl)
+counted g (event.Text (text_out.Part text_part.WordStart) ∷ now) few = counted (with_event g (event.Text (text_out.Part text_part.WordStart))) now few
+counted g (event.Text (text_out.Ended text_end.Notes) ∷ now) few = counted (with_event g (event.Text (text_out.Ended text_end.Notes))) now few
+counted g (event.Notes line (note.Ended note_end.Close n) ∷ now) few =
+    absurd (let more = made_grows now (with_event g (event.Notes line (note.Ended note_end.Close n))) in omega (arith, few, more, length-append {A = UnplacedSyllable}))
+counted g (t ∷ now) few = counted (with_event g t) now few
 
 pub none_made : (g h : Gathered) (now : List BodyEvent) → h ≡ with_all g now → nat_lt (length g.made) (length h.made) ≡ false → h.made ≡ g.made
 none_made g h now is e =
-    ap (λ (k : Gathered). k.made) is ∙ (counted g now (none_more g (with_all g now) (ap (λ (k : Gathered). nat_lt (length g.made) (length k.made)) (sym is) ∙ e))).0
+    let few : length (with_all g now).made ≤ length g.made = rw (← is) (grind (arith, nat_tests, e)) in
+    ap (λ (k : Gathered). k.made) is ∙ (counted g now few).0
 
 -- no limit is passed with a kept text within its limit
 no_code : (limits : Limits) (g h : Gathered) → code_in limits g ≡ None → h.made ≡ g.made → h.total ≡ g.total → h.over ≡ g.over → length h.builder.kept ≤ h.limit → code_in limits h ≡ None
-no_code limits g h none made total over few =
-    let w = is_within limits g none in
-    none_passed limits h (record {
-      kept = few;
-      over = over ∙ w.over;
-      file = λ some. let file = w.file (ap is_none (sym made) ∙ some) in omega (arith, file, total);
-    })
+no_code limits g h none made total over few = grind (arith, none_passed)
 
 -- ---- a machine past a character at which nothing became whole
 
 pub none_turned : {m : ScoreMachine} {x : Char} {b : BodyStageState} {p : SlotPairState} {f : BoundedList Finding} → Gathers m x b p f → nat_lt (length p.held) (length p.gathered.made) ≡ false → is_made p.used ≡ false → HasTurned p false false p
-none_turned {p = p} a fewer used = record { whole_is = sym fewer; gave_is = sym (few_is (length p.gathered.made) few); gathered = sym (held_all p.gathered few); used = used }
-  where
-    few : length p.gathered.made ≤ 1
-    few = let held = ap (λ (ms : List UnplacedSyllable). length ms) a.held in grind (arith, nat_tests, fewer, held, a.one)
+none_turned a fewer used = grind (arith, few_is, held_all)
 
 -- ---- the next character
 
@@ -112,11 +88,7 @@ module _ (again : Again) (ends : Ends) (lines macros : ℕ) where
   begins (part.Text s) (in_text k) keeps front comment_open = let e = ends.text_comment s k keeps comment_open in (e, again.text_comments k e)
   begins (part.Text s) (in_notes u earlier k) keeps front comment_open = absurd keeps
   begins (part.Notes opened s) (in_notes u earlier k) keeps front comment_open = subst (λ (l : ℕ). BeginsIn l k) (sym keeps.0.line_is) (keeps.1.outside comment_open)
-  begins (part.Nabc line opened s) (in_notes u earlier k) keeps front comment_open = subst (λ (l : ℕ). BeginsIn l k) (sym keeps.0.line_is) (by line keeps.1.0)
-    where
-      by : (l : ℕ) → (l ≡ 0 → ⊥) → BeginsIn l k
-      by zero some = absurd (some refl)
-      by (suc l) some = tt
+  begins (part.Nabc line opened s) (in_notes u earlier k) keeps front comment_open = subst (λ (l : ℕ). BeginsIn l k) (sym keeps.0.line_is) (on_nabc (λ (l : ℕ). BeginsIn l k) line keeps.1.0 (λ l. tt))
   begins _ (in_text k) keeps front comment_open = absurd keeps
 
 -- ---- a machine that takes a character where what is open begins
@@ -186,11 +158,8 @@ module _ (again : Again) (ends : Ends) (stays : TextStays) (m : ScoreMachine) (c
         few : length (done ++ encode_utf8_all (c ∷ [])) ≤ m.limits.syllable
         few =
             let all = ap length is ∙ length-append done (encode_utf8 c ++ rest) in
-            let one = length-append (encode_utf8 c) rest in
-            let mine = length-append done (encode_utf8_all (c ∷ [])) in
             let char = length-append (encode_utf8 c) [] in
-            let short = k.short in
-            omega (arith, all, one, mine, char, short)
+            omega (arith, all, length-append (encode_utf8 c) rest, length-append done (encode_utf8_all (c ∷ [])), char, k.short)
 
     -- the `%` of a comment after all of it
     pub takes_percent : (told : BodyPart) → IsTold told done → is_in_front told ≡ false → is_in_comment told ≡ true → c ≡ 37 → StandsSo n openers done true
@@ -213,6 +182,6 @@ none_whole held g h old is held_is made e = let a = ap length held_is in let b =
 pub none_coded : (code : Option Code) → code ≡ None → is_some code ≡ true → ⊥
 none_coded code e f = true≢false (sym f ∙ ap (λ (o : Option Code). is_some o) e)
 
-pub no_code_by : (code : Option Code) → is_some code ≡ false → code ≡ None
-no_code_by None e = refl
-no_code_by (Some k) e = absurd (true≢false e)
+pub none_is : {X : Type 0} (o : Option X) → is_some o ≡ false → o ≡ None
+none_is None e = refl
+none_is (Some x) e = absurd (true≢false e)

@@ -1,18 +1,16 @@
 -- A machine that reads a kept text again reports what is reported of it.
-use Rattle.std.proofs.Common.{◌≡◌, ℕ, List, [], ◌∷◌, ◌++◌, Bool, true, false, cond, is_some, encode_utf8, encode_utf8_all, refl, sym, ap, subst, ◌∙◌, append-nil, append_assoc, IsUtf8}
+use Rattle.std.proofs.Common.{◌≡◌, ℕ, List, [], ◌∷◌, ◌++◌, Bool, true, false, cond, is_some, encode_utf8, encode_utf8_all, refl, sym, ap, subst, ◌∙◌, append-nil, append_assoc, IsUtf8, arith}
 use Rattle.std.specs.Str.{chars}
-use Rattle.std.proofs.lemmas.Bool.{true≢false}
 use Rattle.std.proofs.lemmas.Str.{encodes-chars, encodes_same}
 use Rattle.gabc_places.specs.TextOfAnInput.{IsText}
 use Rattle.gabc_places.specs.declared.place.Place.{Place}
-use Rattle.gabc_score.specs.declared.before.Before.{Before}
 use Rattle.gabc_score.specs.declared.body_stage.BodyPart.{BodyPart}
 use Rattle.gabc_score.specs.declared.body_tells.Openers.{Openers}
 use Rattle.gabc_score.specs.declared.score_machine.ScoreMachine.{ScoreMachine}
 use Rattle.gabc_score.specs.declared.score_machine.ScorePart.{ScorePart}
 use Rattle.gabc_score.specs.declared.score_machine.ScorePart.TheVariants as score_part
 use Rattle.gabc_score.specs.ReadAgain.{ComesBefore, ReportsReading, ReportsTheSameBut}
-use Rattle.gabc_score.specs.ScoreReports.{before_of, before_with, in_body, is_in_comment, is_in_front, moved_to, openers_of, reading_of}
+use Rattle.gabc_score.specs.ScoreReports.{before_of, in_body, is_in_comment, is_in_front, moved_to, openers_of, reading_of}
 use Rattle.gabc_score.specs.ReportedWithin.{AreOpenersBefore, IsPlace, ReportsText}
 use Rattle.gabc_score.specs.machine.PartKeeps.{joined, PartKeeps}
 use Rattle.gabc_score.specs.machine.ReadAgain.{HasReadKept, IsRunAlike, IsSameBut, IsToldBy, OpenAt, ReadsKept, ReadsThrough, StandsSo, inner_of, outer_of}
@@ -36,11 +34,7 @@ run_through m n o (c ∷ cs) t = let h = t.1.0.run in let g = run_through t.0 n 
 
 same_through : (m n : ScoreMachine) (o : Openers) (cs : List ℕ) → ReadsThrough m o cs n → n.part ≡ score_part.Body → IsSameBut m n
 same_through m n o [] e body = subst (IsSameBut m) e (record { body = ap (λ (k : ScoreMachine). k.part) e ∙ body; bounds = refl; has_lent = refl; made = refl })
-same_through m n o (c ∷ cs) t body =
-    let g = same_through t.0 n o cs t.1.1 body in
-    let was = t.1.0.was g.body in
-    let h = ((t.1.0.passes was).goes g.body).same in
-    record { body = was; bounds = g.bounds ∙ h.bounds; has_lent = g.has_lent ∙ h.has_lent; made = g.made ∙ h.made }
+same_through m n o (c ∷ cs) t body = grind (arith, same_through t.0 n o cs t.1.1 body)
 
 told_alike : (a b : ScoreMachine) (told : BodyPart) (kept : List ℕ) → IsRunAlike a b → IsToldBy a.body.nabc_lines a.body.macros a.limits.syllable told kept → IsToldBy b.body.nabc_lines b.body.macros b.limits.syllable told kept
 told_alike a b told kept h t = rw (h.limits, h.lines, h.macros) t
@@ -48,36 +42,17 @@ told_alike a b told kept h t = rw (h.limits, h.lines, h.macros) t
 -- ---- what is reported
 
 pub in_body_by : {A : Type 0} (p : ScorePart) (x : A) → is_some (in_body p x) ≡ true → p ≡ score_part.Body
-in_body_by {A = A} score_part.Body x e = refl
-in_body_by {A = A} _ x e = absurd (true≢false (sym e))
+in_body_by p x e = grind arith
 
 -- a text that is reported of another stage, after the same and under the same limits
 is_told : (told : ScoreStageState) (m : ScoreMachine) (kept : List ℕ) → CanBeReadAgain told → told.limits ≡ m.limits → before_of told ≡ before_of (shown m) → m.part ≡ score_part.Body → reading_of told ≡ kept
     → IsToldBy m.body.nabc_lines m.body.macros m.limits.syllable told.body.part kept
-is_told told m kept can limits before body reading =
-    rw (sym limits, ap (λ (b : Before). b.nabc_lines) same, ap (λ (b : Before). b.macros) same, sym reading ∙ reads_in_body told.part told.held.gathered.builder.kept can.body) can.told
-  where
-    same : before_with m.body m.bounds.before ≡ before_with told.body told.before
-    same = sym (before_is_told told.part m.part (before_with told.body told.before) (before_with m.body m.bounds.before) can.body body before)
+is_told told m kept can limits before body reading = grind (arith, reads_in_body, before_is_told)
 
 module _ (ends : Ends) where
   -- before a syllable a machine stands so
   stands_before : (m : ScoreMachine) (openers : Openers) → IsScore m → ComesBefore (shown m) → StandsSo m openers [] false
-  stands_before m openers rests before = record { body = body; kept_is = none; comment_is = before.outside; front = nothing.0; opens = nothing.1 }
-    where
-      body : m.part ≡ score_part.Body
-      body = in_body_by m.part (before_with m.body m.bounds.before) before.runs
-
-      h : IsInBody m
-      h = subst (λ (p : ScorePart). IsScoreAt p m) body rests
-
-      none : m.pair.gathered.builder.kept ≡ []
-      none = sym (reads_in_body m.part m.pair.gathered.builder.kept body) ∙ before.nothing_read
-
-      nothing : (is_in_front m.body.part ≡ false) × OpenAt (outer_of openers) (inner_of openers) m.body.part
-      nothing =
-          nothing_is_open ends m.body.nabc_lines m.body.macros (outer_of openers) (inner_of openers) m.body.part h.reading.parts h.reading.keeps
-          (encodes_same [] (joined h.reading.parts) (sym none ∙ h.reading.kept)) before.outside
+  stands_before m openers rests before = grind (arith, in_body_by, reads_in_body, nothing_is_open, encodes_same)
 
   module _ (again : Again) (stays : TextStays) where
     -- ---- through a text that is reported
@@ -130,12 +105,7 @@ module _ (ends : Ends) where
 -- ---- what a machine says that has read a kept text again
 
 told_the_same : (old m : ScoreMachine) (next : Place) → m.part ≡ score_part.Body → IsSameBut old m → IsRunAlike old m → ReportsTheSameBut (shown old) (moved_to next (shown m)) next
-told_the_same old m next body s k = record {
-  before_same = rw (body, s.body, k.lines, k.macros, s.bounds) refl;
-  held_same = rw (body, s.body, s.made) refl;
-  next_is = rw body refl;
-  stands = stands_moved next m.body.part;
-}
+told_the_same old m next body s k = grind (arith, stands_moved)
 
 module _ {old new : ScoreMachine} {kept : List ℕ} {openers : Openers} {comment : Bool} {next : Place} {result : Bool} (r : ReadsKept old kept openers comment next result new) where
   has_read : result ≡ true → HasReadKept old kept openers comment next result new

@@ -28,19 +28,10 @@ pub record MadeAlike (ps : List UnplacedSyllable) (g h : Gathered) : Type 0 wher
   pub read : ReadAlike g h
   pub made : h.made ≡ ps ++ g.made
 
-close_alike : (ps : List UnplacedSyllable) (g h : Gathered) (line n : ℕ) → MadeAlike ps g h → (with_event h (event.Notes line (note.Ended note_end.Close n))).made ≡ ps ++ (with_event g (event.Notes line (note.Ended note_end.Close n))).made
-close_alike ps g h line n r =
-    let w : ReadAlike (with_snippet g line n 41) (with_snippet h line n 41) = record { builder = rw r.read.builder refl; eu = r.read.eu; nlba = r.read.nlba } in
-    ap (λ ms. ms ++ made_from (with_snippet h line n 41).builder h.eu h.nlba ∷ []) r.made
-    ∙ append_assoc ps g.made (made_from (with_snippet h line n 41).builder h.eu h.nlba ∷ [])
-    ∙ ap (λ (o : OpenSyllable). ps ++ (g.made ++ made_from o h.eu h.nlba ∷ [])) (sym w.builder)
-    ∙ ap (λ b. ps ++ (g.made ++ made_from (with_snippet g line n 41).builder b h.nlba ∷ [])) (sym w.eu)
-    ∙ ap (λ b. ps ++ (g.made ++ made_from (with_snippet g line n 41).builder g.eu b ∷ [])) (sym w.nlba)
-
 event_made : (ps : List UnplacedSyllable) (g h : Gathered) (e : BodyEvent) → MadeAlike ps g h → (with_event h e).made ≡ ps ++ (with_event g e).made
 event_made ps g h (event.Text (text.Part part.WordStart)) r = r.made
 event_made ps g h (event.Text (text.Ended text_end.Notes)) r = r.made
-event_made ps g h (event.Notes line (note.Ended note_end.Close n)) r = close_alike ps g h line n r
+event_made ps g h (event.Notes line (note.Ended note_end.Close n)) r = rw (r.made, r.read.builder, r.read.eu, r.read.nlba, append_assoc) refl
 event_made ps g h _ r = r.made
 
 pub all_made : (es : List BodyEvent) (ps : List UnplacedSyllable) (g h : Gathered) → MadeAlike ps g h → MadeAlike ps (with_all g es) (with_all h es)
@@ -54,10 +45,7 @@ open_of events = record { kept = kept_of events; from = length (ended_parts_of e
 -- after events that leave these spans open, and where nothing is read
 module _ (g : Gathered) (spans : Spans) (nothing : g.builder ≡ nothing_open) (eu : g.eu ≡ spans.eu) (nlba : g.nlba ≡ spans.nlba) (none : g.made ≡ []) (before : List BodyEvent) (leaves : LeavesOpen spans before) where
   begin_alike : (limit head : ℕ) → MadeAlike (all_syllables before) g (gathered limit head before)
-  begin_alike limit head = record {
-    read = record { builder = nothing ∙ ap open_of (sym leaves.nothing); eu = eu ∙ sym leaves.eu; nlba = nlba ∙ sym leaves.nlba };
-    made = sym (append-nil (all_syllables before)) ∙ ap (λ ms. all_syllables before ++ ms) (sym none);
-  }
+  begin_alike limit head = grind (arith, append-nil)
 
   pub made_after : (limit : ℕ) → limit < 2 ^ 64 - 1 → (es : List BodyEvent) → MadeAlike (all_syllables before) (with_all g es) (gathered limit 0 (events_onto es before))
   made_after limit small es = subst (MadeAlike (all_syllables before) (with_all g es)) (gathered_all limit 0 before small es) (all_made es (all_syllables before) g (gathered limit 0 before) (begin_alike limit 0))
@@ -77,16 +65,11 @@ pub record Counts (g h : Gathered) : Type 0 where
 made_counts : (g h : Gathered) (m : UnplacedSyllable) → Counts g h → Counts g (with_made h m)
 made_counts g h m c = record { limit = c.limit; none = λ e. absurd (let n = ap (λ (ms : List UnplacedSyllable). length ms) e in omega (arith, n, length-append h.made (m ∷ []))); one = λ n e. by h.made refl n e }
   where
-    first : (n : UnplacedSyllable) → m ≡ n → h.made ≡ [] → ((with_made h m).over ≡ (g.over || (is_longer g.limit n.kept || nat_lt g.limit (size_of g.follows n)))) × ((with_made h m).total ≡ min (g.total + size_of g.follows n) most)
-    first n same none =
-        let k = c.none none in
-        (rw (k.0, k.1.1, c.limit, same) refl, rw (k.1.0, k.1.1, same) refl)
-
     by : (ms : List UnplacedSyllable) → h.made ≡ ms → (n : UnplacedSyllable) → h.made ++ m ∷ [] ≡ n ∷ [] → ((with_made h m).over ≡ (g.over || (is_longer g.limit n.kept || nat_lt g.limit (size_of g.follows n)))) × ((with_made h m).total ≡ min (g.total + size_of g.follows n) most)
-    by [] e n f = first n (same (sym (ap (λ ms. ms ++ m ∷ []) e) ∙ f)) e
-      where
-        same : m ∷ [] ≡ n ∷ [] → m ≡ n
-        same e = cc e
+    by [] e n f =
+        let none = c.none e in
+        let same : m ≡ n = cc in
+        (rw (none.0, none.1.1, c.limit, same) refl, rw (none.1.0, none.1.1, same) refl)
     by (k ∷ ms) e n f = absurd (let two = ap (λ (ms : List UnplacedSyllable). length ms) (sym (ap (λ ms. ms ++ m ∷ []) e) ∙ f) in omega (arith, two, length-append ms (m ∷ [])))
 
 event_counts : (g h : Gathered) (e : BodyEvent) → Counts g h → Counts g (with_event h e)

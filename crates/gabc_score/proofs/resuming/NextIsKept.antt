@@ -1,11 +1,8 @@
 -- Where a part keeps the beginning of a kept text, the character after it is kept again, or ends what is read.
-use Rattle.std.proofs.Common.{◌≡◌, inl, inr, ◌==◌, ◌&&◌, ℕ, zero, suc, nat_lt, List, [], ◌∷◌, ◌++◌, Bool, true, false, refl, sym, ap, ◌∙◌, subst, append_assoc}
+use Rattle.std.proofs.Common.{◌≡◌, inl, inr, ◌==◌, ◌&&◌, ℕ, zero, suc, nat_lt, List, [], ◌∷◌, ◌++◌, true, false, refl, sym, ap, ◌∙◌, subst, append_assoc, arith}
 use Rattle.std.proofs.lemmas.Bool.{eqb-true}
-use Rattle.gabc_patterns.specs.LongestItems.{IsSnippet}
 use Rattle.gabc_text.specs.declared.stage.TextStage.{TextStage}
 use Rattle.gabc_text.specs.witness.Keeps as text
-use Rattle.gabc_notes.specs.Table.{gabc}
-use Rattle.gabc_nabc.specs.Table.{nabc as nabc_table}
 use Rattle.gabc_score.specs.declared.body_stage.BodyPart.{BodyPart}
 use Rattle.gabc_score.specs.Events.{next_line}
 use Rattle.gabc_score.specs.machine.PartKeeps.{KeptParts, in_text, in_notes, barred, joined, line_after, IsEndedText, IsEndedOn, AreEnded, PartKeeps}
@@ -15,12 +12,7 @@ use Rattle.gabc_score.proofs.resuming.PartsAreOne.{AreKept, IsKeptOn, Split, bar
 
 -- a `%` that is kept begins no comment
 no_comment : (c : ℕ) (k : List ℕ) → ((j : List ℕ) → text.begins_comment j ≡ true → text.kept_with j 37 ≡ []) → text.kept_with k c ≡ c ∷ [] → (c == 37 && text.begins_comment k) ≡ false
-no_comment c k comments kept = by (c == 37) refl (text.begins_comment k) refl
-  where
-    by : (a : Bool) → (c == 37) ≡ a → (b : Bool) → text.begins_comment k ≡ b → (a && b) ≡ false
-    by false e b f = refl
-    by true e false f = refl
-    by true e true f = absurd (let is : c ≡ 37 = eqb-true c 37 e in let none : text.kept_with k c ≡ [] = ap (text.kept_with k) is ∙ comments k f in let g : c ∷ [] ≡ [] = sym kept ∙ none in cc)
+no_comment c k comments kept = grind (arith, eqb-true)
 
 module _ (again : Again) (lines macros : ℕ) where
   -- of a snippet that is kept
@@ -30,34 +22,28 @@ module _ (again : Again) (lines macros : ℕ) where
 
   -- the `|` of one that ended
   bar_next : (line : ℕ) (s k : List ℕ) (c : ℕ) → IsEndedOn lines macros line s → k ≡ s → c ≡ 124 → IsNextIn lines line k c
-  bar_next zero s k c h same is = inr (is, (h.0, subst (IsSnippet gabc) (sym same) h.1.whole))
-  bar_next (suc line) s k c h same is = inr (is, subst (IsSnippet nabc_table) (sym same) h.whole)
+  bar_next line s k c h same is = grind arith
 
   next_notes : (line : ℕ) (e f : List (List ℕ)) (k l : List ℕ) (c : ℕ) (rest : List ℕ) → AreEnded lines macros line e → AreEnded lines macros line f
       → IsKeptOn again lines macros (line_after lines line e) k → IsKeptOn again lines macros (line_after lines line f) l
       → barred e ++ (k ++ c ∷ rest) ≡ barred f ++ l → IsNextIn lines (line_after lines line e) k c
   next_notes line [] [] k l c rest he hf hk hl same = next_in line k rest c (subst (IsKeptOn again lines macros line) (sym same) hl)
-  next_notes line [] (s ∷ f) k l c rest he hf hk hl same = by (split_at c 124 k s rest (barred f ++ l) (same ∙ bar_first again lines macros s f l))
-    where
-      by : Split c 124 k s rest (barred f ++ l) → IsNextIn lines line k c
-      by (inl h) = bar_next line s k c hf.0 h.0 h.1
-      by (inr (inl h)) =
-          let whole = part_of_whole again lines macros line s hf.0 in
-          next_in line k (h.0 ++ whole.0) c
-          (subst (IsKeptOn again lines macros line) (ap (λ (u : List ℕ). u ++ whole.0) h.1 ∙ append_assoc k (c ∷ h.0) whole.0) whole.1)
-      by (inr (inr h)) = absurd (no_bar again lines macros line s h.0 hf.0 (subst (IsKeptOn again lines macros line) h.1 hk))
+  next_notes line [] (s ∷ f) k l c rest he hf hk hl same = elim (split_at c 124 k s rest (barred f ++ l) (same ∙ bar_first again lines macros s f l)) [
+    | inl h ↦ bar_next line s k c hf.0 h.0 h.1
+    | inr (inl h) ↦ (let whole = part_of_whole again lines macros line s hf.0 in
+        next_in line k (h.0 ++ whole.0) c
+        (subst (IsKeptOn again lines macros line) (ap (λ (u : List ℕ). u ++ whole.0) h.1 ∙ append_assoc k (c ∷ h.0) whole.0) whole.1))
+    | inr (inr h) ↦ absurd (no_bar again lines macros line s h.0 hf.0 (subst (IsKeptOn again lines macros line) h.1 hk))
+  ]
   next_notes line (s ∷ e) [] k l c rest he hf hk hl same =
       absurd (no_bar again lines macros line s (barred e ++ (k ++ c ∷ rest)) he.0
       (subst (IsKeptOn again lines macros line) (sym same ∙ bar_first again lines macros s e (k ++ c ∷ rest)) hl))
   next_notes line (s ∷ e) (t ∷ f) k l c rest he hf hk hl same =
-      by (split_at 124 124 s t (barred e ++ (k ++ c ∷ rest)) (barred f ++ l) (sym (bar_first again lines macros s e (k ++ c ∷ rest)) ∙ same ∙ bar_first again lines macros t f l))
-      (λ g. next_notes (next_line lines line) e f k l c rest he.1 hf.1 hk hl g)
-    where
-      by : Split 124 124 s t (barred e ++ (k ++ c ∷ rest)) (barred f ++ l)
-          → (barred e ++ (k ++ c ∷ rest) ≡ barred f ++ l → IsNextIn lines (line_after lines (next_line lines line) e) k c) → IsNextIn lines (line_after lines (next_line lines line) e) k c
-      by (inl h) later = later h.2
-      by (inr (inl h)) later = absurd (no_longer again lines macros line s t he.0 hf.0 h)
-      by (inr (inr h)) later = absurd (no_longer again lines macros line t s hf.0 he.0 h)
+      elim (split_at 124 124 s t (barred e ++ (k ++ c ∷ rest)) (barred f ++ l) (sym (bar_first again lines macros s e (k ++ c ∷ rest)) ∙ same ∙ bar_first again lines macros t f l)) [
+        | inl h ↦ next_notes (next_line lines line) e f k l c rest he.1 hf.1 hk hl h.2
+        | inr (inl h) ↦ absurd (no_longer again lines macros line s t he.0 hf.0 h)
+        | inr (inr h) ↦ absurd (no_longer again lines macros line t s hf.0 he.0 h)
+      ]
 
   text_next : (s : TextStage) (k more : List ℕ) (c : ℕ) → text.Keeps s (k ++ c ∷ more) → IsNext lines (in_text k) c
   text_next s k more c h = let e = again.text_kept s k more c h in inl (e, no_comment c k again.text_comments e)
@@ -82,13 +68,12 @@ module _ (again : Again) (lines macros : ℕ) where
   next_by (in_notes t e k) (in_text l) c rest hq hp same =
       absurd (in_text_alone again lines macros l t e (k ++ c ∷ rest) hp hq.0 (sym same ∙ append_assoc (t ++ 40 ∷ barred e) k (c ∷ rest)))
   next_by (in_notes t e k) (in_notes u f l) c rest hq hp same =
-      by (split_at 40 40 t u (barred e ++ (k ++ c ∷ rest)) (barred f ++ l)
-      (sym (append_assoc (t ++ 40 ∷ barred e) k (c ∷ rest) ∙ append_assoc t (40 ∷ barred e) (k ++ c ∷ rest)) ∙ same ∙ append_assoc u (40 ∷ barred f) l))
-    where
-      by : Split 40 40 t u (barred e ++ (k ++ c ∷ rest)) (barred f ++ l) → IsNextIn lines (line_after lines 0 e) k c
-      by (inl h) = next_notes 0 e f k l c rest hq.1.0 hp.1.0 hq.1.1 hp.1.1 h.2
-      by (inr (inl h)) = absurd (no_notes again lines macros hp.0.stage t h.0 hq.0.ends (subst (text.Keeps hp.0.stage) h.1 hp.0.keeps))
-      by (inr (inr h)) = absurd (no_notes again lines macros hq.0.stage u h.0 hp.0.ends (subst (text.Keeps hq.0.stage) h.1 hq.0.keeps))
+      elim (split_at 40 40 t u (barred e ++ (k ++ c ∷ rest)) (barred f ++ l)
+      (sym (append_assoc (t ++ 40 ∷ barred e) k (c ∷ rest) ∙ append_assoc t (40 ∷ barred e) (k ++ c ∷ rest)) ∙ same ∙ append_assoc u (40 ∷ barred f) l)) [
+        | inl h ↦ next_notes 0 e f k l c rest hq.1.0 hp.1.0 hq.1.1 hp.1.1 h.2
+        | inr (inl h) ↦ absurd (no_notes again lines macros hp.0.stage t h.0 hq.0.ends (subst (text.Keeps hp.0.stage) h.1 hp.0.keeps))
+        | inr (inr h) ↦ absurd (no_notes again lines macros hq.0.stage u h.0 hp.0.ends (subst (text.Keeps hq.0.stage) h.1 hq.0.keeps))
+      ]
 
   -- After what the one part keeps the character c of the other's kept text comes next.
   pub next_is : (a b : BodyPart) (q p : KeptParts) (c : ℕ) (rest : List ℕ) → PartKeeps lines macros a q → PartKeeps lines macros b p → joined q ++ c ∷ rest ≡ joined p → IsNext lines q c

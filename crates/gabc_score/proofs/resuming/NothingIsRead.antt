@@ -1,5 +1,5 @@
 -- Where nothing is read of a syllable, a text begins.
-use Rattle.std.proofs.Common.{◌≡◌, ℕ, List, [], ◌∷◌, ◌++◌, sym, ap, subst, ◌∙◌}
+use Rattle.std.proofs.Common.{◌≡◌, ℕ, [], ◌∷◌, ◌++◌, sym, ap, subst, ◌∙◌, append_assoc, arith}
 use Rattle.std.proofs.lemmas.Str.{encodes_same}
 use Rattle.gabc_text.specs.witness.Keeps as text
 use Rattle.gabc_score.specs.declared.before.Spans.{Spans}
@@ -8,14 +8,11 @@ use Rattle.gabc_score.specs.machine.BodyBuilder.{with_all}
 use Rattle.gabc_score.specs.machine.Gatherer.{Gathered}
 use Rattle.gabc_score.specs.machine.PartKeeps.{KeptParts, in_text, in_notes, joined, said_by, begun, barred, PartKeeps, IsReading, ReadAlike}
 use Rattle.gabc_score.specs.machine.SyllableBuilder.{nothing_open}
-
-some_notes : (t s k : List ℕ) {P : Type 0} → (t ++ 40 ∷ s) ++ k ≡ [] → P
-some_notes [] s k e = absurd (cc e)
-some_notes (c ∷ t) s k e = absurd (cc e)
+use Rattle.gabc_score.proofs.resuming.PartsAreOne.{nothing_marked}
 
 empty_parts : (p : KeptParts) → joined p ≡ [] → p ≡ in_text []
 empty_parts (in_text k) e = ap in_text e
-empty_parts (in_notes t earlier k) e = some_notes t (barred earlier) k e
+empty_parts (in_notes t earlier k) e = absurd (nothing_marked t (barred earlier ++ k) 40 (sym e ∙ append_assoc t (40 ∷ barred earlier) k))
 
 pub nothing_alike : (lines macros : ℕ) (p : BodyPart) (spans : Spans) (g : Gathered) → IsReading lines macros p spans g → g.builder.kept ≡ [] → ReadAlike g (begun spans)
 unfolding text.said_of
@@ -29,11 +26,4 @@ nothing_kept lines macros p spans g r e = subst (PartKeeps lines macros p) (empt
 pub begins_again : (lines macros : ℕ) (p after : BodyPart) (spans : Spans) (g : Gathered) → IsReading lines macros p spans g → g.builder ≡ nothing_open → PartKeeps lines macros after (in_text [])
     → IsReading lines macros after spans g
 unfolding text.said_of
-begins_again lines macros p after spans g r nothing keeps = record {
-  parts = in_text [];
-  keeps = keeps;
-  said = nothing_alike lines macros p spans g r (ap (λ o. o.kept) nothing);
-  kept = ap (λ o. o.kept) nothing;
-  from = ap (λ o. o.from) nothing;
-  uncut = r.uncut;
-}
+begins_again lines macros p after spans g r nothing keeps = grind (arith, nothing_alike)

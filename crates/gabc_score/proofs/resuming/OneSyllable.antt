@@ -27,7 +27,4 @@ module _ (limits : Limits) (b : Before) (text : List ℕ) where
       (sym (made_after (begun b.spans) b.spans refl refl refl refl r.before r.leaves 0 (omega arith) events).made ∙ r.one)
 
   pub one_syllable : (m n : UnplacedSyllable) → MayBeHeld limits b text m → MayBeHeld limits b text n → m ≡ n
-  one_syllable m n may other = first (sym (made_is m may) ∙ made_is n other)
-    where
-      first : m ∷ [] ≡ n ∷ [] → m ≡ n
-      first e = cc e
+  one_syllable m n may other = let same : m ∷ [] ≡ n ∷ [] = sym (made_is m may) ∙ made_is n other in cc

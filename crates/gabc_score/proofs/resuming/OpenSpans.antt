@@ -37,23 +37,16 @@ close = Notes 0 (Ended Close 0)
 pub opened : Spans → List BodyEvent
 opened spans = close ∷ (nlba_events spans.nlba ++ close ∷ (eu_events spans.eu ++ []))
 
-pub leaves_open : (spans : Spans) → LeavesOpen spans (opened spans)
-unfolding opened close nlba_events eu_events mark kept encode slice
-leaves_open spans = by spans.eu spans.nlba
-  where
-    by : (eu nlba : Bool) → LeavesOpen (record { eu = eu; nlba = nlba }) (opened (record { eu = eu; nlba = nlba }))
-    by true true = record { nothing = refl; eu = refl; nlba = refl }
-    by true false = record { nothing = refl; eu = refl; nlba = refl }
-    by false true = record { nothing = refl; eu = refl; nlba = refl }
-    by false false = record { nothing = refl; eu = refl; nlba = refl }
-
 -- they leave no bracket open
+opened_so : (eu nlba : Bool) → (let spans : Spans = record { eu = eu; nlba = nlba } in LeavesOpen spans (opened spans) × (cut_of (opened spans) ≡ None))
+unfolding opened close nlba_events eu_events mark kept encode slice
+opened_so true true = (record { nothing = refl; eu = refl; nlba = refl }, refl)
+opened_so true false = (record { nothing = refl; eu = refl; nlba = refl }, refl)
+opened_so false true = (record { nothing = refl; eu = refl; nlba = refl }, refl)
+opened_so false false = (record { nothing = refl; eu = refl; nlba = refl }, refl)
+
+pub leaves_open : (spans : Spans) → LeavesOpen spans (opened spans)
+leaves_open spans = (opened_so spans.eu spans.nlba).0
+
 pub none_cut : (spans : Spans) → cut_of (opened spans) ≡ None
-unfolding opened close nlba_events eu_events mark kept
-none_cut spans = by spans.eu spans.nlba
-  where
-    by : (eu nlba : Bool) → cut_of (opened (record { eu = eu; nlba = nlba })) ≡ None
-    by true true = refl
-    by true false = refl
-    by false true = refl
-    by false false = refl
+none_cut spans = (opened_so spans.eu spans.nlba).1

@@ -1,5 +1,5 @@
 -- After a kept text that is read again what is open began where it is reported.
-use Rattle.std.proofs.Common.{◌≡◌, ℕ, [], ◌∷◌, ◌++◌, Bool, true, false, Option, Some, None, is_some, unwrap_or, refl, sym, ap, ◌∙◌, append_assoc, if◌then◌else◌}
+use Rattle.std.proofs.Common.{◌≡◌, ℕ, [], ◌∷◌, ◌++◌, Bool, false, Option, Some, None, is_some, unwrap_or, refl, sym, ap, ◌∙◌, append_assoc, if◌then◌else◌, arith}
 use Rattle.std.proofs.lemmas.Bool.{true≢false}
 use Rattle.gabc_places.specs.declared.place.Place.{Place}
 use Rattle.gabc_text.specs.StageReports as text_tells
@@ -20,18 +20,14 @@ use Rattle.gabc_score.proofs.resuming.PartsAreOne.{nothing_marked}
 
 -- both or none, and at one place
 same_option : (x y : Option Place) → is_some x ≡ is_some y → ((o : Place) → x ≡ Some o → o ≡ unwrap_or y first_place) → x ≡ y
-same_option None None e at = refl
-same_option (Some o) (Some p) e at = ap (λ (q : Place). Some q) (at o refl)
-same_option None (Some p) e at = absurd (true≢false (sym e))
-same_option (Some o) None e at = absurd (true≢false e)
+same_option x y e at = grind arith
 
 abbrev openers_by : Option Place → Option Place → Openers
 openers_by notes inner = record { notes = notes; inner = inner }
 
 -- a bracket of GABC is open after one kept text, or none
 some_raw : (b : Bool) (p : Place) → is_some (if b then Some p else None) ≡ b
-some_raw true p = refl
-some_raw false p = refl
+some_raw b p = grind arith
 
 raw_same : (s t : NoteStage) → s.state ≡ t.state → is_some (tells.opener_of s) ≡ is_some (tells.opener_of t)
 raw_same s t e = some_raw (in_raw (example s.state)) s.before.place ∙ ap (λ st. in_raw (example st)) e ∙ sym (some_raw (in_raw (example t.state)) t.before.place)
@@ -59,17 +55,13 @@ module _ (ends : Ends) (lines macros : ℕ) where
   unfolding text.is_open_after_text
   nothing_open = refl
 
-  none_open : (x : Option Place) → is_some x ≡ false → (o : Place) → x ≡ Some o → ⊥
-  none_open None e o f = true≢false (ap (λ (y : Option Place). is_some y) (sym f))
-  none_open (Some p) e o f = true≢false e
-
   -- Before a syllable nothing is open.
   pub nothing_is_open : (outer inner : Place) (a : BodyPart) (p : KeptParts) → PartKeeps lines macros a p → [] ≡ joined p → is_in_comment a ≡ false → (is_in_front a ≡ false) × OpenAt outer inner a
   nothing_is_open outer inner (part.Text s) (in_text k) ha none outside = (
     refl,
     record {
-      notes_at = λ o e. absurd (none_open None refl o e);
-      inner_at = λ o e. absurd (none_open (text_tells.opener_of s) (ends.text_opener s k ha ∙ ap text.is_open_after_text (sym none) ∙ nothing_open) o e);
+      notes_at = λ o e. absurd (cc e);
+      inner_at = λ o e. absurd (cc (ends.text_opener s k ha ∙ ap text.is_open_after_text (sym none) ∙ nothing_open, e));
     },
   )
   nothing_is_open outer inner part.Comment p ha none outside = absurd (true≢false outside)

@@ -1,5 +1,5 @@
 -- A kept text is cut into its parts in one way.
-use Rattle.std.proofs.Common.{◌≡◌, ◌⊎◌, inl, inr, ◌==◌, ◌&&◌, ◌||◌, not, ℕ, zero, suc, nat_lt, List, [], ◌∷◌, ◌++◌, Bool, true, false, refl, sym, ap, ◌∙◌, subst, append_assoc, codes}
+use Rattle.std.proofs.Common.{◌≡◌, ◌⊎◌, inl, inr, ◌&&◌, not, ℕ, zero, suc, nat_lt, List, [], ◌∷◌, ◌++◌, Bool, true, false, refl, sym, ap, ◌∙◌, subst, append_assoc, codes, arith}
 use Rattle.std.proofs.Math.Bool.{and-false}
 use Rattle.std.proofs.lemmas.Bool.{true≢false}
 use Rattle.gabc_patterns.specs.Derivative.{is_snippet}
@@ -14,7 +14,6 @@ use Rattle.gabc_notes.specs.witness.Keeps as notes
 use Rattle.gabc_nabc.specs.declared.stage.NabcStage.{NabcStage}
 use Rattle.gabc_nabc.specs.witness.Keeps as nabc
 use Rattle.gabc_score.specs.declared.body_stage.BodyPart.{BodyPart}
-use Rattle.gabc_score.specs.declared.body_stage.BodyPart.TheVariants as part
 use Rattle.gabc_score.specs.Events.{next_line}
 use Rattle.gabc_score.specs.machine.StageLaws.{Again}
 use Rattle.gabc_score.specs.machine.PartKeeps.{KeptParts, in_text, in_notes, barred, joined, line_after, IsEndedText, IsEndedOn, AreEnded, PartKeeps}
@@ -24,31 +23,23 @@ use Rattle.gabc_score.specs.machine.PartKeeps.{KeptParts, in_text, in_notes, bar
 abbrev pub Longer : ℕ → List ℕ → List ℕ → Type 0
 Longer mark s t = (v : List ℕ) × (t ≡ s ++ mark ∷ v)
 
-pub head_same : (a b : ℕ) (s t : List ℕ) → a ∷ s ≡ b ∷ t → a ≡ b
-head_same a b s t e = cc
-
-pub tail_same : (a b : ℕ) (s t : List ℕ) → a ∷ s ≡ b ∷ t → s ≡ t
-tail_same a b s t e = cc
-
 -- one of them is the other, or goes on after it with its mark
 abbrev pub Split : ℕ → ℕ → List ℕ → List ℕ → List ℕ → List ℕ → Type 0
 Split a b s t r u = ((s ≡ t) × (a ≡ b) × (r ≡ u)) ⊎ (Longer a s t ⊎ Longer b t s)
 
 pub split_at : (a b : ℕ) (s t r u : List ℕ) → s ++ a ∷ r ≡ t ++ b ∷ u → Split a b s t r u
-split_at a b [] [] r u e = inl (refl, head_same a b r u e, tail_same a b r u e)
-split_at a b [] (y ∷ t) r u e = inr (inl (t, ap (λ (c : ℕ). c ∷ t) (sym (head_same a y r (t ++ b ∷ u) e))))
-split_at a b (x ∷ s) [] r u e = inr (inr (s, ap (λ (c : ℕ). c ∷ s) (head_same x b (s ++ a ∷ r) u e)))
-split_at a b (x ∷ s) (y ∷ t) r u e = by (split_at a b s t r u (tail_same x y (s ++ a ∷ r) (t ++ b ∷ u) e))
-  where
-    first : x ≡ y
-    first = head_same x y (s ++ a ∷ r) (t ++ b ∷ u) e
+split_at a b [] [] r u e = inl (refl, (cc), (cc))
+split_at a b [] (y ∷ t) r u e = inr (inl (t, (cc)))
+split_at a b (x ∷ s) [] r u e = inr (inr (s, (cc)))
+split_at a b (x ∷ s) (y ∷ t) r u e =
+    let rest : s ++ a ∷ r ≡ t ++ b ∷ u = cc in
+    elim (split_at a b s t r u rest) [
+      | inl h ↦ inl (cc (h.0), h.1, h.2)
+      | inr (inl h) ↦ inr (inl (h.0, cc (h.1)))
+      | inr (inr h) ↦ inr (inr (h.0, cc (h.1)))
+    ]
 
-    by : Split a b s t r u → Split a b (x ∷ s) (y ∷ t) r u
-    by (inl h) = inl (ap (λ (c : ℕ). c ∷ s) first ∙ ap (λ (v : List ℕ). y ∷ v) h.0, h.1, h.2)
-    by (inr (inl h)) = inr (inl (h.0, ap (λ (v : List ℕ). y ∷ v) h.1 ∙ ap (λ (c : ℕ). c ∷ (s ++ a ∷ h.0)) (sym first)))
-    by (inr (inr h)) = inr (inr (h.0, ap (λ (v : List ℕ). x ∷ v) h.1 ∙ ap (λ (c : ℕ). c ∷ (t ++ b ∷ h.0)) first))
-
-pub nothing_marked : (s r : List ℕ) (mark : ℕ) → [] ≡ s ++ mark ∷ r → ⊥
+pub nothing_marked : {X : Type 0} (s r : List X) (mark : X) → [] ≡ s ++ mark ∷ r → ⊥
 nothing_marked [] r mark e = cc
 nothing_marked (x ∷ s) r mark e = cc
 
@@ -65,25 +56,15 @@ module _ (again : Again) (lines macros : ℕ) where
 
   -- no stage keeps a `|` after a snippet that ends there
   pub no_bar : (line : ℕ) (s v : List ℕ) → IsEndedOn lines macros line s → IsKeptOn line (s ++ 124 ∷ v) → ⊥
-  no_bar zero s v ended kept = true≢false (sym (ends (nat_lt 0 lines) ended.0 (in_raw s) (outside s ended.1.whole)) ∙ (again.gabc_kept (nat_lt 0 lines) macros kept.0 s v 124 kept.1).goes_on)
-    where
-      ends : (split : Bool) → split ≡ true → (r : Bool) → r ≡ false
-          → (not (not (124 == 10) && (false || (not r && (124 == 37)))) && (not r && ((124 == 41) || (split && (124 == 124))))) ≡ true
-      ends true e false f = refl
-      ends false e r f = absurd (true≢false (sym e))
-      ends true e true f = absurd (true≢false f)
+  no_bar zero s v ended kept = true≢false (rw (ended.0, outside s ended.1.whole) at (again.gabc_kept (nat_lt 0 lines) macros kept.0 s v 124 kept.1).goes_on)
   no_bar (suc line) s v ended kept = true≢false (kept.1.whole s v 124 refl).goes_on
 
   pub part_of_whole : (line : ℕ) (s : List ℕ) → IsEndedOn lines macros line s → (rest : List ℕ) × IsKeptOn line (s ++ rest)
-  part_of_whole zero s e = (e.1.rest, (e.1.stage, e.1.keeps))
-  part_of_whole (suc line) s e = (e.rest, (e.stage, e.keeps))
+  part_of_whole line s e = grind arith
 
   -- nor does one that ends there go on after it
   pub no_longer : (line : ℕ) (s t : List ℕ) → IsEndedOn lines macros line s → IsEndedOn lines macros line t → Longer 124 s t → ⊥
-  no_longer line s t ended other longer =
-      let whole = part_of_whole line t other in
-      no_bar line s (longer.0 ++ whole.0) ended
-      (subst (IsKeptOn line) (ap (λ (u : List ℕ). u ++ whole.0) longer.1 ∙ append_assoc s (124 ∷ longer.0) whole.0) whole.1)
+  no_longer line s t ended other longer = grind (arith, part_of_whole, no_bar, append_assoc)
 
   pub bar_first : (s : List ℕ) (earlier : List (List ℕ)) (k : List ℕ) → barred (s ∷ earlier) ++ k ≡ s ++ 124 ∷ (barred earlier ++ k)
   bar_first s earlier k = append_assoc (s ++ 124 ∷ []) (barred earlier) k ∙ append_assoc s (124 ∷ []) (barred earlier ++ k)
@@ -93,13 +74,11 @@ module _ (again : Again) (lines macros : ℕ) where
   one_notes line [] [] k l he hf hk hl same = (refl, same)
   one_notes line [] (t ∷ f) k l he hf hk hl same = absurd (no_bar line t (barred f ++ l) hf.0 (subst (IsKeptOn line) (same ∙ bar_first t f l) hk))
   one_notes line (s ∷ e) [] k l he hf hk hl same = absurd (no_bar line s (barred e ++ k) he.0 (subst (IsKeptOn line) (sym same ∙ bar_first s e k) hl))
-  one_notes line (s ∷ e) (t ∷ f) k l he hf hk hl same =
-      by (split_at 124 124 s t (barred e ++ k) (barred f ++ l) (sym (bar_first s e k) ∙ same ∙ bar_first t f l)) (λ g. one_notes (next_line lines line) e f k l he.1 hf.1 hk hl g)
-    where
-      by : Split 124 124 s t (barred e ++ k) (barred f ++ l) → (barred e ++ k ≡ barred f ++ l → (e ≡ f) × (k ≡ l)) → (s ∷ e ≡ t ∷ f) × (k ≡ l)
-      by (inl h) later = (ap (λ (u : List ℕ). u ∷ e) h.0 ∙ ap (λ (es : List (List ℕ)). t ∷ es) (later h.2).0, (later h.2).1)
-      by (inr (inl h)) later = absurd (no_longer line s t he.0 hf.0 h)
-      by (inr (inr h)) later = absurd (no_longer line t s hf.0 he.0 h)
+  one_notes line (s ∷ e) (t ∷ f) k l he hf hk hl same = elim (split_at 124 124 s t (barred e ++ k) (barred f ++ l) (sym (bar_first s e k) ∙ same ∙ bar_first t f l)) [
+    | inl h ↦ (let later = one_notes (next_line lines line) e f k l he.1 hf.1 hk hl h.2 in (cc (h.0, later.0), later.1))
+    | inr (inl h) ↦ absurd (no_longer line s t he.0 hf.0 h)
+    | inr (inr h) ↦ absurd (no_longer line t s hf.0 he.0 h)
+  ]
 
   -- no stage keeps a `(` after a text that ends there
   pub no_notes : (s : TextStage) (t v : List ℕ) → text.ends_after_it t ≡ true → text.Keeps s (t ++ 40 ∷ v) → ⊥
@@ -111,20 +90,7 @@ module _ (again : Again) (lines macros : ℕ) where
   AreKept (in_notes t earlier k) = IsEndedText t × (AreEnded lines macros 0 earlier × IsKeptOn (line_after lines 0 earlier) k)
 
   pub kept_by : (b : BodyPart) (p : KeptParts) → PartKeeps lines macros b p → AreKept p
-  kept_by part.Comment (in_text k) h = inl (text_is k h)
-    where
-      text_is : (k : List ℕ) → in_text k ≡ in_text [] → k ≡ []
-      text_is k e = cc
-  kept_by part.Comment (in_notes t earlier k) h = absurd (cc)
-  kept_by (part.Text s) (in_text k) h = inr (s, h)
-  kept_by (part.Text s) (in_notes t earlier k) h = absurd h
-  kept_by (part.Notes opened s) (in_notes t earlier k) h = (h.0.text_ended, (h.0.snippets_ended, subst (λ (l : ℕ). IsKeptOn l k) (sym h.0.line_is) (s, h.1)))
-  kept_by (part.Nabc line opened s) (in_notes t earlier k) h = (h.0.text_ended, (h.0.snippets_ended, subst (λ (l : ℕ). IsKeptOn l k) (sym h.0.line_is) (on line h.1.0 h.1.1)))
-    where
-      on : (l : ℕ) → (l ≡ 0 → ⊥) → nabc.Keeps s k → IsKeptOn l k
-      on zero some keeps = absurd (some refl)
-      on (suc l) some keeps = (s, keeps)
-  kept_by _ (in_text k) h = absurd h
+  kept_by b p h = grind arith
 
   pub in_text_alone : (k t : List ℕ) (earlier : List (List ℕ)) (l : List ℕ) → AreKept (in_text k) → IsEndedText t → k ≡ (t ++ 40 ∷ barred earlier) ++ l → ⊥
   in_text_alone k t earlier l (inl none) ended same = nothing_marked t (barred earlier ++ l) 40 (sym none ∙ same ∙ append_assoc t (40 ∷ barred earlier) l)
@@ -135,14 +101,11 @@ module _ (again : Again) (lines macros : ℕ) where
   parts_one (in_text k) (in_notes t earlier l) hp hq same = absurd (in_text_alone k t earlier l hp hq.0 same)
   parts_one (in_notes t earlier k) (in_text l) hp hq same = absurd (in_text_alone l t earlier k hq hp.0 (sym same))
   parts_one (in_notes t e k) (in_notes u f l) hp hq same =
-      by (split_at 40 40 t u (barred e ++ k) (barred f ++ l) (sym (append_assoc t (40 ∷ barred e) k) ∙ same ∙ append_assoc u (40 ∷ barred f) l))
-    where
-      by : Split 40 40 t u (barred e ++ k) (barred f ++ l) → in_notes t e k ≡ in_notes u f l
-      by (inl h) =
-          let n = one_notes 0 e f k l hp.1.0 hq.1.0 hp.1.1 hq.1.1 h.2 in
-          ap (λ (v : List ℕ). in_notes v e k) h.0 ∙ ap (λ (v : List (List ℕ)). in_notes u v k) n.0 ∙ ap (in_notes u f) n.1
-      by (inr (inl h)) = absurd (no_notes hq.0.stage t h.0 hp.0.ends (subst (text.Keeps hq.0.stage) h.1 hq.0.keeps))
-      by (inr (inr h)) = absurd (no_notes hp.0.stage u h.0 hq.0.ends (subst (text.Keeps hp.0.stage) h.1 hp.0.keeps))
+      elim (split_at 40 40 t u (barred e ++ k) (barred f ++ l) (sym (append_assoc t (40 ∷ barred e) k) ∙ same ∙ append_assoc u (40 ∷ barred f) l)) [
+        | inl h ↦ (let n = one_notes 0 e f k l hp.1.0 hq.1.0 hp.1.1 hq.1.1 h.2 in cc (h.0, n.0, n.1))
+        | inr (inl h) ↦ absurd (no_notes hq.0.stage t h.0 hp.0.ends (subst (text.Keeps hq.0.stage) h.1 hq.0.keeps))
+        | inr (inr h) ↦ absurd (no_notes hp.0.stage u h.0 hq.0.ends (subst (text.Keeps hp.0.stage) h.1 hp.0.keeps))
+      ]
 
   -- What two parts keep is the same where the whole kept texts are.
   pub parts_are_one : (a b : BodyPart) (p q : KeptParts) → PartKeeps lines macros a p → PartKeeps lines macros b q → joined p ≡ joined q → p ≡ q

@@ -7,12 +7,10 @@ use Rattle.std.specs.List.{list_any}
 use Rattle.gabc_places.specs.declared.place.Char.{Char}
 use Rattle.gabc_places.specs.declared.place.Place.{Place}
 use Rattle.gabc_patterns.specs.Derivative.{is_viable}
-use Rattle.gabc_patterns.specs.Function.{trim}
 use Rattle.gabc_patterns.specs.LongestItems.{IsSnippet}
 use Rattle.gabc_patterns.proofs.FunctionsMeetRelations.{trim_snippet}
 use Rattle.gabc_text.specs.BuiltText.{kept_in}
 use Rattle.gabc_text.specs.StageReports as text_tells
-use Rattle.gabc_text.specs.witness.StageReports as text_reports
 use Rattle.gabc_text.specs.witness.Keeps as text
 use Rattle.gabc_text.specs.declared.stage.TextStage.{TextStage}
 use Rattle.gabc_text.specs.declared.text_event.TextEvent.{TextEvent}
@@ -37,9 +35,9 @@ use Rattle.gabc_score.specs.Syllable.{prefix_of}
 use Rattle.gabc_score.specs.machine.BodyBuilder.{with_all}
 use Rattle.gabc_score.specs.machine.Gatherer.{Gathered}
 use Rattle.gabc_score.specs.machine.PartKeeps.{KeptParts, in_text, in_notes, text_before, text_events, snippet_events, PartKeeps}
-use Rattle.gabc_score.specs.machine.ReadAgain.{Adds, BeginsComment, BeginsIn, IsNext, IsNextIn, OpenAt, OpensNotes, Reads, ReadsAgain, place_in}
+use Rattle.gabc_score.specs.machine.ReadAgain.{Adds, BeginsComment, BeginsIn, IsNext, IsNextIn, OpenAt, OpensNotes, Reads, ReadsAgain}
 use Rattle.gabc_score.proofs.building.SnippetsTakeCharacters.{StaysInNotes, in_snippet, next_ends, none_close, none_next, not_next, one_ends, stays_in_notes}
-use Rattle.gabc_score.proofs.building.PartsOfKeptText.{Grows, IsMarked, cut_is, end_marks, ends_text, notes_ended, notes_said, of_notes, said_gathered, snippet_grows, text_goes_on, text_grows}
+use Rattle.gabc_score.proofs.building.PartsOfKeptText.{Grows, cut_is, end_marks, ends_text, notes_ended, notes_said, of_notes, said_gathered, snippet_grows, text_goes_on, text_grows}
 use Rattle.gabc_score.proofs.resuming.PartsAreOne.{outside}
 use Rattle.gabc_score.proofs.texts_of_body.SeamsOfCharacters.{size, size_append, size_is_sum}
 use Rattle.gabc_score.specs.declared.events.BodyEvent.{BodyEvent}
@@ -49,21 +47,15 @@ use Rattle.gabc_score.specs.machine.PartSteps as step
 
 -- ---- where what is open began
 
-some_same : (p o : Place) → Some p ≡ Some o → o ≡ p
-some_same p o e = cc
-
-none_some : (o : Place) → None ≡ Some o → ⊥
-none_some o e = cc
-
 -- after a `(` or a `|` no bracket is open yet
 begins_at : (outer inner opened : Place) (after : BodyPart) → openers_of after ≡ record { notes = Some opened; inner = None } → opened ≡ outer → OpenAt outer inner after
 begins_at outer inner opened after is at = record {
-  notes_at = λ o e. some_same opened o (ap (λ (k : Openers). k.notes) (sym is) ∙ e) ∙ at;
-  inner_at = λ o e. absurd (none_some o (ap (λ (k : Openers). k.inner) (sym is) ∙ e));
+  notes_at = λ o e. cc (ap (λ (k : Openers). k.notes) (sym is) ∙ e, at);
+  inner_at = λ o e. absurd (cc (ap (λ (k : Openers). k.inner) (sym is) ∙ e));
 }
 
 not_in_front : (opened : Place) (after : BodyPart) → openers_of after ≡ record { notes = Some opened; inner = None } → is_in_front after ≡ false
-not_in_front opened part.Comment is = absurd (none_some opened (ap (λ (k : Openers). k.notes) is))
+not_in_front opened part.Comment is = absurd (cc (ap (λ (k : Openers). k.notes) is))
 not_in_front opened (part.Text s) is = refl
 not_in_front opened _ is = refl
 
@@ -71,15 +63,12 @@ not_in_front opened _ is = refl
 one_more : (kept : List ℕ) (c : ℕ) → kept ++ encode_utf8 c ≡ kept ++ encode_utf8_all (c ∷ [])
 one_more kept c = ap (λ (b : List ℕ). kept ++ b) (sym (append-nil (encode_utf8 c)))
 
-none_cons : (c : ℕ) → c ∷ [] ≡ [] → ⊥
-none_cons c e = cc
-
 -- ---- a text
 
 module _ (lines macros : ℕ) (x : Char) (s t : TextStage) (es : List TextEvent) (on : text.KeepsOn s x.c es t) where
   -- what keeps something does not end the text
   kept_goes_on : (k : List ℕ) → text.Keeps s k → text_tells.is_in_comment s ≡ false → text.kept_with k x.c ≡ x.c ∷ [] → text.end_text es ≡ false
-  kept_goes_on k keeps plain kept = false_from_ne_true (text.end_text es) (λ e. none_cons x.c (sym kept ∙ sym (on.kept k keeps plain) ∙ (on.ends k keeps e).kept))
+  kept_goes_on k keeps plain kept = false_from_ne_true (text.end_text es) (λ e. let none : x.c ∷ [] ≡ [] = sym kept ∙ sym (on.kept k keeps plain) ∙ (on.ends k keeps e).kept in cc)
 
   percent_goes_on : (k : List ℕ) → text.Keeps s k → x.c ≡ 37 → text.end_text es ≡ false
   percent_goes_on k keeps is = on.end k keeps ∙ ap (λ (c : ℕ). not (text_tells.is_in_comment s) && (c == 40 && text.ends_after_it k)) is ∙ and-false (not (text_tells.is_in_comment s))
@@ -90,15 +79,11 @@ module _ (lines macros : ℕ) (x : Char) (s t : TextStage) (es : List TextEvent)
     adds = λ g here from fits. let h = text_grows es g goes_on in record { kept = h.kept ∙ ap (λ (m : List ℕ). g.builder.kept ++ encode_utf8_all m) kept; made = h.made };
     comment_is = goes.comment ∙ is;
     front = refl;
-    openers = λ outer inner at stands began. record { notes_at = began.notes_at; inner_at = λ o e. by outer o at stands (λ (f : text_tells.opener_of s ≡ Some o). began.inner_at o f) (goes.opener o e) };
+    openers = λ outer inner at stands began. record { notes_at = began.notes_at; inner_at = λ o e. elim (goes.opener o e) [ inl h ↦ began.inner_at o h | inr h ↦ sym h ∙ stands ∙ at ] };
   }
     where
       goes : text.GoesOn s k x.c es t
       goes = on.goes k keeps goes_on
-
-      by : (outer o : Place) → x.place ≡ outer → text_reports.next_of s ≡ x.place → (text_tells.opener_of s ≡ Some o → o ≡ outer) → (text_tells.opener_of s ≡ Some o) ⊎ (text_reports.next_of s ≡ o) → o ≡ outer
-      by outer o at stands began (inl h) = began h
-      by outer o at stands began (inr h) = sym h ∙ stands ∙ at
 
   pub text_reads : list_any is_text_end es ≡ false → ReadsAgain lines macros x (part.Text s) (part.Text t) (text_events es)
   text_reads goes_on = record { next = next; comment = comment }
@@ -121,27 +106,7 @@ module _ (lines macros : ℕ) (x : Char) (s t : TextStage) (es : List TextEvent)
   -- the `(` after it
   pub text_end_reads : (after : BodyPart) → list_any is_text_end es ≡ true → openers_of after ≡ record { notes = Some x.place; inner = None } → is_in_comment after ≡ false
       → ReadsAgain lines macros x (part.Text s) after (text_events es)
-  text_end_reads after over openers closed = record { next = next; comment = comment }
-    where
-      next : (p : KeptParts) → PartKeeps lines macros (part.Text s) p → text_tells.is_in_comment s ≡ false → IsNext lines p x.c → Reads (part.Text s) p x (x.c ∷ []) false after (text_events es)
-      next (in_notes u earlier k) keeps plain is = absurd keeps
-      next (in_text k) keeps plain (inl is) = absurd (true≢false (sym (ends_text es over) ∙ kept_goes_on k keeps plain is.0))
-      next (in_text k) keeps plain (inr is) = record {
-        adds = λ g here from fits. let m = marked g in record { kept = m.kept ∙ ap (λ (c : ℕ). g.builder.kept ++ encode_utf8 c) (sym is.0) ∙ one_more g.builder.kept x.c; made = m.made };
-        comment_is = closed;
-        front = not_in_front x.place after openers;
-        openers = λ outer inner at stands began. begins_at outer inner x.place after openers at;
-      }
-        where
-          ends : text.EndsAfter k es t
-          ends = on.ends k keeps (ends_text es over)
-
-          marked : (g : Gathered) → IsMarked g (with_all g (text_events es)) 40
-          marked g = subst (λ (i : Gathered). IsMarked g i 40) (sym (said_gathered g es ∙ ap (λ (os : List TextEvent). with_all g (text_events os)) ends.said)) (end_marks g (text.said_at_end k) ends.notes)
-
-      comment : (p : KeptParts) → PartKeeps lines macros (part.Text s) p → text_tells.is_in_comment s ≡ false → x.c ≡ 37 → BeginsComment lines p → Reads (part.Text s) p x [] true after (text_events es)
-      comment (in_notes u earlier k) keeps plain is begins = absurd keeps
-      comment (in_text k) keeps plain is begins = absurd (true≢false (sym (ends_text es over) ∙ percent_goes_on k keeps is))
+  text_end_reads after over openers closed = grind (arith, ends_text, kept_goes_on, one_more, not_in_front, said_gathered, end_marks, percent_goes_on)
 
 -- ---- a snippet
 
@@ -214,9 +179,9 @@ module _ (lines macros : ℕ) (opened : Place) (s t : NoteStage) (x : Char) (es 
       }
     where
       by : (b : Bool) (q : Option Place) (o : Place) → notes.opener_after b q x.place ≡ Some o → (q ≡ Some o) ⊎ (x.place ≡ o)
-      by false q o e = absurd (none_some o e)
+      by false q o e = absurd (cc e)
       by true (Some q) o e = inl e
-      by true None o e = inr (sym (some_same x.place o e))
+      by true None o e = inr (cc e)
 
   gabc_again : (k : List ℕ) → Keep k → tells.comment_of s ≡ false → notes.IsKeptAgain split k x.c → GoesOn (x.c ∷ []) false
   gabc_again k keeps plain is =
@@ -236,26 +201,10 @@ module _ (lines macros : ℕ) (opened : Place) (s t : NoteStage) (x : Char) (es 
           ∙ ap (λ (r : Bool). not (37 == 10) && (false || (not r && (37 == 37)))) raw
 
   gabc_bar : (k : List ℕ) → Keep k → tells.comment_of s ≡ false → x.c ≡ 124 → split ≡ true → IsSnippet gabc k → notes.EndsAfter k x.c es
-  gabc_bar k keeps plain is splits snippet = on.ends split macros k keeps (
-      ap (λ (b : Bool). notes.is_end_after split k b x.c) plain
-      ∙ ap (λ (c : ℕ). notes.is_end_after split k false c) is
-      ∙ ap (λ (r : Bool). not (not (124 == 10) && (false || (not r && (124 == 37)))) && (not r && ((124 == 41) || (split && (124 == 124))))) (outside k snippet)
-      ∙ ap (λ (b : Bool). (124 == 41) || (b && (124 == 124))) splits)
+  gabc_bar k keeps plain is splits snippet = grind (arith, outside)
 
   gabc_next : (k : List ℕ) → Keep k → tells.comment_of s ≡ false → ReadsNext lines 0 x (part.Notes opened s) (part.Notes opened t) es k
-  gabc_next k keeps plain = record { next = next; comment = gabc_percent k keeps plain }
-    where
-      next : IsNextIn lines 0 k x.c → GoesOn (x.c ∷ []) false ⊎ ((x.c ≡ 124) × EndsWhole es x.c k)
-      next (inl is) = inl (gabc_again k keeps plain is)
-      next (inr is) =
-          let e = gabc_bar k keeps plain is.0 is.1.0 is.1.1 in
-          inr (
-            is.0,
-            record {
-              none_kept = e.none_kept;
-              end = e.end ∙ ap (λ (n : ℕ). (end_by_mark x.c, min n (2 ^ 64 - 1)) ∷ []) (size_is_sum (trim gabc k) ∙ ap size (trim_snippet gabc refl k is.1.1));
-            },
-          )
+  gabc_next k keeps plain = grind (arith, gabc_percent, gabc_again, gabc_bar, size_is_sum, trim_snippet)
 
 -- ---- a snippet of NABC
 
@@ -271,13 +220,11 @@ module _ (lines macros line : ℕ) (opened : Place) (s t : NabcStage) (x : Char)
         no_end = g.no_end;
         kept = append_cancel_left k (kept_of es) more (g.kept ∙ kept);
         comment_is = g.comment ∙ is;
-        opener = λ o e. absurd (none_some o e);
+        opener = λ o e. absurd (cc e);
       }
 
   nabc_again : (k : List ℕ) → nabc.Keeps s k → nabc.comment_of s ≡ false → nabc.IsKeptAgain k x.c → NabcGoesOn (x.c ∷ []) false
-  nabc_again k keeps plain is =
-      nabc_goes k (x.c ∷ []) false keeps (ap (λ (b : Bool). nabc.is_end_after b x.c) plain ∙ is.goes_on) (ap (λ (b : Bool). nabc.kept_after k b x.c) plain ∙ is.kept)
-      (ap (λ (b : Bool). comment_in b x.c) plain ∙ is.no_comment)
+  nabc_again k keeps plain is = grind (arith, nabc_goes)
 
   nabc_percent : (k : List ℕ) → nabc.Keeps s k → nabc.comment_of s ≡ false → x.c ≡ 37 → NabcGoesOn [] true
   nabc_percent k keeps plain is =
@@ -314,14 +261,13 @@ module _ (lines macros : ℕ) {x : Char} {line : ℕ} {opened : Place} {before s
       → ((u : List ℕ) (earlier : List (List ℕ)) (k : List ℕ) → x.c ≡ 124 → EndsWhole es x.c k → ReadsIn after (in_notes u earlier k) (x.c ∷ []) false) → ReadsAgain lines macros x before after (of_notes line opened es)
   snippet_reads after goes ends = record {
     next = λ p keeps plain is. in_snippet lines macros s (λ (p : KeptParts). IsNext lines p x.c → ReadsIn after p (x.c ∷ []) false)
-        (λ u earlier k later here is. by u earlier k ((reads_next lines macros s u earlier k here plain).next (subst (λ (l : ℕ). IsNextIn lines l k x.c) later.line_is is))) p keeps is;
+        (λ u earlier k later here is. elim ((reads_next lines macros s u earlier k here plain).next (subst (λ (l : ℕ). IsNextIn lines l k x.c) later.line_is is)) [
+          | inl h ↦ goes u earlier k (x.c ∷ []) false h
+          | inr h ↦ ends u earlier k h.0 h.1
+        ]) p keeps is;
     comment = λ p keeps plain is begins. in_snippet lines macros s (λ (p : KeptParts). BeginsComment lines p → ReadsIn after p [] true)
         (λ u earlier k later here begins. goes u earlier k [] true ((reads_next lines macros s u earlier k here plain).comment is (subst (λ (l : ℕ). BeginsIn l k) later.line_is begins))) p keeps begins;
   }
-    where
-      by : (u : List ℕ) (earlier : List (List ℕ)) (k : List ℕ) → GoesWith es before same x.place (x.c ∷ []) false ⊎ ((x.c ≡ 124) × EndsWhole es x.c k) → ReadsIn after (in_notes u earlier k) (x.c ∷ []) false
-      by u earlier k (inl h) = goes u earlier k (x.c ∷ []) false h
-      by u earlier k (inr h) = ends u earlier k h.0 h.1
 
   goes_reads : list_any is_next es ≡ false → list_any is_close es ≡ false → ReadsAgain lines macros x before same (of_notes line opened es)
   goes_reads next close = snippet_reads same
@@ -331,18 +277,13 @@ module _ (lines macros : ℕ) {x : Char} {line : ℕ} {opened : Place} {before s
         front = still.front;
         openers = λ outer inner at stands began. record {
           notes_at = λ o e. began.notes_at o (still.was ∙ sym still.is ∙ e);
-          inner_at = λ o e. by outer inner o at began.inner_at (h.opener o e);
+          inner_at = λ o e. elim (h.opener o e) [ inl was ↦ began.inner_at o was | inr here ↦ sym here ∙ at ] ∙ sym (still.place outer inner);
         };
       })
       (λ u earlier k is e. absurd (one_ends es x.c _ e.end next close))
     where
       still : StaysInNotes opened before same
       still = stays_in_notes s
-
-      by : (outer inner o : Place) → x.place ≡ place_in outer inner before → ((o : Place) → (openers_of before).inner ≡ Some o → o ≡ place_in outer inner before)
-          → ((openers_of before).inner ≡ Some o) ⊎ (x.place ≡ o) → o ≡ place_in outer inner same
-      by outer inner o at began (inl e) = began o e ∙ sym (still.place outer inner)
-      by outer inner o at began (inr e) = sym e ∙ at ∙ sym (still.place outer inner)
 
   next_reads : (after : BodyPart) → list_any is_next es ≡ true → OpensNotes opened after → ReadsAgain lines macros x before after (of_notes line opened es)
   next_reads after next opens = snippet_reads after

@@ -1,29 +1,31 @@
 -- A text that is read by itself, one character after the other.
 use Rattle.std.proofs.Common.{◌≡◌, ℕ, suc, ◌&&◌, not, Bool, true, false, List, [], ◌∷◌, length, take, refl, sym, ap, ◌∙◌, arith}
 use Rattle.std.proofs.Math.Bool.{and-false}
+use Rattle.std.proofs.lemmas.Bool.{not-true}
 use Rattle.std.proofs.lemmas.List.{length-take-le}
 use Rattle.gabc_places.specs.Place.{next_place, placed_characters_from}
 use Rattle.gabc_places.specs.StageLaw.{concat_of}
 use Rattle.gabc_places.specs.declared.place.Place.{Place}
-use Rattle.gabc_places.specs.declared.limits.Limits.{Limits}
 use Rattle.gabc_score.specs.declared.events.BodyEvent.{BodyEvent}
 use Rattle.gabc_score.specs.declared.score_machine.ScoreMachine.{ScoreMachine}
 use Rattle.gabc_score.specs.Body.{is_none}
 use Rattle.gabc_score.specs.Syllable.{UnplacedSyllable}
 use Rattle.gabc_score.specs.machine.BodyBuilder.{with_all}
-use Rattle.gabc_score.specs.machine.Gatherer.{Gathered}
-use Rattle.gabc_score.specs.machine.ReadAlone.{is_fine, is_alone, lists_from, ReadsAlone}
+use Rattle.gabc_score.specs.machine.ReadAlone.{is_alone, lists_from, ReadsAlone}
 use Rattle.gabc_score.specs.witness.BodyStage.{BodyStageState, part_with, running_events_left, texts_by_stage}
 use Rattle.gabc_score.proofs.building.OneListEachCharacter.{events_each}
 use Rattle.gabc_places.proofs.PlacesOfAText.{length_placed}
 use Rattle.gabc_score.proofs.building.EventsOfOnePoint.{with_all_append}
 
 pub none_made : (ms : List UnplacedSyllable) → not (is_none ms) ≡ false → ms ≡ []
-none_made [] e = refl
-none_made (m ∷ ms) e = absurd (cc e)
+none_made ms e = grind arith
 
-pub is_empty : (ms : List UnplacedSyllable) → ms ≡ [] → is_none ms ≡ true
-is_empty ms e = ap is_none e
+pub lists_each : (m : ScoreMachine) (at : Place) (text : List ℕ) → length (lists_from m at text) ≡ length text
+lists_each m at text =
+    let xs = placed_characters_from at text in
+    let all = events_each texts_by_stage m.body.nabc_lines m.body.macros (part_with m.body.part xs) xs in
+    let placed = length_placed at text in
+    length-take-le (length text) (running_events_left m.body xs) (omega (arith, all, placed))
 
 module _ (m n : ScoreMachine) (at : Place) (c : ℕ) (cs : List ℕ) (fine : Bool) (r : ReadsAlone m n (record { c = c; place = at }) fine) where
   later : List (List BodyEvent)
@@ -39,48 +41,22 @@ module _ (m n : ScoreMachine) (at : Place) (c : ℕ) (cs : List ℕ) (fine : Boo
 
   fine_then : is_alone m.limits m.pair.gathered (lists_from m at (c ∷ cs))
       ≡ (is_none m.pair.gathered.made && (fine && is_alone m.limits (with_all m.pair.gathered r.now) later))
-  fine_then =
-      ap (is_alone m.limits m.pair.gathered) lists_are
-      ∙ ap (λ b. is_none m.pair.gathered.made && (b && is_alone m.limits (with_all m.pair.gathered r.now) later)) (sym r.fine_is)
+  fine_then = grind (arith, lists_are)
 
   pub alone_on : m.pair.gathered.made ≡ [] → fine ≡ true → is_alone m.limits m.pair.gathered (lists_from m at (c ∷ cs)) ≡ is_alone n.limits n.pair.gathered (lists_from n (next_place at c) cs)
-  alone_on none good =
-      let g = r.goes good in
-      fine_then
-      ∙ ap (λ b. b && (fine && is_alone m.limits (with_all m.pair.gathered r.now) later)) (is_empty m.pair.gathered.made none)
-      ∙ ap (λ b. b && is_alone m.limits (with_all m.pair.gathered r.now) later) good
-      ∙ ap (is_alone m.limits (with_all m.pair.gathered r.now)) (later_is good)
-      ∙ ap (λ (l : Limits). is_alone l (with_all m.pair.gathered r.now) (lists_from n (next_place at c) cs)) (sym g.limits)
-      ∙ ap (λ (h : Gathered). is_alone n.limits h (lists_from n (next_place at c) cs)) (sym g.gathered)
+  alone_on none good = grind (arith, fine_then, later_is)
 
   pub not_alone : fine ≡ false → is_alone m.limits m.pair.gathered (lists_from m at (c ∷ cs)) ≡ false
   not_alone bad = fine_then ∙ ap (λ b. is_none m.pair.gathered.made && (b && is_alone m.limits (with_all m.pair.gathered r.now) later)) bad ∙ and-false (is_none m.pair.gathered.made)
 
   pub gathered_on : fine ≡ true → with_all m.pair.gathered (concat_of (lists_from m at (c ∷ cs))) ≡ with_all n.pair.gathered (concat_of (lists_from n (next_place at c) cs))
-  gathered_on good =
-      ap (λ lists. with_all m.pair.gathered (concat_of lists)) lists_are
-      ∙ with_all_append m.pair.gathered r.now (concat_of later)
-      ∙ ap (λ lists. with_all (with_all m.pair.gathered r.now) (concat_of lists)) (later_is good)
-      ∙ ap (λ (h : Gathered). with_all h (concat_of (lists_from n (next_place at c) cs))) (sym (r.goes good).gathered)
+  gathered_on good = grind (arith, lists_are, with_all_append, later_is)
 
 -- one became whole before
-held_before : (limits : Limits) (g : Gathered) (now : List BodyEvent) (lists : List (List BodyEvent)) → not (is_none g.made) ≡ true → is_alone limits g (now ∷ lists) ≡ false
-held_before limits g now lists e = by (is_none g.made) e
-  where
-    by : (b : Bool) → not b ≡ true → (b && (is_fine limits g now && is_alone limits (with_all g now) lists)) ≡ false
-    by false e = refl
-    by true e = absurd (cc e)
 
 pub held_then : (m : ScoreMachine) (at : Place) (c : ℕ) (cs : List ℕ) → not (is_none m.pair.gathered.made) ≡ true → is_alone m.limits m.pair.gathered (lists_from m at (c ∷ cs)) ≡ false
-held_then m at c cs e = by (lists_from m at (c ∷ cs)) many
+held_then m at c cs e = by (lists_from m at (c ∷ cs)) (lists_each m at (c ∷ cs))
   where
-    many : length (lists_from m at (c ∷ cs)) ≡ suc (length cs)
-    many =
-        let xs = placed_characters_from at (c ∷ cs) in
-        let all = events_each texts_by_stage m.body.nabc_lines m.body.macros (part_with m.body.part xs) xs in
-        let placed = length_placed at (c ∷ cs) in
-        length-take-le (length (c ∷ cs)) (running_events_left m.body xs) (omega (arith, all, placed))
-
     by : (lists : List (List BodyEvent)) → length lists ≡ suc (length cs) → is_alone m.limits m.pair.gathered lists ≡ false
     by [] l = absurd (omega (arith, l))
-    by (now ∷ lists) l = held_before m.limits m.pair.gathered now lists e
+    by (now ∷ lists) l = rw (not-true (is_none m.pair.gathered.made) e) refl

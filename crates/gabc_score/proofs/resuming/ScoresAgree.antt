@@ -1,7 +1,6 @@
 -- Two stages over a score that hold and report the same give the same, but for the syllable that is held.
-use Rattle.std.proofs.Common.{◌≡◌, inl, inr, ℕ, ◌≤◌, ◌==◌, ◌||◌, not, nat_lt, List, [], ◌∷◌, length, Bool, false, Option, Some, None, is_some, refl, sym, ap, ◌∙◌, arith}
+use Rattle.std.proofs.Common.{◌≡◌, inl, inr, ℕ, ◌≤◌, ◌==◌, ◌||◌, not, nat_lt, List, [], ◌∷◌, length, Bool, false, Option, Some, is_some, refl, sym, ap, ◌∙◌, arith}
 use Rattle.std.proofs.lemmas.Str.{encodes_same}
-use Rattle.gabc_places.specs.declared.limits.Limits.{Limits}
 use Rattle.gabc_headers.specs.declared.head_event.HeadEvent.{HeadEvent}
 use Rattle.gabc_text.specs.BuiltText.{empty_view}
 use Rattle.gabc_notes.specs.declared.item.ItemKind.{ItemKind}
@@ -10,19 +9,17 @@ use Rattle.gabc_score.specs.declared.before.Preceding.{Preceding}
 use Rattle.gabc_score.specs.declared.score_machine.ScoreMachine.{ScoreMachine}
 use Rattle.gabc_score.specs.declared.score_machine.ScorePart.{ScorePart}
 use Rattle.gabc_score.specs.declared.score_machine.ScorePart.TheVariants as score_part
-use Rattle.gabc_score.specs.Before.{sounds_in, with_each, preceding_of}
+use Rattle.gabc_score.specs.Before.{with_each, preceding_of}
 use Rattle.gabc_score.specs.HeldAside.{IsEquivalentSyllable, IsSameOutput, AreSameOutputs, AreSameLists, HoldTheSame, GiveTheSame}
-use Rattle.gabc_score.specs.ScoreEvents.{ScoreOutput, Found, Stop, Syllable, End, characters_in}
+use Rattle.gabc_score.specs.ScoreEvents.{ScoreOutput, characters_in}
 use Rattle.gabc_score.specs.ScoreReports.{before_with, held_in_body, in_body, reading_in_body}
 use Rattle.gabc_score.specs.Syllable.{UnplacedSyllable}
-use Rattle.gabc_score.specs.machine.BodyBuilder.{with_all}
 use Rattle.gabc_score.specs.machine.Gatherer.{Gathered}
 use Rattle.gabc_score.specs.machine.HeldAside.{AreInputsAlike, AreMadeAlike, IsEquivalentAside}
-use Rattle.gabc_score.specs.machine.PartKeeps.{joined, said_by, begun, PartKeeps, ReadAlike}
+use Rattle.gabc_score.specs.machine.PartKeeps.{joined, PartKeeps, ReadAlike}
 use Rattle.gabc_score.specs.machine.ScoreMachine.{held_score, IsInBody}
 use Rattle.gabc_score.specs.machine.ScoreStage.{body_left}
 use Rattle.gabc_score.specs.machine.StageLaws.{Again}
-use Rattle.gabc_score.specs.machine.SyllableBuilder.{OpenSyllable}
 use Rattle.gabc_score.specs.witness.BodyStage.{running_events_left}
 use Rattle.gabc_score.proofs.resuming.PartsAreOne.{parts_are_one}
 use Rattle.gabc_score.proofs.resuming.SameButHeld.{left_same}
@@ -35,12 +32,7 @@ dummy : UnplacedSyllable
 dummy = record { text = empty_view; kept = []; snippets = []; eu = false; nlba = false }
 
 output_is : (m : UnplacedSyllable) (o p : ScoreOutput) → IsSameOutput m m o p → o ≡ p
-output_is m (Found f) (Found g) h = ap (λ f. Found f) h
-output_is m (Stop f) (Stop g) h = ap (λ f. Stop f) h
-output_is m (Syllable s) (Syllable t) (inl h) = ap (λ s. Syllable s) h
-output_is m (Syllable s) (Syllable t) (inr h) = ap (λ k. Syllable (record { made = k; position = s.position })) (h.0 ∙ sym h.1.0) ∙ ap (λ k. Syllable (record { made = t.made; position = k })) h.1.1
-output_is m End End h = refl
-output_is m _ _ h = absurd h
+output_is m o p h = grind arith
 
 outputs_are : (m : UnplacedSyllable) (os ps : List ScoreOutput) → AreSameOutputs m m os ps → os ≡ ps
 outputs_are m [] [] h = refl
@@ -55,9 +47,7 @@ lists_are m _ _ h = absurd h
 -- ---- what was gathered
 
 come_alike : (x y : Option ItemKind) → is_some x ≡ is_some y → AreInputsAlike x y
-come_alike None None e = inl refl
-come_alike (Some k) (Some l) e = inr (refl, refl)
-come_alike _ _ e = absurd (cc)
+come_alike x y e = grind arith
 
 pub same_but : (g h : Gathered) → g.limit ≡ h.limit → ReadAlike g h → g.follows ≡ h.follows → g.total ≡ h.total → g.over ≡ h.over → g.cut ≡ h.cut → h ≡ record g { made = h.made; first_kind = h.first_kind }
 same_but g h limit read follows total over cut = rw (limit, read.builder, read.eu, read.nlba, follows, total, over, cut) refl
@@ -84,10 +74,7 @@ pub reads_in_body : (p : ScorePart) (kept : List ℕ) → p ≡ score_part.Body 
 reads_in_body p kept e = ap (λ (k : ScorePart). reading_in_body k kept) e
 
 pub before_is_told : (p q : ScorePart) (b c : Before) → p ≡ score_part.Body → q ≡ score_part.Body → in_body p b ≡ in_body q c → b ≡ c
-before_is_told p q b c e f same = some_is (rw (e, f) at same)
-  where
-    some_is : Some b ≡ Some c → b ≡ c
-    some_is h = cc h
+before_is_told p q b c e f same = let some : Some b ≡ Some c = rw (e, f) at same in cc
 
 -- ---- two machines in the body
 
@@ -122,30 +109,16 @@ module _ (again : Again) (a b : ScoreMachine) (ra : IsInBody a) (rb : IsInBody b
     same_spans = ap (λ (p : Preceding). p.spans) (ra.after ∙ after_same ∙ sym rb.after)
 
     read_alike : ReadAlike a.pair.gathered b.pair.gathered
-    read_alike = record { builder = ra.reading.said.builder ∙ ap (λ (k : Gathered). k.builder) said ∙ sym rb.reading.said.builder; eu = ra.reading.said.eu ∙ ap (λ (k : Gathered). k.eu) said ∙ sym rb.reading.said.eu; nlba = ra.reading.said.nlba ∙ ap (λ (k : Gathered). k.nlba) said ∙ sym rb.reading.said.nlba }
-      where
-        said : with_all (begun a.bounds.after.spans) (said_by a.body.nabc_lines ra.reading.parts) ≡ with_all (begun b.bounds.after.spans) (said_by b.body.nabc_lines rb.reading.parts)
-        said = rw (same_spans, same_lines, same_parts) refl
+    read_alike = grind (arith, same_spans, same_lines, same_parts)
 
     sounds_same : is_some a.pair.gathered.first_kind ≡ is_some b.pair.gathered.first_kind
-    sounds_same =
-        ra.preceded.sounded
-        ∙ ap (λ (p : Preceding). p.sounded || sounds_in a.pair.gathered.builder.kept a.pair.gathered.builder.snippets) after_same
-        ∙ ap (λ (o : OpenSyllable). (with_each b.bounds.before b.pair.gathered.made).sounded || sounds_in o.kept o.snippets) read_alike.builder
-        ∙ sym rb.preceded.sounded
+    sounds_same = grind (arith, after_same, read_alike)
 
     lent_same : a.has_lent ≡ b.has_lent
     lent_same = ra.lent ∙ ap (λ (p : Preceding). nat_lt 0 p.syllables) same_before ∙ sym rb.lent
 
     aside : (m n : UnplacedSyllable) → AreMadeAlike m n a.has_lent a.pair.gathered.made b.pair.gathered.made → IsEquivalentAside m n a.has_lent a.pair.gathered b.pair.gathered
-    aside m n made = record {
-      comes = come_alike a.pair.gathered.first_kind b.pair.gathered.first_kind sounds_same;
-      made = made;
-      same =
-          same_but a.pair.gathered b.pair.gathered (ra.rests.limit ∙ ap (λ (l : Limits). l.syllable) same_limits ∙ sym rb.rests.limit) read_alike
-          (ra.preceded.follows ∙ ap (λ (p : Preceding). nat_lt 0 p.syllables) after_same ∙ sym rb.preceded.follows)
-          (ra.preceded.total ∙ ap (λ (p : Preceding). p.canonical) after_same ∙ sym rb.preceded.total) (ra.rests.over ∙ sym rb.rests.over) (ra.reading.uncut ∙ sym rb.reading.uncut);
-    }
+    aside m n made = grind (arith, come_alike, sounds_same, same_but, read_alike, after_same)
 
     abbrev left_of_one : List HeadEvent → List (List ScoreOutput)
     left_of_one xs = body_left a.limits (held_score a) (running_events_left a.body (characters_in xs)) xs

@@ -1,6 +1,5 @@
 -- Two stages over a body whose parts keep the same and report the same emit the same.
-use Rattle.std.proofs.Common.{◌≡◌, ℕ, nat_lt, List, Bool, true, false, not, ◌&&◌, Option, Some, None, is_some, refl, sym, ap, ◌∙◌}
-use Rattle.std.proofs.lemmas.Bool.{true≢false}
+use Rattle.std.proofs.Common.{◌≡◌, ℕ, nat_lt, List, Bool, Option, Some, None, is_some, refl, sym, ap, ◌∙◌, arith}
 use Rattle.gabc_places.specs.declared.place.Char.{Char}
 use Rattle.gabc_places.specs.declared.place.Place.{Place}
 use Rattle.gabc_text.specs.Events.{codes_of}
@@ -21,10 +20,10 @@ use Rattle.gabc_nabc.specs.witness.Keeps as nabc
 use Rattle.gabc_score.specs.declared.body_stage.BodyPart.{BodyPart}
 use Rattle.gabc_score.specs.declared.body_stage.BodyPart.TheVariants as part
 use Rattle.gabc_score.specs.declared.body_tells.Openers.{Openers}
-use Rattle.gabc_score.specs.Events.{PartAhead, InText, InNotes, events_from}
+use Rattle.gabc_score.specs.Events.{InText, InNotes}
 use Rattle.gabc_score.specs.ScoreReports.{IsAt, is_in_comment, is_in_front, openers_of}
-use Rattle.gabc_score.specs.machine.PartKeeps.{KeptParts, in_text, in_notes, AreAfter, PartKeeps}
-use Rattle.gabc_score.specs.witness.BodyStage.{BodyStageState, part_with, running_events_left, texts_by_stage}
+use Rattle.gabc_score.specs.machine.PartKeeps.{KeptParts, in_text, in_notes, PartKeeps}
+use Rattle.gabc_score.specs.witness.BodyStage.{BodyStageState, part_with, running_events_left}
 
 -- two parts keep the last of the same parts
 pub record KeepTheSame (lines macros : ℕ) (a b : BodyPart) : Type 0 where
@@ -44,24 +43,8 @@ pub record ReportTheSame (a b : BodyPart) : Type 0 where
   pub front : is_in_front a ≡ is_in_front b
   pub next : next_in a ≡ next_in b
 
-abbrev same : Bool → Bool → Bool
-same true b = b
-same false b = not b
-
--- one of two tests reports them apart
-differ : {A : Type 0} {a b x y : Bool} → a ≡ b → x ≡ y → (same a b && same x y) ≡ false → A
-differ {a = true} {b = true} {x = true} {y = true} e f g = absurd (true≢false g)
-differ {a = true} {b = true} {x = false} {y = false} e f g = absurd (true≢false g)
-differ {a = false} {b = false} {x = true} {y = true} e f g = absurd (true≢false g)
-differ {a = false} {b = false} {x = false} {y = false} e f g = absurd (true≢false g)
-differ e f g = absurd (cc)
-
 some_is : (p q : Place) → Some p ≡ Some q → p ≡ q
 some_is p q e = cc e
-
--- GABC and NABC are not read in one line
-two_lines : {A : Type 0} (lines macros line : ℕ) (t : List ℕ) (earlier : List (List ℕ)) → AreAfter lines macros 0 t earlier → AreAfter lines macros line t earlier → (line ≡ 0 → ⊥) → A
-two_lines lines macros line t earlier h g other = absurd (other (sym g.line_is ∙ h.line_is))
 
 -- Stages over a part that keep one text and report the same emit the same.
 pub record StagesAgree : Type 0 where
@@ -79,8 +62,8 @@ ahead_agree law lines macros (part.Text s) (part.Text t) (in_text k) h g told xs
 ahead_agree law lines macros (part.Notes opened s) (part.Notes other t) (in_notes u earlier k) h g told xs =
     ap (λ (o : Place). InNotes 0 o (note_events.events_left s xs)) (some_is _ _ (ap (λ (o : Openers). o.notes) told.openers))
     ∙ ap (λ (lists : List (List NoteEvent)). InNotes 0 other lists) (law.gabc (nat_lt 0 lines) macros s t k h.1 g.1 (ap (λ (o : Openers). o.inner) told.openers) told.comment xs)
-ahead_agree law lines macros (part.Notes opened s) (part.Nabc line other t) (in_notes u earlier k) h g told xs = two_lines lines macros line u earlier h.0 g.0 g.1.0
-ahead_agree law lines macros (part.Nabc line opened s) (part.Notes other t) (in_notes u earlier k) h g told xs = two_lines lines macros line u earlier g.0 h.0 h.1.0
+ahead_agree law lines macros (part.Notes opened s) (part.Nabc line other t) (in_notes u earlier k) h g told xs = absurd (g.1.0 (sym g.0.line_is ∙ h.0.line_is))
+ahead_agree law lines macros (part.Nabc line opened s) (part.Notes other t) (in_notes u earlier k) h g told xs = absurd (h.1.0 (sym h.0.line_is ∙ g.0.line_is))
 ahead_agree law lines macros (part.Nabc line opened s) (part.Nabc beside other t) (in_notes u earlier k) h g told xs =
     ap (λ (l : ℕ). InNotes l opened (nabc_events.events_left s xs)) (sym h.0.line_is ∙ g.0.line_is)
     ∙ ap (λ (o : Place). InNotes beside o (nabc_events.events_left s xs)) (some_is _ _ (ap (λ (o : Openers). o.notes) told.openers))
@@ -88,18 +71,15 @@ ahead_agree law lines macros (part.Nabc line opened s) (part.Nabc beside other t
 ahead_agree law lines macros (part.Text s) _ (in_notes u earlier k) h g told xs = absurd h
 ahead_agree law lines macros (part.Notes opened s) _ (in_text k) h g told xs = absurd h
 ahead_agree law lines macros (part.Nabc line opened s) _ (in_text k) h g told xs = absurd h
-ahead_agree law lines macros _ _ _ h g told xs = differ told.front (ap (λ (o : Openers). is_some o.notes) told.openers) refl
+ahead_agree law lines macros _ _ _ h g told xs = absurd (cc (told.front, ap (λ (o : Openers). is_some o.notes) told.openers))
 
 pub bodies_agree : StagesAgree → (a b : BodyStageState) → a.nabc_lines ≡ b.nabc_lines → a.macros ≡ b.macros → KeepTheSame a.nabc_lines a.macros a.part b.part → ReportTheSame a.part b.part
     → (xs : List Char) → running_events_left a xs ≡ running_events_left b xs
-bodies_agree law a b same_lines same_macros keep told xs =
-    ap (λ (p : PartAhead). events_from texts_by_stage a.nabc_lines a.macros p xs) (ahead_agree law a.nabc_lines a.macros a.part b.part keep.parts keep.one keep.other told xs)
-    ∙ ap (λ (l : ℕ). events_from texts_by_stage l a.macros (part_with b.part xs) xs) same_lines
-    ∙ ap (λ (l : ℕ). events_from texts_by_stage b.nabc_lines l (part_with b.part xs) xs) same_macros
+bodies_agree law a b same_lines same_macros keep told xs = grind (arith, ahead_agree)
 
 -- The place of the next character is the same, where both texts have counted it.
 pub next_is_told : (p q : BodyPart) (at place : Place) → at ≡ place → IsAt at p → IsAt place q → openers_of p ≡ openers_of q → is_in_front p ≡ is_in_front q → next_in p ≡ next_in q
 next_is_told (part.Text s) (part.Text t) at place e h g openers front = ap (λ (p : Place). Some p) (h ∙ (e ∙ sym g))
-next_is_told (part.Text s) _ at place e h g openers front = differ front (ap (λ (o : Openers). is_some o.notes) openers) refl
-next_is_told _ (part.Text t) at place e h g openers front = differ front (ap (λ (o : Openers). is_some o.notes) openers) refl
+next_is_told (part.Text s) _ at place e h g openers front = absurd (cc (front, ap (λ (o : Openers). is_some o.notes) openers))
+next_is_told _ (part.Text t) at place e h g openers front = absurd (cc (front, ap (λ (o : Openers). is_some o.notes) openers))
 next_is_told _ _ at place e h g openers front = refl

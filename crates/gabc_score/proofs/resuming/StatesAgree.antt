@@ -1,12 +1,11 @@
 -- Two stages over a score that stand alike give the same, but for the syllable that is held.
-use Rattle.std.proofs.Common.{◌≡◌, ◌==◌, List, [], Bool, true, false, Option, Some, None, is_some, refl, sym, ap, subst, ◌∙◌}
+use Rattle.std.proofs.Common.{◌≡◌, ◌==◌, List, [], Bool, true, false, Option, Some, None, is_some, refl, sym, ap, subst, ◌∙◌, arith}
 use Rattle.gabc_places.specs.declared.place.Place.{Place}
 use Rattle.gabc_headers.specs.declared.head_event.HeadEvent.{HeadEvent}
 use Rattle.gabc_score.specs.declared.before.Before.{Before}
-use Rattle.gabc_score.specs.declared.body_stage.BodyPart.{BodyPart}
 use Rattle.gabc_score.specs.declared.score_machine.ScoreMachine.{ScoreMachine}
 use Rattle.gabc_score.specs.HeldAside.{GiveTheSame, HoldTheSame}
-use Rattle.gabc_score.specs.ScoreEvents.{ScoreOutput, characters_in}
+use Rattle.gabc_score.specs.ScoreEvents.{characters_in}
 use Rattle.gabc_score.specs.ScoreStage.{AreInLine}
 use Rattle.gabc_score.specs.ScoreReports.{before_of, before_with, held_of, is_in_comment, is_in_front}
 use Rattle.gabc_score.specs.AreEquivalent.{AreEquivalent}
@@ -17,7 +16,7 @@ use Rattle.gabc_score.specs.machine.SyllableBuilder.{OpenSyllable}
 use Rattle.gabc_score.specs.witness.BodyStage.{running_events_left}
 use Rattle.gabc_score.specs.witness.IsReachable.{IsReachable}
 use Rattle.gabc_score.specs.witness.ScoreStage.{ScoreStageState, left_of}
-use Rattle.gabc_score.proofs.resuming.BeginsAnywhere.{front_is, front_reads}
+use Rattle.gabc_score.proofs.resuming.BeginsAnywhere.{front_reads}
 use Rattle.gabc_score.proofs.resuming.FrontsAgree.{CommentsCountForNothing, fronts_emit}
 use Rattle.gabc_score.proofs.resuming.NothingIsRead.{nothing_kept}
 use Rattle.gabc_score.proofs.resuming.ScoresAgree.{HeldAlike, before_is_told, bodies_give, bodies_keep}
@@ -26,23 +25,17 @@ use Rattle.gabc_score.proofs.resuming.StatesStand.{IsRunning, both_in_body}
 
 -- ---- where only the other one stands in front
 
-hold_back : (first before : Bool) (o p : Option UnplacedSyllable) → p ≡ None → HoldTheSame first o p → HoldTheSame before p o
-hold_back first before None None e h = tt
-hold_back first before _ None e h = absurd h
-hold_back first before _ (Some n) e h = absurd (cc e)
-
-give_back : (first : Bool) (o p : Option UnplacedSyllable) (lists others : List (List ScoreOutput)) → p ≡ None → HoldTheSame first o p → GiveTheSame p o others lists → GiveTheSame o p lists others
-give_back first None None lists others e h given = sym given
-give_back first _ None lists others e h given = absurd h
-give_back first _ (Some n) lists others e h given = absurd (cc e)
+none_too : (first : Bool) (o : Option UnplacedSyllable) → HoldTheSame first o None → o ≡ None
+none_too first None h = refl
+none_too first (Some m) h = absurd h
 
 -- the other way round, but for what is held
-turned : (one other : ScoreStageState) → held_of other ≡ None → AreEquivalent one other → AreEquivalent other one
-turned one other none alike = record {
+turned : (one other : ScoreStageState) → held_of one ≡ None → held_of other ≡ None → AreEquivalent one other → AreEquivalent other one
+turned one other none others alike = record {
   runs = ap is_some (sym alike.before) ∙ alike.runs;
   limits = sym alike.limits;
   before = sym alike.before;
-  held = hold_back (one.before.syllables == 0) (other.before.syllables == 0) (held_of one) (held_of other) none alike.held;
+  held = rw (none, others) tt;
   reading = sym alike.reading;
   openers = sym alike.openers;
   comment = sym alike.comment;
@@ -67,9 +60,7 @@ module _ (again : Again) where
     -- they give the same where their bodies emit the same
     given_alike : (xs : List HeadEvent) → running_events_left a.body (characters_in xs) ≡ running_events_left b.body (characters_in xs)
         → GiveTheSame (held_of (shown a)) (held_of (shown b)) (left_of (shown a) xs) (left_of (shown b) xs)
-    given_alike xs same =
-        let given = bodies_give again a b ra.body rb.body alike.limits before reading alike.next held xs same in
-        rw (ra.part, rb.part) given
+    given_alike xs same = grind (arith, bodies_give)
 
     module _ (front : is_in_front a.body.part ≡ true) (comment : is_in_comment b.body.part ≡ true) (law : CommentsCountForNothing) where
       -- the one stands in front of the first text
@@ -85,12 +76,7 @@ module _ (again : Again) where
 
     -- both or none of them
     pub machines_give : StagesAgree → is_in_front a.body.part ≡ is_in_front b.body.part → (xs : List HeadEvent) → GiveTheSame (held_of (shown a)) (held_of (shown b)) (left_of (shown a) xs) (left_of (shown b) xs)
-    machines_give law front xs =
-        given_alike xs
-        (bodies_agree law a.body b.body (ap (λ (k : Before). k.nabc_lines) before) (ap (λ (k : Before). k.macros) before)
-        (bodies_keep again a b ra.body rb.body alike.limits before reading)
-        (record { openers = alike.openers; comment = alike.comment; front = front; next = next_is_told a.body.part b.body.part a.next b.next alike.next alike.stands alike.other_stands alike.openers front })
-        (characters_in xs))
+    machines_give law front xs = grind (arith, given_alike, bodies_agree, bodies_keep, next_is_told)
 
   -- ---- two states
 
@@ -102,21 +88,12 @@ module _ (again : Again) where
   AgreeInLine one other = (xs : List HeadEvent) → AreInLine one.held.next xs → GiveTheSame (held_of one) (held_of other) (left_of one xs) (left_of other xs)
 
   pub states_agree : StagesAgree → (one other : ScoreStageState) → IsReachable one → IsReachable other → AreEquivalent one other → is_in_front one.body.part ≡ is_in_front other.body.part → Agree one other
-  states_agree law one other h g alike =
-      both_in_body (λ (s t : ScoreStageState). AreEquivalent s t → is_in_front s.body.part ≡ is_in_front t.body.part → Agree s t)
-      (λ a b ra rb like front. machines_give a b ra rb like law front)
-      one other h g alike.runs (ap is_some (sym alike.before) ∙ alike.runs) alike
+  states_agree law one other h g alike = grind (arith, both_in_body, machines_give)
 
   module _ (law : CommentsCountForNothing)
       (agree : (one other : ScoreStageState) → IsReachable one → IsReachable other → AreEquivalent one other → is_in_front one.body.part ≡ is_in_front other.body.part → Agree one other) where
-    in_comment : (p : BodyPart) → is_in_front p ≡ true → is_in_comment p ≡ true
-    in_comment p front = ap is_in_comment (front_is p front)
-
     front_gives : (one other : ScoreStageState) → IsReachable one → IsReachable other → AreEquivalent one other → is_in_front one.body.part ≡ true → AgreeInLine one other
-    front_gives one other h g alike =
-        both_in_body (λ (s t : ScoreStageState). AreEquivalent s t → is_in_front s.body.part ≡ true → AgreeInLine s t)
-        (λ a b ra rb like front. fronts_give a b ra rb like front (sym like.comment ∙ in_comment a.body.part front) law)
-        one other h g alike.runs (ap is_some (sym alike.before) ∙ alike.runs) alike
+    front_gives one other h g alike = grind (arith, both_in_body, fronts_give)
 
     pub states_agree_in_line : (none_held : (s : ScoreStageState) → IsReachable s → is_some (before_of s) ≡ true → is_in_front s.body.part ≡ true → held_of s ≡ None) → (one other : ScoreStageState) → IsReachable one → IsReachable other → AreEquivalent one other → AgreeInLine one other
     states_agree_in_line none_held one other h g alike = by (is_in_front one.body.part) (is_in_front other.body.part) refl refl
@@ -126,6 +103,7 @@ module _ (again : Again) where
         by false false e f = λ xs line. agree one other h g alike (e ∙ sym f) xs
         by true false e f = front_gives one other h g alike e
         by false true e f = λ xs line.
-            let none = none_held other g (ap is_some (sym alike.before) ∙ alike.runs) f in
-            give_back (one.before.syllables == 0) (held_of one) (held_of other) (left_of one xs) (left_of other xs) none alike.held
-            (front_gives other one g h (turned one other none alike) f xs (subst (λ (p : Place). AreInLine p xs) alike.next line))
+            let others = none_held other g (ap is_some (sym alike.before) ∙ alike.runs) f in
+            let none = none_too (one.before.syllables == 0) (held_of one) (rw others at alike.held) in
+            let given = front_gives other one g h (turned one other none others alike) f xs (subst (λ (p : Place). AreInLine p xs) alike.next line) in
+            rw (others, none) (sym (rw (none, others) at given))

@@ -1,6 +1,6 @@
 -- A machine that goes on before a syllable, where none is held.
 use Rattle.std.proofs.Math.Bool.{or-false}
-use Rattle.std.proofs.Common.{◌≡◌, ℕ, ◌≤◌, ◌||◌, true, false, [], length, is_some, refl, sym, ap, subst, ◌∙◌, arith}
+use Rattle.std.proofs.Common.{◌≡◌, ℕ, ◌≤◌, true, false, [], length, is_some, sym, ap, subst, ◌∙◌, arith}
 use Rattle.std.proofs.lemmas.Bool.{true≢false}
 use Rattle.std.proofs.lemmas.Bool.Decides.{nat_tests}
 use Rattle.std.proofs.lemmas.List.Elements.{All-nil}
@@ -12,52 +12,37 @@ use Rattle.gabc_score.specs.declared.before.Preceding.{Preceding}
 use Rattle.gabc_score.specs.declared.body_stage.BodyPart.{BodyPart}
 use Rattle.gabc_score.specs.declared.body_stage.BodyPart.TheVariants.{Text}
 use Rattle.gabc_score.specs.declared.score_machine.ScoreMachine.{ScoreMachine}
-use Rattle.gabc_score.specs.Before.{sounds_in, with_each}
+use Rattle.gabc_score.specs.Before.{with_each}
 use Rattle.gabc_score.specs.ScoreReports.{is_in_front}
 use Rattle.gabc_score.specs.ReportedWithin.{IsAtOutset}
 use Rattle.gabc_score.specs.machine.BodyBuilder.{code_in}
 use Rattle.gabc_score.specs.machine.Gatherer.{Gathered}
 use Rattle.gabc_score.specs.machine.PartCounts.{CountsHold}
 use Rattle.gabc_score.specs.machine.PartKeeps.{in_text, IsReading, PartKeeps}
-use Rattle.gabc_score.specs.machine.Preceded.{EndsBefore, IsPreceded}
+use Rattle.gabc_score.specs.machine.Preceded.{IsPreceded}
 use Rattle.gabc_score.specs.machine.ScoreMachine.{IsInBody, IsShort}
 use Rattle.gabc_score.specs.machine.SlotPair.{SlotPairState, is_made}
 use Rattle.gabc_score.specs.machine.SyllableBuilder.{OpenSyllable, nothing_open}
 use Rattle.gabc_score.specs.witness.BodyStage.{BodyStageState}
+use Rattle.gabc_score.proofs.runs.RunEnds.{before_last}
 use Rattle.gabc_score.proofs.score_events.EventsStayWithinBounds.{none_passed}
 use Rattle.gabc_score.proofs.score_events.HeldWithinLimits.{within_none}
 use Rattle.gabc_score.proofs.score_events.UnitsAreHeld.{none_held}
 
 module _ (m : ScoreMachine) (rests : IsInBody m) (p : Preceding) (some : 1 ≤ p.syllables) (sounded : is_some m.pair.gathered.first_kind ≡ p.sounded)
     (nothing : m.pair.gathered.builder ≡ nothing_open) (follows : m.pair.gathered.follows ≡ true) where
-  abbrev before_next : Gathered
-  before_next = record m.pair.gathered { made = []; total = p.canonical; eu = p.spans.eu; nlba = p.spans.nlba }
-
-  preceded_next : IsPreceded p before_next
-  preceded_next = record {
-    follows = follows ∙ sym (grind (arith, nat_tests, some));
-    total = refl;
-    sounded = sounded ∙ sym (or-false p.sounded) ∙ ap (λ (o : OpenSyllable). p.sounded || sounds_in o.kept o.snippets) (sym nothing);
-    snippets = subst (λ (o : OpenSyllable). All (EndsBefore o.from) o.snippets) (sym nothing) (All-nil (EndsBefore 0));
-    from = subst (λ (o : OpenSyllable). o.from ≤ length o.kept) (sym nothing) (omega arith);
-  }
+  preceded_next : IsPreceded p (before_last m p)
+  preceded_next = grind (arith, or-false, All-nil)
 
   outset_next : IsAtOutset p
   outset_next none = absurd (omega (arith, some, none))
 
-  reads_next : (lines macros : ℕ) (b : BodyPart) → PartKeeps lines macros b (in_text []) → IsReading lines macros b p.spans before_next
+  reads_next : (lines macros : ℕ) (b : BodyPart) → PartKeeps lines macros b (in_text []) → IsReading lines macros b p.spans (before_last m p)
   unfolding text.said_of
-  reads_next lines macros b keeps = record {
-    parts = in_text [];
-    keeps = keeps;
-    said = record { builder = nothing; eu = refl; nlba = refl };
-    kept = ap (λ (o : OpenSyllable). o.kept) nothing;
-    from = ap (λ (o : OpenSyllable). o.from) nothing;
-    uncut = rests.reading.uncut;
-  }
+  reads_next lines macros b keeps = grind arith
 
   -- It rests, whatever slots it has, in which this is gathered.
-  pub rests_next : (pair : SlotPairState) (body : BodyStageState) (next at : Place) → pair.gathered ≡ before_next → is_made pair.used ≡ false → body ≡ record m.body { part = Text (fresh_stage at) }
+  pub rests_next : (pair : SlotPairState) (body : BodyStageState) (next at : Place) → pair.gathered ≡ before_last m p → is_made pair.used ≡ false → body ≡ record m.body { part = Text (fresh_stage at) }
       → CountsHold body.part nothing_open → ((lines macros : ℕ) → PartKeeps lines macros body.part (in_text []))
       → IsInBody (record m { pair = pair; has_lent = true; bounds = record { before = p; after = p }; body = body; next = next })
   rests_next pair body next at is used text counts keeps = record {
@@ -74,7 +59,7 @@ module _ (m : ScoreMachine) (rests : IsInBody m) (p : Preceding) (some : 1 ≤ p
     preceded = subst (IsPreceded p) (sym is) preceded_next;
     after = ap (λ (g : Gathered). with_each p g.made) (sym is);
     lent = sym (grind (arith, nat_tests, some));
-    code = ap (code_in m.limits) is ∙ none_passed m.limits before_next (record { kept = (let k = ap (λ (o : OpenSyllable). length o.kept) nothing in omega (arith, k)); over = rests.rests.over; file = λ some. absurd (cc some) });
+    code = ap (code_in m.limits) is ∙ none_passed m.limits (before_last m p) (record { kept = (let k = ap (λ (o : OpenSyllable). length o.kept) nothing in omega (arith, k)); over = rests.rests.over; file = λ some. absurd (cc some) });
     reading = subst (IsReading body.nabc_lines body.macros body.part p.spans) (sym is)
         (reads_next body.nabc_lines body.macros body.part (keeps body.nabc_lines body.macros));
     units = none_held body.nabc_lines p pair.gathered.made (ap (λ (g : Gathered). g.made) is);

@@ -1,5 +1,5 @@
 -- A regular syllable that was found: its bytes, and what it makes.
-use Rattle.std.proofs.Common.{◌≡◌, ℕ, ◌+◌, ◌-◌, ◌<◌, ◌≤◌, ◌^◌, ◌||◌, not, min, nat_lt, Bool, true, false, cond, if◌then◌else◌, List, [], ◌∷◌, ◌++◌, map, length, take, drop, encode_utf8_all, Option, is_some, refl, sym, ap, subst, ◌∙◌, arith, length-drop}
+use Rattle.std.proofs.Common.{◌≡◌, ℕ, ◌+◌, ◌-◌, ◌<◌, ◌≤◌, ◌^◌, ◌||◌, min, nat_lt, Bool, true, false, cond, if◌then◌else◌, List, [], ◌∷◌, ◌++◌, map, length, take, drop, encode_utf8_all, Option, is_some, refl, sym, ap, subst, ◌∙◌, arith, length-drop}
 use Rattle.std.proofs.lemmas.Bool.Decides.{nat_tests}
 use Rattle.std.specs.List.{All}
 use Rattle.std.specs.Str.{IsUtf8, chars}
@@ -21,10 +21,10 @@ use Rattle.gabc_score.specs.RegularSyllable.{SyllableParts, spelled, notes_spell
 use Rattle.gabc_score.specs.Syllable.{UnplacedSyllable}
 use Rattle.gabc_score.specs.machine.Between.{IsMadeOf, SoundsNoMore, with_one as gathered_with}
 use Rattle.gabc_score.specs.machine.Gatherer.{Gathered}
-use Rattle.gabc_score.specs.machine.RegularLen.{past_mark}
-use Rattle.gabc_score.specs.machine.Run.{IsFound, IsSteady, SpellsFound, canonical_length, mark_of, sounds_among}
+use Rattle.gabc_score.specs.machine.RegularLen.{past_mark, BeginsRegularly}
+use Rattle.gabc_score.specs.machine.Run.{IsFound, IsSteady, SpellsFound, canonical_length, mark_of, sounds_among, len_of}
 use Rattle.gabc_score.specs.machine.ScoreMachine.{IsShort}
-use Rattle.gabc_score.specs.machine.SyllableBuilder.{OpenSyllable, nothing_open}
+use Rattle.gabc_score.specs.machine.SyllableBuilder.{nothing_open}
 use Rattle.gabc_score.proofs.regular_syllables.MarkedSyllables.{gap_starts, spans_past}
 
 -- ---- what was gathered
@@ -32,41 +32,14 @@ use Rattle.gabc_score.proofs.regular_syllables.MarkedSyllables.{gap_starts, span
 -- a syllable within the limit
 module _ (h : Gathered) (m : UnplacedSyllable) (total size : ℕ) (nothing : h.builder ≡ nothing_open) (follows : h.follows ≡ true) (over : h.over ≡ false)
     (len : length (canonical m.text.word_start m) ≡ size) (short : size ≤ h.limit) (kept : length m.kept ≤ h.limit) (low : total + size < 2 ^ 64 - 1) where
-  abbrev most_of : Bool → ℕ
-  most_of b = min (length (canonical (not b || m.text.word_start) m)) (2 ^ 64 - 1)
-
-  abbrev is_over : Bool → Bool → Bool
-  is_over b o = o || (is_longer h.limit m.kept || nat_lt h.limit (most_of b))
-
-  abbrev by : Bool → Bool → Bool → ℕ → Gathered
-  by eu nlba over n = record { limit = h.limit; builder = nothing_open; eu = eu; nlba = nlba; made = m ∷ []; follows = true; total = n; over = over; cut = h.cut; first_kind = h.first_kind }
-
-  size_min : most_of true ≡ size
-  size_min = ap (λ n. min n (2 ^ 64 - 1)) len ∙ omega (arith, low)
-
-  not_over : is_over true h.over ≡ false
-  not_over = ap (is_over true) over ∙ ap (λ b. b || nat_lt h.limit (most_of true)) long ∙ ap (nat_lt h.limit) size_min ∙ grind (arith, nat_tests, short)
-    where
-      long : is_longer h.limit m.kept ≡ false
-      long = grind (arith, nat_tests, kept)
-
-  total_min : min (total + most_of true) (2 ^ 64 - 1) ≡ total + size
-  total_min = ap (λ n. min (total + n) (2 ^ 64 - 1)) size_min ∙ omega (arith, low)
-
-  back : by m.eu m.nlba false (total + size) ≡ record h { made = m ∷ []; total = total + size; eu = m.eu; nlba = m.nlba }
-  back =
-      ap (λ b. by m.eu m.nlba b (total + size)) (sym over)
-      ∙ ap (λ (o : OpenSyllable). record h { builder = o; made = m ∷ []; follows = true; total = total + size; eu = m.eu; nlba = m.nlba }) (sym nothing)
-      ∙ ap (λ b. record h { made = m ∷ []; follows = b; total = total + size; eu = m.eu; nlba = m.nlba }) (sym follows)
-
   pub gathered_one : (g : Gathered) (old : List UnplacedSyllable) (eu nlba : Bool) → g ≡ record h { made = old; total = total; eu = eu; nlba = nlba }
       → gathered_with g m ≡ record h { made = m ∷ []; total = total + size; eu = m.eu; nlba = m.nlba }
   gathered_one g old eu nlba is =
-      ap (λ (k : Gathered). gathered_with k m) is
-      ∙ ap (λ b. by m.eu m.nlba (is_over b h.over) (min (total + most_of b) (2 ^ 64 - 1))) follows
-      ∙ ap (λ b. by m.eu m.nlba b (min (total + most_of true) (2 ^ 64 - 1))) not_over
-      ∙ ap (by m.eu m.nlba false) total_min
-      ∙ back
+      let least : min (length (canonical m.text.word_start m)) (2 ^ 64 - 1) ≡ size = ap (λ n. min n (2 ^ 64 - 1)) len ∙ omega (arith, low) in
+      let sum : min (total + size) (2 ^ 64 - 1) ≡ total + size = omega (arith, low) in
+      let long : is_longer h.limit m.kept ≡ false = grind (arith, nat_tests, kept) in
+      let wide : nat_lt h.limit size ≡ false = grind (arith, nat_tests, short) in
+      rw (is, follows, nothing, over, least, sum, long, wide) refl
 
 -- ---- what sounds
 
@@ -82,39 +55,37 @@ sounds_as m = sound_as m.kept m.snippets
 
 -- a place in a word says whether a word begins there
 pub begins_there : (b starts : Bool) → starts_word (position_by b starts) ≡ b
-begins_there true true = refl
-begins_there true false = refl
-begins_there false true = refl
-begins_there false false = refl
+begins_there b starts = grind arith
+
+-- its bytes among those that it was found in
+pub front_is : (f : Found) → take (length f.spelled.now) (f.spelled.now ++ f.rest.now) ≡ f.spelled.now
+front_is f = take-append_seam f.spelled.now f.rest.now
+
+pub utf8_is : (f : Found) (lines : ℕ) → BeginsRegularly lines (f.spelled.now ++ f.rest.now) (len_of f) → IsUtf8 f.spelled.now
+utf8_is f lines b = subst IsUtf8 (front_is f) b.is_text.utf8
 
 module _ (f : Found) (lines total : ℕ) (limits : Limits) (found : IsFound lines limits total f) where
   abbrev pub parts : SyllableParts
   parts = found.is.syllable
 
-  pub front_is : take (length f.spelled.now) (f.spelled.now ++ f.rest.now) ≡ f.spelled.now
-  front_is = take-append_seam f.spelled.now f.rest.now
-
   pub characters_are : chars f.spelled.now ≡ spelled parts
-  characters_are = ap chars (sym front_is) ∙ found.is.characters_are
-
-  pub utf8_is : IsUtf8 f.spelled.now
-  utf8_is = subst IsUtf8 front_is found.is.is_text.utf8
+  characters_are = ap chars (sym (front_is f)) ∙ found.is.characters_are
 
   pub bytes_are : encode_utf8_all (spelled parts) ≡ f.spelled.now
-  bytes_are = ap encode_utf8_all (sym characters_are) ∙ encodes-chars f.spelled.now utf8_is
+  bytes_are = ap encode_utf8_all (sym characters_are) ∙ encodes-chars f.spelled.now (utf8_is f lines found.is)
 
   pub plain_is : All IsPlain (chars f.spelled.now)
-  plain_is = subst (λ (bytes : List ℕ). All IsPlain (chars bytes)) front_is found.is.is_text.plain
+  plain_is = subst (λ (bytes : List ℕ). All IsPlain (chars bytes)) (front_is f) found.is.is_text.plain
 
   pub rest_is : drop f.gap f.spelled.now ≡ encode_utf8_all (canonical_spelled false parts)
-  rest_is = ap (drop f.gap) (sym front_is) ∙ found.is.rest_is
+  rest_is = ap (drop f.gap) (sym (front_is f)) ∙ found.is.rest_is
 
   pub starts_is : nat_lt 0 f.gap ≡ has_gap parts.gap
   starts_is = gap_starts parts f.gap found.is.gap_is
 
   -- it has some characters
   pub some_are : 1 ≤ length (chars f.spelled.now)
-  some_are = by (chars f.spelled.now) (encodes-chars f.spelled.now utf8_is)
+  some_are = by (chars f.spelled.now) (encodes-chars f.spelled.now (utf8_is f lines found.is))
     where
       by : (t : List ℕ) → encode_utf8_all t ≡ f.spelled.now → 1 ≤ length t
       by [] e = absurd (let n = ap (λ (l : List ℕ). length l) e in let some = found.is.some in omega (arith, n, some))
@@ -122,11 +93,7 @@ module _ (f : Found) (lines total : ℕ) (limits : Limits) (found : IsFound line
 
   -- its canonical text is no longer
   pub length_is : canonical_length f ≤ length f.spelled.now
-  length_is = by (nat_lt 0 f.gap) refl
-    where
-      by : (b : Bool) → nat_lt 0 f.gap ≡ b → canonical_length f ≤ length f.spelled.now
-      by true e = let d = length-drop f.gap f.spelled.now in let some = found.is.some in rw e (grind (arith, nat_tests, d, some, e))
-      by false e = let d = length-drop f.gap f.spelled.now in rw e (omega (arith, d))
+  length_is = grind (arith, nat_tests, length-drop f.gap f.spelled.now, found.is.some)
 
   module _ (spans : Spans) (m : UnplacedSyllable) (made : IsMadeOf lines spans parts m) where
     pub word_is : m.text.word_start ≡ nat_lt 0 f.gap
@@ -134,12 +101,10 @@ module _ (f : Found) (lines total : ℕ) (limits : Limits) (found : IsFound line
 
     pub canonical_with : (starts : Bool) → canonical starts m ≡ spelled_canonical starts (drop f.gap f.spelled.now)
     unfolding lib.Utf8.encode
-    canonical_with true = made.canonical_is true ∙ ap (λ (l : List ℕ). 10 ∷ l) (sym rest_is)
-    canonical_with false = made.canonical_is false ∙ sym rest_is
+    canonical_with starts = grind (arith, rest_is)
 
     length_with : (starts : Bool) → length (spelled_canonical starts (drop f.gap f.spelled.now)) ≡ length (drop f.gap f.spelled.now) + (if starts then 1 else 0)
-    length_with true = omega arith
-    length_with false = omega arith
+    length_with starts = grind arith
 
     pub size_is : length (canonical m.text.word_start m) ≡ canonical_length f
     size_is = ap (λ b. length (canonical b m)) word_is ∙ ap (λ (l : List ℕ). length l) (canonical_with (nat_lt 0 f.gap)) ∙ length_with (nat_lt 0 f.gap)
@@ -153,10 +118,7 @@ module _ (f : Found) (lines total : ℕ) (limits : Limits) (found : IsFound line
     kept_length = ap (λ (l : List ℕ). length l) made.kept ∙ kept_with (has_gap parts.gap) ∙ ap (λ b. length (drop f.gap f.spelled.now) + (if b then 1 else 0)) (sym starts_is)
 
     pub is_short : IsShort limits.syllable m
-    is_short = record {
-      kept = (let k = kept_length in let l = length_is in let s = found.syllable in omega (arith, k, l, s));
-      canonical = (let k = ap (λ (l : List ℕ). length l) (canonical_with false) in let d = length-drop f.gap f.spelled.now in let s = found.syllable in omega (arith, k, d, s));
-    }
+    is_short = grind (arith, kept_length, length_is, canonical_with, length-drop)
 
     -- where it is steady, it sounds no more than what stands before it
     pub sounds_no_more : (first : Option ItemKind) → IsSteady lines first parts → SoundsNoMore (is_some first) (sounds m)
@@ -164,7 +126,7 @@ module _ (f : Found) (lines total : ℕ) (limits : Limits) (found : IsFound line
 
     -- which spans are open after it its mark says
     spans_after : (eu_past m spans.eu ≡ (past_mark (mark_of f) spans).eu) × (nlba_past m spans.nlba ≡ (past_mark (mark_of f) spans).nlba)
-    spans_after = spans_past lines made.unit.unit m made.unit.holds spans (mark_of f) (made.tags ∙ found.is.mark_is ∙ ap (λ (b : List ℕ). tags_of (mark_at (drop f.gap b))) front_is)
+    spans_after = spans_past lines made.unit.unit m made.unit.holds spans (mark_of f) (made.tags ∙ found.is.mark_is ∙ ap (λ (b : List ℕ). tags_of (mark_at (drop f.gap b))) (front_is f))
 
     pub eu_after : m.eu ≡ (past_mark (mark_of f) spans).eu
     eu_after = made.follows.eu ∙ spans_after.0

@@ -6,13 +6,10 @@ use Rattle.std.proofs.lemmas.List.Elements.{All-nil}
 use Rattle.std.specs.Str.{chars}
 use Rattle.gabc_text.specs.TextStage.{fresh_stage}
 use Rattle.gabc_places.specs.Place.{place_past, placed_characters_from}
-use Rattle.gabc_places.specs.StageLaw.{concat_of}
 use Rattle.gabc_places.specs.TextOfAnInput.{IsText}
-use Rattle.gabc_places.specs.declared.limits.Limits.{Limits}
 use Rattle.gabc_places.specs.declared.place.Place.{Place}
 use Rattle.gabc_score.specs.declared.before.Preceding.{Preceding}
 use Rattle.gabc_score.specs.declared.body_stage.BodyPart.TheVariants.{Text}
-use Rattle.gabc_score.specs.declared.events.BodyEvent.{BodyEvent}
 use Rattle.gabc_score.specs.declared.run.Found.{Found}
 use Rattle.gabc_score.specs.declared.score_machine.ScoreMachine.{ScoreMachine}
 use Rattle.gabc_score.specs.declared.score_machine.ScorePart.{ScorePart}
@@ -20,7 +17,6 @@ use Rattle.gabc_score.specs.ScoreReports.{is_in_front}
 use Rattle.gabc_score.specs.Syllable.{PlacedSyllable}
 use Rattle.gabc_score.specs.witness.BodyStage.{BodyStageState, running_events_left}
 use Rattle.gabc_score.specs.machine.Between.{lists_between, with_one as gathered_with}
-use Rattle.gabc_score.specs.machine.BodyBuilder.{with_all}
 use Rattle.gabc_score.specs.machine.Gatherer.{Gathered}
 use Rattle.gabc_score.specs.machine.PartCounts.{CountsHold}
 use Rattle.gabc_score.specs.machine.PartKeeps.{in_text, PartKeeps}
@@ -56,11 +52,7 @@ module _ (m : ScoreMachine) (at : Place) (t : List ℕ) (given : List PlacedSyll
   module _ (ends : EndsWith m at t given p f next) where
     -- the syllable is whole with its last character
     pub is_alone_there : is_alone on.limits on.pair.gathered (lists_from on next (chars f.spelled.now)) ≡ true
-    is_alone_there =
-        ap (λ (l : Limits). is_alone l on.pair.gathered (lists_from on next (chars f.spelled.now))) limits_there
-        ∙ ap (λ (g : Gathered). is_alone m.limits g (lists_from on next (chars f.spelled.now))) goes.gathered
-        ∙ ap (λ (ls : List (List BodyEvent)). is_alone m.limits (before_last m p) ls) lists_are
-        ∙ ends.alone.alone
+    is_alone_there = grind (arith, limits_there, lists_are)
 
     module _ (found : IsFound m.body.nabc_lines m.limits p.canonical f) (read : ScoreMachine) (has : HasRead on read (lists_from on next (chars f.spelled.now)))
         (was : IsScoreAt read.part read) (texts : IsText f.spelled.now → HoldsTexts on.pair.gathered → HoldsTexts read.pair.gathered)
@@ -70,11 +62,7 @@ module _ (m : ScoreMachine) (at : Place) (t : List ℕ) (given : List PlacedSyll
       then = record read { body = body; next = place_past next (chars f.spelled.now) }
 
       gathered_is : read.pair.gathered ≡ gathered_with (before_last m p) ends.made
-      gathered_is =
-          has.gathered
-          ∙ ap (λ (g : Gathered). with_all g (concat_of (lists_from on next (chars f.spelled.now)))) goes.gathered
-          ∙ ap (λ (ls : List (List BodyEvent)). with_all (before_last m p) (concat_of ls)) lists_are
-          ∙ ends.alone.gathered
+      gathered_is = grind (arith, lists_are)
 
       nothing : read.pair.gathered.builder ≡ nothing_open
       nothing = ap (λ (g : Gathered). g.builder) gathered_is
@@ -108,7 +96,7 @@ module _ (m : ScoreMachine) (at : Place) (t : List ℕ) (given : List PlacedSyll
       }
 
       spelled_is_text : IsText f.spelled.now
-      spelled_is_text = subst IsText (front_is f m.body.nabc_lines p.canonical m.limits found) found.is.is_text
+      spelled_is_text = subst IsText (front_is f) found.is.is_text
 
       -- and holds the syllable
       pub holds_then : HoldsLast m p (place_past next (chars f.spelled.now)) ends.made then

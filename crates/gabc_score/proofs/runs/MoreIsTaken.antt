@@ -1,5 +1,5 @@
 -- A run finds one syllable more: it waits, or a taker takes it with those that wait.
-use Rattle.std.proofs.Common.{◌≡◌, ℕ, ◌+◌, ◌-◌, min, nat_lt, Bool, List, [], ◌∷◌, ◌++◌, map, length, drop, refl, sym, ap, subst, ◌∙◌, arith, append_assoc, append-nil, length-append}
+use Rattle.std.proofs.Common.{◌≡◌, ℕ, ◌+◌, ◌-◌, nat_lt, List, [], ◌∷◌, ◌++◌, map, length, drop, refl, sym, ap, subst, ◌∙◌, arith, append_assoc, append-nil, length-append}
 use Rattle.std.specs.Str.{chars}
 use Rattle.std.proofs.lemmas.Str.{chars-append, IsUtf8-append}
 use Rattle.std.proofs.lemmas.List.{nil_from_length}
@@ -7,11 +7,9 @@ use Rattle.gabc_places.specs.Place.{place_past}
 use Rattle.gabc_places.specs.StageLaw.{concat_of}
 use Rattle.gabc_places.specs.declared.place.Place.{Place}
 use Rattle.gabc_score.specs.declared.before.Preceding.{Preceding}
-use Rattle.gabc_score.specs.declared.before.Spans.{Spans}
 use Rattle.gabc_score.specs.declared.run.Reached.{Reached}
 use Rattle.gabc_score.specs.declared.score_machine.ScoreMachine.{ScoreMachine}
 use Rattle.gabc_score.specs.declared.waiting.Waiting.{Waiting}
-use Rattle.gabc_score.specs.Before.{most}
 use Rattle.gabc_score.specs.Canonical.{canonical_in_place}
 use Rattle.gabc_score.specs.GivesSyllables.{AreJoined, spelled_canonical}
 use Rattle.gabc_score.specs.machine.RegularLen.{BeginsRegularly, past_mark}
@@ -29,19 +27,13 @@ joined_then : (ss : List PlacedSyllable) (s : PlacedSyllable) → joined_text (s
 joined_then [] s = append-nil (canonical_in_place s)
 joined_then (t ∷ ss) s = ap (λ (l : List ℕ). canonical_in_place t ++ l) (joined_then ss s) ∙ sym (append_assoc (canonical_in_place t) (joined_text ss) (canonical_in_place s))
 
-spelled_then : (b : Bool) (a t : List ℕ) → spelled_canonical b a ++ t ≡ spelled_canonical b (a ++ t)
-spelled_then b a t = append_assoc _ a t
-
 -- ---- one syllable more
 
 module _ (m : ScoreMachine) (at : Place) (text : List ℕ) (reached then : Reached) (count : then.count ≡ reached.count + 1) (canonical : then.canonical ≡ reached.canonical + canonical_length reached.last)
     (spans : then.spans ≡ past_mark (mark_of reached.last) reached.spans) (found : IsFound m.body.nabc_lines m.limits then.canonical then.last) (rest : reached.last.rest.now ≡ then.last.spelled.now ++ then.last.rest.now)
     (steady : IsSteady m.body.nabc_lines m.pair.gathered.first_kind found.is.syllable) where
   before_is : before_in m then ≡ past_found (before_in m reached) reached.last
-  before_is =
-      ap (λ n. record { syllables = n; canonical = then.canonical; spans = then.spans; sounded = m.bounds.after.sounded }) (omega (arith, count))
-      ∙ ap (λ n. record { syllables = min (min (m.bounds.after.syllables + reached.count) most + 1) most; canonical = n; spans = then.spans; sounded = m.bounds.after.sounded }) canonical
-      ∙ ap (λ (q : Spans). record { syllables = min (min (m.bounds.after.syllables + reached.count) most + 1) most; canonical = reached.canonical + canonical_length reached.last; spans = q; sounded = m.bounds.after.sounded }) spans
+  before_is = grind arith
 
   module _ (given : List PlacedSyllable) (to : RunsTo m at text given reached) where
     pub one_more : MakeSyllables → GoesOnWith m at (chars to.bytes) given (before_in m reached) reached.last to.found.is.syllable (nat_lt 0 then.last.gap)
@@ -53,7 +45,7 @@ module _ (m : ScoreMachine) (at : Place) (text : List ℕ) (reached then : Reach
     more_runs on = record {
       stands = to.stands;
       bytes = to.bytes ++ reached.last.spelled.now;
-      utf8 = IsUtf8-append to.bytes reached.last.spelled.now to.utf8 (utf8_is reached.last m.body.nabc_lines reached.canonical m.limits to.found);
+      utf8 = IsUtf8-append to.bytes reached.last.spelled.now to.utf8 (utf8_is reached.last m.body.nabc_lines to.found.is);
       runs = subst (λ (p : Preceding). RunsBefore m at (chars (to.bytes ++ reached.last.spelled.now)) (given ++ on.placed ∷ []) (nat_lt 0 then.last.gap) p (place_past at (chars (to.bytes ++ reached.last.spelled.now)))) (sym before_is)
           (subst (λ (t : List ℕ). RunsBefore m at t (given ++ on.placed ∷ []) (nat_lt 0 then.last.gap) (past_found (before_in m reached) reached.last) (place_past at t)) (sym (chars-append to.bytes reached.last.spelled.now to.utf8)) on.runs);
       found = found;
@@ -97,7 +89,7 @@ module _ (m : ScoreMachine) (at : Place) (text : List ℕ) (reached then : Reach
       runs = runs_one;
       taken = on.taken;
       count = count_one;
-      joined = λ t. ap (λ n. joined_text those ++ spelled_canonical (nat_lt 0 n) t) no_gap ∙ ap (λ (l : List ℕ). l ++ t) joined_one ∙ spelled_then w.starts front_then t;
+      joined = λ t. ap (λ n. joined_text those ++ spelled_canonical (nat_lt 0 n) t) no_gap ∙ ap (λ (l : List ℕ). l ++ t) joined_one ∙ append_assoc _ front_then t;
     }
 
     module _ (after : Waiting) (earlier : after.earlier ≡ then.count) (starts : after.starts ≡ nat_lt 0 then.last.gap) (new : Taker) where
@@ -128,11 +120,7 @@ module _ {Taker : Type 0} (given_by : Taker → List PlacedSyllable → Taker) (
   }
 
   pub waiting_are_taken : (new : Taker) → new ≡ given_by now on.waiting → RunsMore given_by m at text given old reached new
-  waiting_are_taken new taken = record {
-    more = on.more ++ on.waiting;
-    runs = subst (λ (l : List PlacedSyllable). RunsTo m at text l reached) (append_assoc given on.more on.waiting) on.runs;
-    taken = taken ∙ ap (λ s. given_by s on.waiting) on.taken ∙ both old on.more on.waiting;
-  }
+  waiting_are_taken new taken = grind (arith, append_assoc)
 
   pub none_waits : w.earlier ≡ reached.count → ((s : Taker) → given_by s [] ≡ s) → RunsMore given_by m at text given old reached now
   none_waits none nothing = waiting_are_taken now (sym (nothing now) ∙ ap (λ (l : List PlacedSyllable). given_by now l) (sym (nil_from_length on.waiting (let e = on.count in omega (arith, e, none)))))

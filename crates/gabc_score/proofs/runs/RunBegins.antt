@@ -7,7 +7,7 @@ use Rattle.gabc_places.specs.TextOfAnInput.{IsPlain}
 use Rattle.gabc_places.specs.declared.place.Place.{Place}
 use Rattle.gabc_score.specs.declared.before.Preceding.{Preceding}
 use Rattle.gabc_score.specs.declared.score_machine.ScoreMachine.{ScoreMachine}
-use Rattle.gabc_score.specs.Before.{sounds_in, with_one, with_each}
+use Rattle.gabc_score.specs.Before.{with_one, with_each}
 use Rattle.gabc_score.specs.Canonical.{position_by}
 use Rattle.gabc_score.specs.ScoreStage.{IsWithin}
 use Rattle.gabc_score.specs.Syllable.{UnplacedSyllable}
@@ -33,11 +33,7 @@ module _ (m : ScoreMachine) (at : Place) (held : UnplacedSyllable) (stands : Sta
   total_is = stands.rests.preceded.total ∙ ap (λ (p : Preceding). p.canonical) (sym stands.rests.after)
 
   sounded_is : is_some m.pair.gathered.first_kind ≡ m.bounds.after.sounded
-  sounded_is =
-      stands.rests.preceded.sounded
-      ∙ ap (λ (p : Preceding). p.sounded || sounds_in m.pair.gathered.builder.kept m.pair.gathered.builder.snippets) (sym stands.rests.after)
-      ∙ ap (λ (o : OpenSyllable). m.bounds.after.sounded || sounds_in o.kept o.snippets) stands.between.nothing
-      ∙ or-false m.bounds.after.sounded
+  sounded_is = grind (arith, or-false)
 
   alike : ReadAlike m.pair.gathered (begun m.bounds.after.spans)
   alike = nothing_alike m.body.nabc_lines m.body.macros m.body.part m.bounds.after.spans m.pair.gathered stands.rests.reading (ap (λ (o : OpenSyllable). o.kept) stands.between.nothing)

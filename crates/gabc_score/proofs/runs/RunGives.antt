@@ -1,10 +1,9 @@
 -- What a run gives, once its last syllable is held.
 use Rattle.gabc_text.proofs.tokens.CountsOfTexts.{place_small}
 use Rattle.std.proofs.Common.{◌≡◌, ℕ, ◌+◌, ◌<◌, ◌≤◌, ◌^◌, Bool, true, List, [], ◌∷◌, ◌++◌, map, length, refl, sym, ap, subst, ◌∙◌, arith, length-append}
-use Rattle.std.proofs.lemmas.Bool.Decides.{nat_tests}
 use Rattle.std.specs.Str.{chars}
 use Rattle.gabc_text.specs.TextStage.{fresh_stage}
-use Rattle.gabc_places.specs.Place.{is_line_feed, next_place, place_past}
+use Rattle.gabc_places.specs.Place.{next_place, place_past}
 use Rattle.gabc_places.specs.declared.place.Place.{Place}
 use Rattle.gabc_places.proofs.PlacesOfAText.{place_append}
 use Rattle.gabc_headers.specs.declared.head_event.HeadEvent.{HeadEvent}
@@ -17,20 +16,16 @@ use Rattle.gabc_score.specs.declared.score_machine.ScoreMachine.{ScoreMachine}
 use Rattle.gabc_score.specs.declared.score_machine.ScorePart.{ScorePart}
 use Rattle.gabc_score.specs.declared.score_machine.ScorePart.TheVariants as score_part
 use Rattle.gabc_score.specs.Before.{with_one, with_placed}
-use Rattle.gabc_score.specs.Events.{events_from}
 use Rattle.gabc_score.specs.GivesSyllables.{GivesSyllables, next_after, text_inputs}
-use Rattle.gabc_score.specs.ScoreEvents.{ScoreOutput, characters_in}
 use Rattle.gabc_score.specs.ScoreReports.{IsAt, held_in_body, openers_of}
 use Rattle.gabc_score.specs.Syllable.{UnplacedSyllable, PlacedSyllable}
 use Rattle.gabc_score.specs.ReportedWithin.{AreOpenersBefore, HoldsIfAny, IsPlace, ReportsText, whole_syllables}
-use Rattle.gabc_score.specs.witness.BodyStage.{part_with, texts_by_stage}
 use Rattle.gabc_score.specs.witness.ScoreStage.{ScoreStageState, left_of}
 use Rattle.gabc_score.specs.machine.Between.{left_between, with_one as gathered_with}
 use Rattle.gabc_score.specs.machine.Gatherer.{Gathered}
 use Rattle.gabc_score.specs.machine.PartOnly.{HoldsTexts}
 use Rattle.gabc_score.specs.machine.Run.{IsFound, StandsBetween, RunsBefore}
 use Rattle.gabc_score.specs.machine.ScoreMachine.{held_score, shown}
-use Rattle.gabc_score.specs.machine.ScoreStage.{HeldScore, body_left, outputs_left}
 use Rattle.gabc_score.proofs.runs.FoundSyllable.{some_are, utf8_is}
 use Rattle.gabc_score.proofs.runs.RunEnds.{EndsWith, before_last}
 use Rattle.gabc_score.proofs.runs.RunGoesOn.{few_characters}
@@ -40,31 +35,22 @@ use Rattle.gabc_score.proofs.score_events.CountsGoOn.{more}
 
 few_more : (p : Preceding) (ss : List PlacedSyllable) → (with_placed p ss).syllables ≤ p.syllables + length ss
 few_more p [] = omega arith
-few_more p (s ∷ ss) =
-    let on = few_more (with_one p s.made) ss in
-    let one : (with_one p s.made).syllables ≤ p.syllables + 1 = grind (arith, nat_tests) in
-    omega (arith, on, one)
+few_more p (s ∷ ss) = grind (arith, few_more (with_one p s.made) ss)
 
 -- a line and a column count from 1 on
 from_one : (at : Place) (t : List ℕ) → 1 ≤ at.line → 1 ≤ at.column → (1 ≤ (place_past at t).line) × (1 ≤ (place_past at t).column)
 from_one at [] l k = (l, k)
-from_one at (c ∷ t) l k = let one = by (is_line_feed c) (next_place at c) refl in from_one (next_place at c) t one.0 one.1
-  where
-    by : (b : Bool) (q : Place) → q ≡ next_place at c → (1 ≤ q.line) × (1 ≤ q.column)
-    by b q e = (let h = l in grind (arith, nat_tests, e, h), let h = k in grind (arith, nat_tests, e, h))
+from_one at (c ∷ t) l k = from_one (next_place at c) t (grind (arith, l)) (grind (arith, k))
 
 next_past : (at before : Place) (t : List ℕ) → 1 ≤ length t → next_after at t before ≡ place_past at t
-next_past at before [] some = absurd (omega (arith, some))
-next_past at before (c ∷ t) some = refl
+next_past at before t some = grind arith
 
 -- ---- what is left
 
 -- what is still given where a text begins
 left_there : (n : ScoreMachine) (at : Place) (first second : PlacedSyllable) → n.part ≡ score_part.Body → n.body.part ≡ Text (fresh_stage at) → (xs : List HeadEvent)
     → left_of (record (shown n) { first = first; second = second }) xs ≡ left_between n.limits n.body.nabc_lines n.body.macros at (held_score n) xs
-left_there n at first second part begins xs =
-    ap (λ (q : ScorePart). outputs_left n.limits q (held_score n) n.body xs) part
-    ∙ ap (λ (b : BodyPart). body_left n.limits (held_score n) (events_from texts_by_stage n.body.nabc_lines n.body.macros (part_with b (characters_in xs)) (characters_in xs)) xs) begins
+left_there n at first second part begins xs = grind arith
 
 -- After a run the machine holds its last syllable: it goes on with the next text.
 pub record HoldsLast (m : ScoreMachine) (p : Preceding) (next : Place) (made : UnplacedSyllable) (after : ScoreMachine) : Type 0 where
@@ -100,48 +86,28 @@ module _ (m : ScoreMachine) (at : Place) (t : List ℕ) (given : List PlacedSyll
   there : after.next ≡ place_past at text
   there = held.at ∙ next_is
 
-  end_is : held_score after ≡ record { next = past; gathered = gathered_with (before_last m p) ends.made; has_lent = true }
-  end_is =
-      ap (λ (q : Place). record { next = q; gathered = after.pair.gathered; has_lent = after.has_lent }) held.at
-      ∙ ap (λ (g : Gathered). record { next = past; gathered = g; has_lent = after.has_lent }) held.gathered
-      ∙ ap (λ b. record { next = past; gathered = gathered_with (before_last m p) ends.made; has_lent = b }) held.lent
-
   left_after : (xs : List HeadEvent) → left_of (shown after) xs
       ≡ left_between m.limits m.body.nabc_lines m.body.macros past (record { next = past; gathered = gathered_with (before_last m p) ends.made; has_lent = true }) xs
   left_after xs =
       left_there after past after.pair.first after.pair.second held.part held.begins xs
-      ∙ ap (λ l. left_between l after.body.nabc_lines after.body.macros past (held_score after) xs) held.limits
-      ∙ ap (λ l. left_between m.limits l after.body.macros past (held_score after) xs) held.lines
-      ∙ ap (λ l. left_between m.limits m.body.nabc_lines l past (held_score after) xs) held.macros
-      ∙ ap (λ (s : HeldScore). left_between m.limits m.body.nabc_lines m.body.macros past s xs) end_is
+      ∙ rw (held.limits, held.lines, held.macros, held.at, held.gathered, held.lent) refl
 
   law_is : (xs : List HeadEvent) → left_of before (text_inputs at text ++ xs) ≡ ends.through.points ++ left_of (shown after) xs
-  law_is xs =
-      left_there m at first second stands.part stands.begins (text_inputs at text ++ xs)
-      ∙ ends.through.law xs
-      ∙ ap (λ (l : List (List ScoreOutput)). ends.through.points ++ l) (sym (left_after xs))
+  law_is xs = grind (arith, left_there, left_after)
 
   few_whole : whole_syllables (shown after) ≤ whole_syllables before + length text
-  few_whole =
-      let b = ap (λ (q : Preceding). q.syllables) (held.before ∙ runs.before) in
-      let some = few_more m.bounds.before given in
-      let n = ap (λ (ss : List PlacedSyllable). length ss) runs.given_are ∙ length-append runs.earlier _ in
-      let few = runs.few in
-      let one = ap (λ (g : Gathered). length g.made) held.gathered in
-      let was = stands.one in
-      omega (arith, b, some, n, few, one, was, long)
+  few_whole = grind (arith, few_more, length-append, long)
 
   place_is : IsPlace at → IsPlace after.next
   place_is is =
       let from = from_one at text is.line is.column in
-      let low = place_small next (chars f.spelled.now) in
-      let k = low.1 in
-      let few = few_characters f.spelled.now (utf8_is f m.body.nabc_lines p.canonical m.limits found) in
+      let low = (place_small next (chars f.spelled.now)).1 in
+      let few = few_characters f.spelled.now (utf8_is f m.body.nabc_lines found.is) in
       let e = ap (λ (q : Place). q.column) held.at in
       record {
         line = subst (λ (q : Place). 1 ≤ q.line) (sym there) from.0;
         column = subst (λ (q : Place). 1 ≤ q.column) (sym there) from.1;
-        in_64_bits = omega (arith, k, few, e, column);
+        in_64_bits = omega (arith, low, few, e, column);
       }
 
   told_is : at ≡ m.next → ReportsText before → ReportsText (shown after)
@@ -170,21 +136,4 @@ module _ (m : ScoreMachine) (at : Place) (t : List ℕ) (given : List PlacedSyll
 
   -- what was given, and how it goes on
   pub run_gives : GivesSyllables before at text given (shown after)
-  run_gives = record {
-    limits = held.limits;
-    part = held.part ∙ sym stands.part;
-    before_held = held.before ∙ runs.before;
-    next = there ∙ sym (next_past at m.next text (let l = long in omega (arith, l)));
-    stands = λ here was body. stands_there after.next held.at;
-    whole = few_whole;
-    told = λ here was told. told_is here told;
-    holds = λ was. holds_is;
-    counts = λ was body. stands_there (place_past at text) (sym next_is);
-    within = runs.within;
-    points = ends.through.points;
-    one_each = ends.through.one_each;
-    given_are = ends.through.given_are;
-    law = law_is;
-    in_heads = λ heads. absurd (cc (sym stands.part ∙ heads));
-    none = λ e. absurd (let n = ap (λ (l : List ℕ). length l) e in let l = long in omega (arith, n, l));
-  }
+  run_gives = grind (arith, next_past, long, stands_there, few_whole, told_is, holds_is, next_is, law_is)

@@ -1,7 +1,7 @@
 -- A run goes on with one more regular syllable.
 use Rattle.gabc_text.proofs.tokens.CountsOfTexts.{place_small}
 use Rattle.std.proofs.Math.Bool.{or-true}
-use Rattle.std.proofs.Common.{◌≡◌, ℕ, ◌+◌, ◌<◌, ◌≤◌, ◌^◌, ◌==◌, ◌||◌, not, min, nat_lt, Bool, true, false, List, [], ◌∷◌, ◌++◌, length, map, take, encode_utf8_all, Option, is_some, refl, sym, ap, ap₂, subst, ◌∙◌, arith, length-append}
+use Rattle.std.proofs.Common.{◌≡◌, ℕ, ◌+◌, ◌<◌, ◌≤◌, ◌^◌, ◌==◌, ◌||◌, not, min, nat_lt, Bool, true, false, List, [], ◌∷◌, ◌++◌, length, encode_utf8_all, Option, is_some, refl, sym, ap, ap₂, subst, ◌∙◌, arith, length-append}
 use Rattle.std.proofs.lemmas.Bool.Decides.{nat_tests}
 use Rattle.std.proofs.lemmas.List.Elements.{All-nil, All-cons, All-append}
 use Rattle.std.specs.Str.{IsUtf8, chars}
@@ -17,7 +17,7 @@ use Rattle.gabc_score.specs.declared.before.Preceding.{Preceding}
 use Rattle.gabc_score.specs.declared.before.Spans.{Spans}
 use Rattle.gabc_score.specs.declared.run.Found.{Found}
 use Rattle.gabc_score.specs.declared.score_machine.ScoreMachine.{ScoreMachine}
-use Rattle.gabc_score.specs.Before.{most, with_one, with_each, with_placed, sounds}
+use Rattle.gabc_score.specs.Before.{most, with_one, with_placed, sounds}
 use Rattle.gabc_score.specs.Canonical.{canonical, position_by}
 use Rattle.gabc_score.specs.RegularSyllable.{SyllableParts, IsRegularSyllable, spelled}
 use Rattle.gabc_score.specs.ScoreStage.{IsWithin}
@@ -27,7 +27,7 @@ use Rattle.gabc_score.specs.machine.Gatherer.{Gathered}
 use Rattle.gabc_score.specs.machine.Preceded.{spans_of}
 use Rattle.gabc_score.specs.machine.Run.{IsFound, IsSteady, SpellsFound, StandsBetween, RunsBefore, canonical_length, past_found}
 use Rattle.gabc_score.specs.machine.ScoreMachine.{held_score}
-use Rattle.gabc_score.specs.machine.ScoreStage.{HeldScore, placed_after}
+use Rattle.gabc_score.specs.machine.ScoreStage.{HeldScore}
 use Rattle.gabc_score.proofs.score_events.FewAndShortAreLent.{short_within}
 use Rattle.gabc_score.proofs.score_events.WhatPrecedes.{each_then}
 use Rattle.gabc_score.proofs.texts_of_body.StageAndDefinitionAgree.{bytes_encodes}
@@ -41,15 +41,7 @@ few_characters bytes u = let l = length-le-encodes (chars bytes) in let e = ap (
 
 pub low_there : (at next : Place) (bytes spelled rest text : List ℕ) → IsUtf8 bytes → text ≡ bytes ++ (spelled ++ rest) → next ≡ place_past at (chars bytes)
     → at.line + length text < 2 ^ 63 → at.column + length text < 2 ^ 63 → (next.line + length spelled < 2 ^ 63) × (next.column + length spelled < 2 ^ 63)
-low_there at next bytes spelled rest text u e place line column =
-    let n = ap (λ (b : List ℕ). length b) e in
-    let a = length-append bytes (spelled ++ rest) in
-    let b = length-append spelled rest in
-    let few = few_characters bytes u in
-    let low = place_small at (chars bytes) in
-    let l = low.0 in let k = low.1 in
-    let pl = ap (λ (p : Place). p.line) place in let pc = ap (λ (p : Place). p.column) place in
-    (omega (arith, n, a, b, few, l, pl, line), omega (arith, n, a, b, few, k, pc, column))
+low_there at next bytes spelled rest text u e place line column = grind (arith, length-append, bytes, few_characters, place_small)
 
 -- ---- one syllable more
 
@@ -87,21 +79,10 @@ module _ (m : ScoreMachine) (at : Place) (t : List ℕ) (given : List PlacedSyll
 
   module _ (one : UnplacedSyllable) (makes : Makes m.body.nabc_lines m.body.macros next r spans one) where
     pub between : (s : HeldScore) (made : List UnplacedSyllable) → length made ≤ 1 → s.gathered ≡ record m.pair.gathered { made = made; total = p.canonical; eu = p.spans.eu; nlba = p.spans.nlba } → IsBetween m.limits s
-    between s made few is = subst (λ (g : Gathered). IsBetween m.limits (record s { gathered = g })) (sym is) (record {
-      nothing = stands.between.nothing;
-      limit = stands.between.limit;
-      few = few;
-      follows = stands.between.follows;
-      over = stands.between.over;
-      total = runs.input;
-    })
+    between s made few is = grind arith
 
     pub leaves : (g : Gathered) → g.total ≡ p.canonical → LeavesRoomFor m.limits g r
-    leaves g total =
-        let e = ap (λ (b : List ℕ). length b) bytes in
-        let s = found.syllable in
-        let i = found.input in
-        record { syllable = omega (arith, e, s); input = omega (arith, e, total, i) }
+    leaves g total = grind (arith, bytes)
 
     -- no note and no clef comes with it, or one has come
     pub steady_one : (g : Gathered) → g.first_kind ≡ m.pair.gathered.first_kind → SoundsNoMore (is_some g.first_kind) (sounds one)
@@ -119,15 +100,11 @@ module _ (m : ScoreMachine) (at : Place) (t : List ℕ) (given : List PlacedSyll
     word = word_is f m.body.nabc_lines p.canonical m.limits found spans one makes.made ∙ start
 
     given_is : runs.earlier ++ given_before runs.s one ≡ given
-    given_is =
-        ap (λ (made : List UnplacedSyllable). runs.earlier ++ take (length made) (placed_after runs.s.has_lent (made ++ one ∷ []))) (ap (λ (g : Gathered). g.made) runs.gathered)
-        ∙ ap (λ b. runs.earlier ++ record { made = runs.held; position = position_by (not runs.s.has_lent || runs.held.text.word_start) b } ∷ []) word
-        ∙ sym runs.given_are
+    given_is = grind (arith, word)
 
     -- through the syllable the one is given that was held
     pub through_all : GoesThrough m.limits m.body.nabc_lines m.body.macros at (held_score m) (t ++ chars f.spelled.now) given past (past_one runs.s past one)
-    through_all = subst (λ (ss : List PlacedSyllable). GoesThrough m.limits m.body.nabc_lines m.body.macros at (held_score m) (t ++ chars f.spelled.now) ss past (past_one runs.s past one)) given_is
-        (through_both m.limits m.body.nabc_lines m.body.macros at (held_score m) runs.s (past_one runs.s past one) t (chars f.spelled.now) runs.earlier (given_before runs.s one) next past runs.place runs.through through_one)
+    through_all = grind (arith, given_is, through_both, through_one)
 
     eu_is : one.eu ≡ (past_found p f).spans.eu
     eu_is = eu_after f m.body.nabc_lines p.canonical m.limits found spans one makes.made
@@ -158,24 +135,13 @@ module _ (m : ScoreMachine) (at : Place) (t : List ℕ) (given : List PlacedSyll
 
     preceding_is : with_one p one ≡ past_found p f
     preceding_is =
-        ap (λ b. record { syllables = min (p.syllables + 1) most; canonical = min (p.canonical + min (length (canonical (b || one.text.word_start) one)) most) most; spans = record { eu = one.eu; nlba = one.nlba }; sounded = p.sounded || sounds one }) none_first
-        ∙ ap (λ n. record { syllables = min (p.syllables + 1) most; canonical = min (p.canonical + min n most) most; spans = record { eu = one.eu; nlba = one.nlba }; sounded = p.sounded || sounds one }) size
-        ∙ ap (λ n. record { syllables = min (p.syllables + 1) most; canonical = n; spans = record { eu = one.eu; nlba = one.nlba }; sounded = p.sounded || sounds one }) low
-        ∙ ap (λ b. record { syllables = min (p.syllables + 1) most; canonical = p.canonical + canonical_length f; spans = record { eu = b; nlba = one.nlba }; sounded = p.sounded || sounds one }) eu_is
-        ∙ ap (λ b. record { syllables = min (p.syllables + 1) most; canonical = p.canonical + canonical_length f; spans = record { eu = (past_found p f).spans.eu; nlba = b }; sounded = p.sounded || sounds one }) nlba_is
-        ∙ ap (λ b. record { syllables = min (p.syllables + 1) most; canonical = p.canonical + canonical_length f; spans = (past_found p f).spans; sounded = b }) (subst (λ b. SoundsNoMore b (sounds one)) runs.sounded (steady_one m.pair.gathered refl))
-      where
-        none_first : (p.syllables == 0) ≡ false
-        none_first = let some = runs.some in grind (arith, nat_tests, some)
-
-        low : min (p.canonical + min (canonical_length f) most) most ≡ p.canonical + canonical_length f
-        low = let i = found.input in let top = m.limits.in_range.input_most in omega (arith, few_bytes, i, top)
+        let none_first : (p.syllables == 0) ≡ false = let some = runs.some in grind (arith, nat_tests, some) in
+        let low : min (p.canonical + min (canonical_length f) most) most ≡ p.canonical + canonical_length f = omega (arith, few_bytes, found.input, m.limits.in_range.input_most) in
+        let sounded : (p.sounded || sounds one) ≡ p.sounded = subst (λ b. SoundsNoMore b (sounds one)) runs.sounded (steady_one m.pair.gathered refl) in
+        rw (none_first, size, low, eu_is, nlba_is, sounded) refl
 
     before_is : (placed : PlacedSyllable) → placed.made ≡ one → past_found p f ≡ with_placed m.bounds.before (given ++ placed ∷ [])
-    before_is placed is =
-        sym preceding_is ∙ ap (with_one p) (sym is) ∙ ap (λ (q : Preceding). with_one q placed.made) runs.before
-        ∙ sym (each_then m.bounds.before (map (λ (s : PlacedSyllable). s.made) given) placed.made)
-        ∙ ap (with_each m.bounds.before) (sym (map-append (λ (s : PlacedSyllable). s.made) given (placed ∷ [])))
+    before_is placed is = grind (arith, preceding_is, each_then, map-append)
 
     goes_on_by : (begins : Bool) → GoesOnWith m at t given p f r begins
     goes_on_by begins = let placed : PlacedSyllable = record { made = one; position = position_by one.text.word_start begins } in record {
@@ -202,12 +168,10 @@ module _ (m : ScoreMachine) (at : Place) (t : List ℕ) (given : List PlacedSyll
       where
         few_given : length given ≤ length (t ++ chars f.spelled.now)
         few_given =
-            let e = ap (λ (ss : List PlacedSyllable). length ss) runs.given_are in
             let l = length-append runs.earlier (record { made = runs.held; position = position_by (not runs.s.has_lent || runs.held.text.word_start) starts } ∷ []) in
             let n = length-append t (chars f.spelled.now) in
-            let few = runs.few in
             let some = some_are f m.body.nabc_lines p.canonical m.limits found in
-            omega (arith, e, l, n, few, some)
+            omega (arith, ap (λ (ss : List PlacedSyllable). length ss) runs.given_are, l, n, runs.few, some)
 
   module _ (law : MakeSyllables) (line : next.line + length f.spelled.now < 2 ^ 63) (column : next.column + length f.spelled.now < 2 ^ 63) where
     small : length (encode_utf8_all (spelled r)) < 2 ^ 63

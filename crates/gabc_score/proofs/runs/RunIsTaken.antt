@@ -64,9 +64,7 @@ gives_none s at first second = record {
 
 -- what a machine shows whose slots are used otherwise
 pub shown_same : (old new : ScoreMachine) → IsSamePair old new → (first second : PlacedSyllable) → record (shown new) { first = first; second = second } ≡ record (shown old) { first = first; second = second }
-shown_same old new same first second =
-    ap (λ (m : ScoreMachine). record (shown m) { first = first; second = second }) same.is
-    ∙ ap (λ (g : Gathered). record (shown old) { held = record (shown old).held { gathered = g }; first = first; second = second }) same.gathered
+shown_same old new same first second = grind arith
 
 -- ---- the first syllable
 
@@ -131,7 +129,7 @@ module _ (m : ScoreMachine) (at : Place) (text : List ℕ) (given : List PlacedS
   take_is = ap (λ n. take n text) len_is ∙ ap (take (length (to.bytes ++ f.spelled.now))) text_is ∙ take-append_seam (to.bytes ++ f.spelled.now) f.rest.now
 
   spelled_utf8 : IsUtf8 f.spelled.now
-  spelled_utf8 = utf8_is f m.body.nabc_lines reached.canonical m.limits to.found
+  spelled_utf8 = utf8_is f m.body.nabc_lines to.found.is
 
   pub chars_are : chars (take taken_bytes text) ≡ chars to.bytes ++ chars f.spelled.now
   chars_are = ap chars take_is ∙ chars-append to.bytes f.spelled.now to.utf8
@@ -168,9 +166,7 @@ module _ (m : ScoreMachine) (at : Place) (text : List ℕ) (given : List PlacedS
     past = place_past from (chars f.spelled.now)
 
     pub next_there : past ≡ place_past at (chars (take taken_bytes text))
-    next_there =
-        ap (λ (q : Place). place_past q (chars f.spelled.now)) from_is
-        ∙ sym (place_append at (chars to.bytes) (chars f.spelled.now)) ∙ ap (place_past at) (sym chars_are)
+    next_there = grind (arith, place_append, chars_are)
 
     low : (from.line + length f.spelled.now < 2 ^ 63) × (from.column + length f.spelled.now < 2 ^ 63)
     low = low_there at from to.bytes f.spelled.now f.rest.now text to.utf8 to.text_is from_is to.line to.column
@@ -190,14 +186,11 @@ module _ (m : ScoreMachine) (at : Place) (text : List ℕ) (given : List PlacedS
       module _ (read : ScoreMachine) (has : HasRead on read (lists_from on from (chars f.spelled.now))) (was : IsScoreAt read.part read)
           (texts : IsText f.spelled.now → HoldsTexts on.pair.gathered → HoldsTexts read.pair.gathered)
           (body : BodyStageState) (counts : CountsHold body.part nothing_open) (keeps : (lines macros : ℕ) → PartKeeps lines macros body.part (in_text [])) where
-        rests_by : (q : Place) → past ≡ q → body ≡ record read.body { part = Text (fresh_stage q) } → IsScoreAt read.part (record read { body = body; next = q })
-        rests_by q e = subst (λ (q : Place). body ≡ record read.body { part = Text (fresh_stage q) } → IsScoreAt read.part (record read { body = body; next = q })) e (λ begins.
-            subst (λ p. IsScoreAt p (record read { body = body; next = past })) (sym has.part)
-            (rests_then m at (chars to.bytes) given (nat_lt 0 f.gap) (before_in m reached) from runs_from to.stands f on goes ends to.found read has was texts body begins counts keeps))
-
         -- it rests after it
         pub rests_after : (q : Place) → q ≡ past → body ≡ record read.body { part = Text (fresh_stage q) } → IsScoreAt read.part (record read { body = body; next = q })
-        rests_after q e = rests_by q (sym e)
+        rests_after q e = subst (λ (q : Place). body ≡ record read.body { part = Text (fresh_stage q) } → IsScoreAt read.part (record read { body = body; next = q })) (sym e) (λ begins.
+            subst (λ p. IsScoreAt p (record read { body = body; next = past })) (sym has.part)
+            (rests_then m at (chars to.bytes) given (nat_lt 0 f.gap) (before_in m reached) from runs_from to.stands f on goes ends to.found read has was texts body begins counts keeps))
 
         gives_by : body ≡ record read.body { part = Text (fresh_stage past) } → GivesSyllables (shown m) at (chars to.bytes ++ chars f.spelled.now) given (shown (record read { body = body; next = past }))
         gives_by begins = run_gives m at (chars to.bytes) given (nat_lt 0 f.gap) (before_in m reached) from runs_from to.stands f to.found low.1 ends (record read { body = body; next = past })
@@ -205,8 +198,7 @@ module _ (m : ScoreMachine) (at : Place) (text : List ℕ) (given : List PlacedS
 
         -- what the run gives
         pub gives_after : (q : Place) → q ≡ past → body ≡ record read.body { part = Text (fresh_stage q) } → GivesSyllables (shown m) at (chars (take taken_bytes text)) given (shown (record read { body = body; next = q }))
-        gives_after q e = subst (λ (q : Place). body ≡ record read.body { part = Text (fresh_stage q) } → GivesSyllables (shown m) at (chars (take taken_bytes text)) given (shown (record read { body = body; next = q }))) (sym e) (λ begins.
-            subst (λ (t : List ℕ). GivesSyllables (shown m) at t given (shown (record read { body = body; next = past }))) (sym chars_are) (gives_by begins))
+        gives_after q e = grind (arith, chars_are, gives_by)
 
 -- what is given from a machine whose slots are used otherwise
 pub gives_same : (old m : ScoreMachine) (at : Place) (t : List ℕ) (given : List PlacedSyllable) (after : ScoreStageState) → IsSamePair old m → GivesSyllables (shown m) at t given after → GivesSyllables (shown old) at t given after

@@ -1,9 +1,8 @@
 -- The slices of a regular syllable that was found.
-use Rattle.std.proofs.Common.{◌≡◌, ℕ, zero, suc, ◌-◌, ◌≤◌, Bool, nat_lt, ◌++◌, length, take, drop, refl, sym, ap, ap₂, subst, ◌∙◌, arith, length-append, IsUtf8}
+use Rattle.std.proofs.Common.{◌≡◌, ℕ, zero, suc, ◌-◌, ◌≤◌, Bool, nat_lt, ◌++◌, length, drop, refl, sym, ap, ap₂, subst, ◌∙◌, arith, length-append, IsUtf8}
 use Rattle.std.specs.Str.{IsCharBoundary}
 use Rattle.std.proofs.Math.ListN.{get_or-append}
-use Rattle.std.proofs.Math.Seq.{take-append_seam}
-use Rattle.std.proofs.lemmas.Str.{IsUtf8-drop, IsUtf8-nil}
+use Rattle.std.proofs.lemmas.Str.{IsUtf8-drop, IsUtf8-nil, IsCharBoundary-from_take}
 use Rattle.gabc_score.specs.declared.before.Spans.{Spans}
 use Rattle.gabc_score.specs.declared.run.Found.{Found}
 use Rattle.gabc_score.specs.declared.spelled.SpelledSyllable.{SpelledSyllable}
@@ -14,16 +13,9 @@ use Rattle.gabc_score.specs.SpelledSyllable.{IsSpelling, Spells}
 use Rattle.gabc_score.specs.Syllable.{PlacedSyllable}
 use Rattle.gabc_score.specs.machine.RegularLen.{BeginsRegularly}
 use Rattle.gabc_score.specs.machine.Run.{SpellsFound, len_of}
-use Rattle.gabc_score.proofs.regular_syllables.BytesOfRegularSyllables.{cut_after}
-use Rattle.gabc_score.proofs.runs.FoundSyllable.{begins_there}
+use Rattle.gabc_score.proofs.runs.FoundSyllable.{begins_there, front_is, utf8_is}
 
 module _ (f : Found) (lines : ℕ) (b : BeginsRegularly lines (f.spelled.now ++ f.rest.now) (len_of f)) where
-  pub front_is : take (length f.spelled.now) (f.spelled.now ++ f.rest.now) ≡ f.spelled.now
-  front_is = take-append_seam f.spelled.now f.rest.now
-
-  pub utf8_is : IsUtf8 f.spelled.now
-  utf8_is = subst IsUtf8 front_is b.is_text.utf8
-
   -- it may be cut after its gap
   pub cut : IsCharBoundary f.spelled.now f.gap
   cut = by f.gap refl
@@ -32,7 +24,7 @@ module _ (f : Found) (lines : ℕ) (b : BeginsRegularly lines (f.spelled.now ++ 
       within = let some = b.some in omega (arith, some)
 
       by : (n : ℕ) → f.gap ≡ n → IsCharBoundary f.spelled.now f.gap
-      by zero e = subst (IsCharBoundary f.spelled.now) (sym e) (cut_after f.spelled.now 0 utf8_is (omega arith) IsUtf8-nil)
+      by zero e = subst (IsCharBoundary f.spelled.now) (sym e) (IsCharBoundary-from_take f.spelled.now 0 (utf8_is f lines b) (omega arith) IsUtf8-nil)
       by (suc n) e =
           let there = b.cut_gap.1 (omega (arith, e)) in
           let all = length-append f.spelled.now f.rest.now in (
@@ -46,9 +38,9 @@ module _ (f : Found) (lines : ℕ) (b : BeginsRegularly lines (f.spelled.now ++ 
     slices_spell = record {
       parts = b.syllable;
       regular = subst (λ l. IsRegularSyllable l b.syllable) (sym lines_are) b.is_regular;
-      canonical_is = canonical ∙ ap (drop f.gap) (sym front_is) ∙ b.rest_is;
+      canonical_is = canonical ∙ ap (drop f.gap) (sym (front_is f)) ∙ b.rest_is;
       opening_is = (let e = b.opening_is in omega (arith, e, opening));
-      utf8 = subst IsUtf8 (sym canonical) (IsUtf8-drop f.spelled.now f.gap utf8_is cut);
+      utf8 = subst IsUtf8 (sym canonical) (IsUtf8-drop f.spelled.now f.gap (utf8_is f lines b) cut);
     }
 
     module _ (spans : Spans) (begins : Bool) (position : r.position ≡ position_by (nat_lt 0 f.gap) begins) (spans_are : r.spans ≡ spans) (s : PlacedSyllable) (h : SpellsFound lines spans begins f b.syllable s) where

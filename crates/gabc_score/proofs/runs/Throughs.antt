@@ -1,14 +1,13 @@
 -- Texts of some characters that are read one after another.
-use Rattle.std.proofs.Common.{◌≡◌, ℕ, ◌+◌, List, [], ◌∷◌, ◌++◌, length, map, refl, sym, ap, ◌∙◌, append_assoc, length-append}
+use Rattle.std.proofs.Common.{◌≡◌, ℕ, ◌+◌, List, [], ◌++◌, length, map, refl, sym, ap, ◌∙◌, append_assoc, length-append, arith}
 use Rattle.std.proofs.lemmas.List.{map-append}
-use Rattle.gabc_places.specs.Place.{place_past, placed_characters_from}
+use Rattle.gabc_places.specs.Place.{place_past}
+use Rattle.gabc_places.proofs.PushesAreOne.{joined-append}
 use Rattle.gabc_places.specs.StageLaw.{concat_of}
 use Rattle.gabc_places.specs.declared.limits.Limits.{Limits}
-use Rattle.gabc_places.specs.declared.place.Char.{Char}
 use Rattle.gabc_places.specs.declared.place.Place.{Place}
 use Rattle.gabc_places.proofs.PlacesOfAText.{placed_append}
 use Rattle.gabc_headers.specs.declared.head_event.HeadEvent.{HeadEvent}
-use Rattle.gabc_headers.specs.declared.head_event.HeadEvent.TheVariants as head_event
 use Rattle.gabc_score.specs.GivesSyllables.{text_inputs}
 use Rattle.gabc_score.specs.ScoreEvents.{ScoreOutput, Syllable}
 use Rattle.gabc_score.specs.Syllable.{PlacedSyllable}
@@ -16,13 +15,7 @@ use Rattle.gabc_score.specs.machine.Between.{GoesThrough, left_between}
 use Rattle.gabc_score.specs.machine.ScoreStage.{HeldScore}
 
 pub inputs_append : (at : Place) (t u : List ℕ) → text_inputs at (t ++ u) ≡ text_inputs at t ++ text_inputs (place_past at t) u
-inputs_append at t u =
-    ap (λ (xs : List Char). map (λ (x : Char). head_event.Body x) xs) (placed_append at t u)
-    ∙ map-append (λ (x : Char). head_event.Body x) (placed_characters_from at t) (placed_characters_from (place_past at t) u)
-
-concat_append : (a b : List (List ScoreOutput)) → concat_of (a ++ b) ≡ concat_of a ++ concat_of b
-concat_append [] b = refl
-concat_append (x ∷ a) b = ap (λ (l : List ScoreOutput). x ++ l) (concat_append a b) ∙ sym (append_assoc x (concat_of a) (concat_of b))
+inputs_append at t u = grind (arith, placed_append, map-append)
 
 module _ (limits : Limits) (lines macros : ℕ) where
   pub through_none : (at : Place) (s : HeldScore) → GoesThrough limits lines macros at s [] [] at s
@@ -40,6 +33,6 @@ module _ (limits : Limits) (lines macros : ℕ) where
         ∙ first.law (text_inputs next u ++ xs)
         ∙ ap (λ (l : List (List ScoreOutput)). first.points ++ l) (second.law xs)
         ∙ sym (append_assoc first.points second.points (left_between limits lines macros last b xs));
-    given_are = concat_append first.points second.points ∙ ap (λ (l : List ScoreOutput). l ++ concat_of second.points) first.given_are
+    given_are = joined-append first.points second.points ∙ ap (λ (l : List ScoreOutput). l ++ concat_of second.points) first.given_are
         ∙ ap (λ (l : List ScoreOutput). map (λ (s : PlacedSyllable). Syllable s) g ++ l) second.given_are ∙ sym (map-append (λ (s : PlacedSyllable). Syllable s) g h);
   }

@@ -1,5 +1,5 @@
 -- Syllables that wait before one that was found, and the text that they stand in.
-use Rattle.std.proofs.Common.{◌≡◌, ℕ, ◌+◌, ◌-◌, ◌<◌, ◌≤◌, nat_lt, Bool, true, false, List, [], ◌++◌, length, drop, refl, sym, ap, subst, ◌∙◌, arith, append_assoc, length-append}
+use Rattle.std.proofs.Common.{◌≡◌, ℕ, ◌+◌, ◌-◌, ◌<◌, nat_lt, true, false, List, [], ◌++◌, length, drop, refl, sym, ap, subst, ◌∙◌, arith, append_assoc, length-append}
 use Rattle.std.proofs.lemmas.List.{drop-append-le}
 use Rattle.std.proofs.Math.Seq.{drop-append_seam}
 use Rattle.std.proofs.lemmas.Bool.Decides.{nat_tests}
@@ -11,7 +11,7 @@ use Rattle.gabc_score.specs.declared.waiting.Waiting.{Waiting}
 use Rattle.gabc_score.specs.machine.RegularLen.{BeginsRegularly}
 use Rattle.gabc_score.specs.machine.Run.{AreBefore, HasFront, len_of, unread}
 use Rattle.gabc_score.proofs.regular_syllables.BytesOfRegularSyllables.{split_boundary}
-use Rattle.gabc_score.proofs.runs.SlicesOfFound.{utf8_is}
+use Rattle.gabc_score.proofs.runs.FoundSyllable.{utf8_is}
 
 module _ (f : Found) (lines : ℕ) (b : BeginsRegularly lines (f.spelled.now ++ f.rest.now) (len_of f)) where
   pub unread_is : drop f.gap (f.spelled.now ++ f.rest.now) ≡ unread f
@@ -61,31 +61,11 @@ module _ (w : Waiting) (r : Reached) (front : List ℕ) (before : AreBefore w r 
     text_is = text_then ∙ ap (λ (l : List ℕ). front_then ++ l) rest
 
     few : length front_then + length then.last.spelled.now < w.most
-    few =
-        let n = ap (λ (l : List ℕ). length l) text_is ∙ length-append front_then (then.last.spelled.now ++ then.last.rest.now) in
-        let k = length-append then.last.spelled.now then.last.rest.now in
-        let less : length w.text.now - length then.last.rest.now < w.most = grind (arith, nat_tests, fits) in
-        omega (arith, n, k, less)
+    few = grind (arith, text_is, length-append)
 
     pub then_before : AreBefore w then front_then
-    then_before = record {
-      earlier = (let e = before.earlier in omega (arith, e, count));
-      text = text_is ∙ ap (λ n. front_then ++ (drop n then.last.spelled.now ++ then.last.rest.now)) (sym gap_is);
-      some = λ less. (gap_is, few);
-      none = λ e. absurd (let l = before.earlier in omega (arith, e, l, count));
-    }
+    then_before = grind (arith, text_is, gap_is, few)
 
   -- where what waits with it has no room, none waits
   pub none_where_full : nat_lt (length w.text.now - length r.last.rest.now) w.most ≡ false → w.earlier ≡ r.count
-  none_where_full full = by (nat_lt w.earlier r.count) refl
-    where
-      by : (b : Bool) → nat_lt w.earlier r.count ≡ b → w.earlier ≡ r.count
-      by false e = let l = before.earlier in let m : r.count ≤ w.earlier = grind (arith, nat_tests, e) in omega (arith, l, m)
-      by true e =
-          let some = before.some (grind (arith, nat_tests, e)) in
-          let gap = some.0 in
-          let room = some.1 in
-          let n = ap (λ (l : List ℕ). length l) text_then ∙ length-append front_then r.last.rest.now in
-          let k = length-append front (drop r.last.gap r.last.spelled.now) ∙ ap (λ g. length front + length (drop g r.last.spelled.now)) gap in
-          let m : w.most ≤ length w.text.now - length r.last.rest.now = grind (arith, nat_tests, full) in
-          absurd (omega (arith, n, k, m, room))
+  none_where_full full = grind (arith, text_then, length-append)

@@ -1,5 +1,5 @@
 -- After a stop or the end a stage gives nothing.
-use Rattle.std.proofs.Common.{◌≡◌, true, List, [], ◌∷◌, ◌++◌, map, Option, Some, None, refl, sym, ap, subst, ◌∙◌}
+use Rattle.std.proofs.Common.{◌≡◌, true, List, [], ◌∷◌, ◌++◌, map, Option, Some, None, refl, sym, ap, subst, ◌∙◌, arith}
 use Rattle.std.proofs.lemmas.List.{append_cancel_left}
 use Rattle.gabc_places.specs.BoundedList.{BoundedList, extended_by}
 use Rattle.gabc_places.specs.StageLaw.{concat_of, silence, EmitsNothing, StopsAtEnd}
@@ -19,14 +19,13 @@ use Rattle.gabc_score.specs.declared.score_machine.ScoreMachine.{ScoreMachine}
 use Rattle.gabc_score.specs.declared.score_machine.ScorePart.{ScorePart}
 use Rattle.gabc_score.specs.declared.score_machine.ScorePart.TheVariants as score_part
 use Rattle.gabc_score.specs.Body.{fault_at}
-use Rattle.gabc_score.specs.witness.BodyStage.{BodyStageState, running_events_left, texts_by_stage}
+use Rattle.gabc_score.specs.witness.BodyStage.{BodyStageState, texts_by_stage}
 use Rattle.gabc_score.specs.Events.{InComment, events_from}
 use Rattle.gabc_score.specs.NoteBeforeClef.{found_first}
 use Rattle.gabc_score.specs.ScoreEvents.{ScoreOutput, Found, Stop, Syllable, End, findings_now, characters_in}
 use Rattle.gabc_score.specs.ScoreStage.{events_borrowed, events_of, is_last_event}
 use Rattle.gabc_score.specs.witness.ScoreStage.{left_of}
-use Rattle.gabc_score.specs.machine.BodyBuilder.{with_all, code_in, end_fault}
-use Rattle.gabc_score.specs.machine.Gatherer.{with_last}
+use Rattle.gabc_score.specs.machine.BodyBuilder.{with_all, code_in}
 use Rattle.gabc_score.specs.machine.ScoreStage.{HeldScore, placed_after, score_past, end_outputs_by, left_by, body_left, fresh_score, score_left, outputs_left}
 use Rattle.gabc_score.specs.machine.ScoreMachine.{shown}
 use Rattle.gabc_score.proofs.score_events.NothingAfterTheEnd.{Ends, silent, then_end, last_ends}
@@ -46,8 +45,7 @@ module _ (limits : Limits) where
   body_ends s lists [] = then_end [] (placed_after s.has_lent s.gathered.made) [] tt
   body_ends s (now ∷ lists) (head_event.Body x ∷ xs) = by_code (code_in limits (with_all s.gathered now)) s x now xs _ (body_ends (score_past s x now) lists xs)
   body_ends s [] (head_event.Body x ∷ xs) = silent _ (joined_silence (head_event.Body x ∷ xs))
-  body_ends s lists (head_event.End ∷ xs) =
-      end_ends s (concat_of lists) (end_fault limits s.next (with_last (with_all s.gathered (concat_of lists)))) (concat_of (silence xs)) (joined_silence xs)
+  body_ends s lists (head_event.End ∷ xs) = grind (arith, end_ends, joined_silence)
   body_ends s lists (head_event.Stop fault ∷ xs) = last_ends [] (placed_after s.has_lent s.gathered.made) (Stop fault) (concat_of (silence xs)) (joined_silence xs)
   body_ends s lists (head_event.Found f ∷ xs) = (λ l. absurd (cc), body_ends s lists xs)
   body_ends s lists (head_event.Heads lines macros canonical ∷ xs) = body_ends s lists xs
@@ -60,9 +58,7 @@ module _ (limits : Limits) where
   score_ends (_ ∷ xs) = (λ l. joined_silence xs, silent _ (joined_silence xs))
 
   left_ends : (part : ScorePart) (s : HeldScore) (body : BodyStageState) (xs : List HeadEvent) → Ends (concat_of (outputs_left limits part s body xs))
-  left_ends score_part.Heads s body xs = score_ends xs
-  left_ends score_part.Body s body xs = body_ends s (running_events_left body (characters_in xs)) xs
-  left_ends score_part.Over s body xs = silent _ (joined_silence xs)
+  left_ends part s body xs = grind (arith, score_ends, body_ends, silent, joined_silence)
 
 pub machine_ends : (m : ScoreMachine) (xs : List HeadEvent) → Ends (concat_of (left_of (shown m) xs))
 machine_ends m xs = left_ends m.limits m.part (record { next = m.next; gathered = m.pair.gathered; has_lent = m.has_lent }) m.body xs
@@ -76,9 +72,7 @@ last_event l [] later (p ∷ before) rest e h k t = absurd (cc)
 last_event l (Found f ∷ outputs) later [] rest e h k t = absurd (cc)
 last_event l (Syllable s ∷ outputs) later [] rest e h k t = absurd (cc)
 last_event l (Syllable s ∷ outputs) later (p ∷ before) rest e h k t = let r : events_borrowed Second outputs ≡ before ++ e ∷ rest = cc in last_event Second outputs later before rest e h.1 r t
-last_event l (Stop fault ∷ outputs) later [] rest e h k t =
-    let n = both_empty outputs later (h.0 refl) in let r : events_borrowed l outputs ≡ rest = cc in (sym r ∙ ap (events_borrowed l) n.0, n.1)
-last_event l (End ∷ outputs) later [] rest e h k t =
+last_event l (_ ∷ outputs) later [] rest e h k t =
     let n = both_empty outputs later (h.0 refl) in let r : events_borrowed l outputs ≡ rest = cc in (sym r ∙ ap (events_borrowed l) n.0, n.1)
 last_event l (_ ∷ outputs) later (p ∷ before) rest e h k t = let r : events_borrowed l outputs ≡ before ++ e ∷ rest = cc in last_event l outputs later before rest e h.1 r t
 

@@ -1,6 +1,6 @@
 -- What is emitted after the headers says what the body says.
-use Rattle.std.proofs.Common.{◌≡◌, ℕ, ◌+◌, Bool, true, false, cond, List, [], ◌∷◌, ◌++◌, map, length, Option, Some, None, refl, sym, ap, ◌∙◌, arith, append_assoc, append-nil}
-use Rattle.gabc_places.specs.StageLaw.{concat_of, silence}
+use Rattle.std.proofs.Common.{◌≡◌, ℕ, ◌+◌, Bool, true, false, cond, List, [], ◌∷◌, ◌++◌, map, length, Option, Some, None, refl, ap, ◌∙◌, arith, append_assoc, append-nil}
+use Rattle.gabc_places.specs.StageLaw.{concat_of}
 use Rattle.gabc_places.proofs.PushesAreOne.{joined_silence}
 use Rattle.gabc_places.specs.Place.{next_place}
 use Rattle.gabc_places.specs.declared.code.Code.{Code}
@@ -17,7 +17,7 @@ use Rattle.gabc_score.specs.declared.ending.InputEnding.{InputEnding}
 use Rattle.gabc_score.specs.declared.ending.InputEnding.TheVariants.{Whole, Broken, At}
 use Rattle.gabc_score.specs.Syllable.{UnplacedSyllable, PlacedSyllable, all_syllables}
 use Rattle.gabc_score.specs.Canonical.{with_positions}
-use Rattle.gabc_score.specs.Body.{events_onto, code_at, fault_at, EventsToStop, stopped_events, events_to_stop, findings_of, found_at_end, fault_of_end, cut_of, has_last, last_syllable, all_units, result_stopped, result_by_fault, result_by}
+use Rattle.gabc_score.specs.Body.{events_onto, code_at, EventsToStop, stopped_events, events_to_stop, findings_of, found_at_end, fault_of_end, cut_of, has_last, last_syllable, all_units, result_stopped, result_by_fault, result_by}
 use Rattle.gabc_score.specs.ScoreEvents.{ScoreOutput, Stop, End, not_given, given_now, count_made, findings_now, outputs_of, outputs_at, held_output, outputs_at_stop, outputs_at_end, outputs_by, body_outputs, ending_events, is_whole}
 use Rattle.gabc_score.proofs.building.EventsOfOnePoint.{found_on, made_after}
 use Rattle.gabc_score.proofs.score_events.GivenSyllables.{given_then}
@@ -38,27 +38,27 @@ end_place at (x ∷ xs) = end_place (next_place x.place x.c) xs
 
 -- a run that stops is not whole
 pub no_end : (ending : InputEnding) (fault : Fault) → is_whole ending (Some fault) ≡ false
-no_end Whole fault = refl
-no_end _ fault = refl
+no_end ending fault = grind arith
 
 module _ (limits : Limits) (head : ℕ) (found : List Finding) where
   -- ---- the stop
 
-  said_stop : (before : List BodyEvent) (fault : Fault) (silent : List ScoreOutput) → silent ≡ []
-      → said_by (outputs_at_stop before fault ++ silent) ≡ record { findings = []; syllables = not_given (count_made before) (all_syllables before); fault = Some fault; ended = false }
-  said_stop before fault silent e = ap (λ outputs. said_by (outputs_at_stop before fault ++ outputs)) e ∙ ap said_by (append-nil (outputs_at_stop before fault)) ∙ said_of [] (not_given (count_made before) (all_syllables before)) (Stop fault ∷ []) ∙ ap (λ ss. record { findings = []; syllables = ss; fault = Some fault; ended = false }) (append-nil (not_given (count_made before) (all_syllables before)))
+  -- what is held is given, and nothing is found
+  held_says : (ending : InputEnding) (before : List BodyEvent) (fault : Option Fault) (tail : List ScoreOutput)
+      → said_by tail ≡ record { findings = []; syllables = []; fault = fault; ended = is_whole ending fault }
+      → Says (found ++ findings_of before) (all_syllables before) ending (held_output before ++ tail) (result_stopped found before fault)
+  held_says ending before fault tail e = record {
+    later = [];
+    syllables = simp append-nil;
+    findings = [];
+    all_findings = simp append-nil;
+    result_is = said_of [] (not_given (count_made before) (all_syllables before)) tail ∙ ap (said_before [] (not_given (count_made before) (all_syllables before))) e ∙ simp append-nil;
+  }
 
   stop_says : (ending : InputEnding) (before : List BodyEvent) (fault : Fault) (silent : List ScoreOutput) → silent ≡ []
       → Says (found ++ findings_of before) (all_syllables before) ending (outputs_at_stop before fault ++ silent) (result_stopped found before (Some fault))
-  stop_says ending before fault silent e = record {
-    later = [];
-    syllables = ap with_positions (sym (append-nil (all_syllables before)));
-    findings = [];
-    all_findings = sym (append-nil (found ++ findings_of before));
-    result_is = said_stop before fault silent e
-        ∙ ap (λ ms. record { findings = []; syllables = not_given (count_made before) ms; fault = Some fault; ended = false }) (sym (append-nil (all_syllables before)))
-        ∙ ap (λ b. record { findings = []; syllables = not_given (count_made before) (all_syllables before ++ []); fault = Some fault; ended = b }) (sym (no_end ending fault));
-  }
+  stop_says ending before fault silent e =
+      rw append_assoc (held_says ending before (Some fault) (Stop fault ∷ silent) (rw (e, no_end ending fault) refl))
 
   -- ---- how the body ends
 
@@ -76,15 +76,9 @@ module _ (limits : Limits) (head : ℕ) (found : List Finding) where
         later = later;
         syllables = ap with_positions u;
         findings = findings_now now ++ last;
-        all_findings =
-            sym (append_assoc found (findings_of (events_onto now before)) last)
-            ∙ ap (λ fs. (found ++ fs) ++ last) (found_on before now)
-            ∙ ap (λ fs. fs ++ last) (sym (append_assoc found (findings_of before) (findings_now now)))
-            ∙ append_assoc (found ++ findings_of before) (findings_now now) last;
+        all_findings = simp (found_on before now, append_assoc);
         result_is = ap said_by (append-nil (outputs_of (findings_now now ++ last) lent ++ End ∷ []))
-            ∙ said_of (findings_now now ++ last) lent (End ∷ [])
-            ∙ ap (λ fs. record { findings = fs; syllables = lent ++ []; fault = None; ended = true }) (append-nil (findings_now now ++ last))
-            ∙ ap (λ ss. record { findings = findings_now now ++ last; syllables = ss; fault = None; ended = true }) (append-nil lent ∙ ap (not_given (count_made before)) u);
+            ∙ said_of (findings_now now ++ last) lent (End ∷ []) ∙ simp (append-nil, u);
       }
 
   end_says : (at : Place) (before now : List BodyEvent) (fault : Option Fault)
@@ -94,17 +88,6 @@ module _ (limits : Limits) (head : ℕ) (found : List Finding) where
       let m = made_after now before in
       let u = units_more before (events_onto now before) m.0 m.1 (has_last (events_onto now before)) in
       whole_says at before now (found_at_end at (events_onto now before)) u.0 (all_units (events_onto now before)) u.1
-
-  broken_says : (before : List BodyEvent) → Says (found ++ findings_of before) (all_syllables before) Broken (held_output before ++ []) (result_stopped found before None)
-  broken_says before = record {
-    later = [];
-    syllables = ap with_positions (sym (append-nil (all_syllables before)));
-    findings = [];
-    all_findings = sym (append-nil (found ++ findings_of before));
-    result_is = said_of [] (not_given (count_made before) (all_syllables before)) []
-        ∙ ap (λ ss. record { findings = []; syllables = ss; fault = None; ended = false }) (append-nil (not_given (count_made before) (all_syllables before)))
-        ∙ ap (λ ms. record { findings = []; syllables = not_given (count_made before) ms; fault = None; ended = false }) (sym (append-nil (all_syllables before)));
-  }
 
   -- ---- a character
 
@@ -118,10 +101,7 @@ module _ (limits : Limits) (head : ℕ) (found : List Finding) where
         later = m.0 ++ s.later;
         syllables = s.syllables ∙ ap with_positions (ap (λ (ms : List UnplacedSyllable). ms ++ s.later) m.1 ∙ append_assoc (all_syllables before) m.0 s.later);
         findings = findings_now now ++ s.findings;
-        all_findings = s.all_findings
-            ∙ ap (λ fs. (found ++ fs) ++ s.findings) (found_on before now)
-            ∙ ap (λ fs. fs ++ s.findings) (sym (append_assoc found (findings_of before) (findings_now now)))
-            ∙ append_assoc (found ++ findings_of before) (findings_now now) s.findings;
+        all_findings = s.all_findings ∙ simp (found_on before now, append_assoc);
         result_is = said_of (findings_now now) (given_now (count_made before) all) outputs
             ∙ ap (said_before (findings_now now) (given_now (count_made before) all)) s.result_is
             ∙ ap (λ ss. record { findings = findings_now now ++ s.findings; syllables = ss; fault = w.fault; ended = is_whole ending w.fault })
@@ -140,7 +120,7 @@ module _ (limits : Limits) (head : ℕ) (found : List Finding) where
   ends_says : (ending : InputEnding) (at : Place) (before : List BodyEvent) (lists : List (List BodyEvent)) → SaysBody ending at before [] lists
   ends_says Whole at before lists =
       end_says at before (concat_of lists) (fault_of_end limits head at (events_onto (concat_of lists) before) (cut_of (events_onto (concat_of lists) before)))
-  ends_says Broken at before lists = broken_says before
+  ends_says Broken at before lists = held_says Broken before None [] refl
   ends_says (At fault) at before lists = stop_says (At fault) before fault [] refl
 
   -- the characters to come, and how they cease
@@ -152,9 +132,7 @@ module _ (limits : Limits) (head : ℕ) (found : List Finding) where
       → Says (found ++ findings_of before) (all_syllables before) ending
       (concat_of (outputs_by code x before now (to_come ending xs) (body_outputs limits head (next_place x.place x.c) (events_onto now before) lists (to_come ending xs))))
       (result_from ending (end_place (next_place x.place x.c) xs) (stopped_events code x.place before (events_to_stop limits head (events_onto now before) xs lists)))
-  by_code ending x before now xs lists later (Some code) = stop_says ending before (fault_at x.place code) (concat_of (silence (to_come ending xs))) (joined_silence (to_come ending xs))
-  by_code ending x before now xs lists later None =
-      says_on ending before now (concat_of (body_outputs limits head (next_place x.place x.c) (events_onto now before) lists (to_come ending xs))) _ later
+  by_code ending x before now xs lists later code = grind (arith, stop_says, joined_silence, says_on)
 
   pub body_says : (ending : InputEnding) (at : Place) (before : List BodyEvent) (xs : List Char) (lists : List (List BodyEvent))
       → length lists ≡ length xs + 1 → SaysBody ending at before xs lists

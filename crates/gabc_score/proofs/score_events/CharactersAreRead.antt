@@ -4,7 +4,6 @@ use Rattle.std.specs.List.{All}
 use Rattle.std.proofs.lemmas.List.Elements.{All-drop, All-take}
 use Rattle.gabc_places.specs.BoundedList.{BoundedList}
 use Rattle.gabc_places.specs.Place.{saturating_next_place}
-use Rattle.gabc_places.specs.StageLaw.{silence}
 use Rattle.gabc_places.specs.PlacesInOrder.{IsEarlier}
 use Rattle.gabc_places.specs.declared.code.Code.{Code}
 use Rattle.gabc_places.specs.declared.code.Finding.{Finding}
@@ -37,7 +36,7 @@ use Rattle.gabc_score.specs.machine.PartOnly.{HoldsTexts, kept_codes}
 use Rattle.gabc_score.specs.machine.Preceded.{IsPreceded, past_point}
 use Rattle.gabc_score.specs.machine.ReadsChar.{Gathers, Passes, ReadsChar, StopsWith, found_past, past_char, stops, goes}
 use Rattle.gabc_score.specs.machine.ScoreMachine.{IsInBody, IsScore, IsScoreAt, IsShort, held_score, shown}
-use Rattle.gabc_score.specs.machine.ScoreStage.{body_left, left_by, outputs_left, placed_after, with_held}
+use Rattle.gabc_score.specs.machine.ScoreStage.{body_left, left_by, placed_after, with_held}
 use Rattle.gabc_score.specs.machine.SlotPair.{SlotPairState, is_made}
 use Rattle.gabc_score.proofs.building.CountsOfParts.{counts_go_on}
 use Rattle.gabc_score.proofs.building.EventsOfSnippets.{few_events, stage_emits}
@@ -48,11 +47,11 @@ use Rattle.gabc_score.proofs.building.PartsOpenOn.{opens_on}
 use Rattle.gabc_score.proofs.building.PartsStandOn.{stands_on}
 use Rattle.gabc_score.proofs.building.SyllableEndsLast.{closes_last}
 use Rattle.gabc_score.proofs.score_events.CountsGoOn.{counts_past, none_past}
-use Rattle.gabc_score.proofs.score_events.EventsStayWithinBounds.{code_turned, few_found, within}
-use Rattle.gabc_score.proofs.score_events.FewAndShortAreLent.{short_now, held_lends, lends_these, not_over, one_at_most, placed_within}
+use Rattle.gabc_score.proofs.score_events.EventsStayWithinBounds.{code_turned, few_found, is_within}
+use Rattle.gabc_score.proofs.score_events.FewAndShortAreLent.{held_lends, lends_these, one_at_most, placed_within}
 use Rattle.gabc_score.proofs.score_events.FrontIsFirst.{front_past, leaves_front}
 use Rattle.gabc_score.proofs.score_events.GivesOutside.{gives_outside}
-use Rattle.gabc_score.proofs.score_events.HeldWithinLimits.{within_past}
+use Rattle.gabc_score.proofs.score_events.HeldWithinLimits.{within_now, within_past}
 use Rattle.gabc_score.proofs.score_events.MemoryIsKept.{limit_past, room_past}
 use Rattle.gabc_score.proofs.score_events.OpenersInOrder.{opens_in_order, place_after_input}
 use Rattle.gabc_score.proofs.score_events.PartsFollow.{leads_out, stays_inside}
@@ -76,9 +75,7 @@ module _ {m : ScoreMachine} {x : Char} {b : BodyStageState} {p : SlotPairState} 
 
   pub found_is : findings_now b.events ++ found_first m.pair.gathered.first_kind (with_all m.pair.gathered b.events).first_kind x.place ≡ (found_past m x p f).items
   found_is =
-      ap (λ (k : Gathered). findings_now b.events ++ found_first m.pair.gathered.first_kind k.first_kind x.place) (sym a.gathered)
-      ∙ ap (λ (es : List Finding). (es ++ findings_now b.events) ++ found_first m.pair.gathered.first_kind p.gathered.first_kind x.place) (sym h.rests.none)
-      ∙ ap (λ (k : BoundedList Finding). k.items ++ found_first m.pair.gathered.first_kind p.gathered.first_kind x.place) (sym a.found)
+      rw (← a.gathered, a.found, h.rests.none) refl
 
 -- past a point a syllable has become whole or not, and the one held before was given or not
 pub record HasTurned (p : SlotPairState) (whole gave : Bool) (q : SlotPairState) : Type 0 where
@@ -104,9 +101,7 @@ module _ {m : ScoreMachine} {x : Char} {b : BodyStageState} {p : SlotPairState} 
   later xs k = body_left m.limits (record { next = saturating_next_place x.place x.c; gathered = with_held k; has_lent = m.has_lent || nat_lt 1 (length k.made) }) (running_events_left b (characters_in xs)) xs
 
   left_is : (xs : List HeadEvent) → left_of (shown m) (head_event.Body x ∷ xs) ≡ left_by (code_in m.limits (with_all was now)) (held_score m) x now xs (later xs (with_all was now))
-  left_is xs =
-      ap (λ (k : ScorePart). outputs_left m.limits k (held_score m) m.body (head_event.Body x ∷ xs)) body
-      ∙ ap (λ (lists : List (List BodyEvent)). body_left m.limits (held_score m) lists (head_event.Body x ∷ xs)) (emits (characters_in xs))
+  left_is xs = grind (arith, emits)
 
   -- ---- a limit is passed
 
@@ -121,10 +116,7 @@ module _ {m : ScoreMachine} {x : Char} {b : BodyStageState} {p : SlotPairState} 
           part = leads_out m.part n.part (head_event.Body x) given (Stop fault) body s.part refl;
           last = λ other final. absurd (cc final);
           passes = λ other. tt;
-          law = λ xs. left_is xs
-              ∙ ap (λ code. left_by code (held_score m) x now xs (later xs (with_all was now))) (sym (ap (code_in m.limits) a.gathered) ∙ some)
-              ∙ ap (λ (ms : List UnplacedSyllable). (outputs_of [] (placed_after m.has_lent ms) ++ Stop fault ∷ []) ∷ silence xs) (sym a.held)
-              ∙ ap (λ (k : ScorePart). (given ++ Stop fault ∷ []) ∷ outputs_left n.limits k (held_score n) n.body xs) (sym s.part);
+          law = λ xs. left_is xs ∙ rw (← a.gathered, some, ← a.held, s.part) refl;
           emitted = s.emitted;
         })
 
@@ -144,7 +136,7 @@ module _ {m : ScoreMachine} {x : Char} {b : BodyStageState} {p : SlotPairState} 
     bounds = past_point whole gave m.bounds q.gathered
 
     turns : Turns m.bounds g m.has_lent whole gave
-    turns = turned m.bounds was was g now p.held was.made m.has_lent whole gave refl a.one a.gathered a.held refl h.preceded h.after (closes_last a.steps.0 a.steps.1) u.whole_is u.gave_is
+    turns = rw a.gathered (turned m.bounds was now h.preceded h.after (closes_last a.steps.0 a.steps.1) a.one m.has_lent whole gave (rw (a.held, a.gathered) at u.whole_is) (rw a.gathered at u.gave_is))
 
     passed : bounds ≡ past_point whole gave m.bounds g
     passed = ap (past_point whole gave m.bounds) u.gathered
@@ -156,7 +148,7 @@ module _ {m : ScoreMachine} {x : Char} {b : BodyStageState} {p : SlotPairState} 
     none = sym (ap (code_in m.limits) a.gathered) ∙ none_now
 
     short : All (IsShort m.limits.syllable) g.made
-    short = subst (λ (k : Gathered). All (IsShort m.limits.syllable) k.made) (sym a.gathered) (short_now m.limits was now h.rests.limit h.rests.over h.rests.short none)
+    short = rw a.gathered (within_now m.limits m.bounds.before was now h.rests.limit h.rests.over h.preceded.follows h.within.written h.rests.short none).1
 
     lines : b.nabc_lines ≡ m.body.nabc_lines
     lines = ap (λ (k : BodyStageState). k.nabc_lines) a.body
@@ -168,7 +160,7 @@ module _ {m : ScoreMachine} {x : Char} {b : BodyStageState} {p : SlotPairState} 
     preceded = subst (IsPreceded bounds.before) (sym u.gathered) (subst (λ (k : Bounds). IsPreceded k.before (with_held g)) (sym passed) turns.preceded)
 
     held_within : HoldsWithin m.limits bounds.before q.gathered
-    held_within = within_past m.limits m.bounds.before bounds.before m.has_lent was g q.gathered now h.rests.limit h.rests.over h.preceded.follows h.within a.gathered none before_is u.gathered
+    held_within = within_past m.limits m.bounds.before bounds.before m.has_lent was g q.gathered now h.rests.limit h.rests.over h.preceded.follows h.within h.rests.short a.gathered none before_is u.gathered
 
     -- the kept text is short enough to be counted
     counted : length was.builder.kept < 2 ^ 64
@@ -181,11 +173,11 @@ module _ {m : ScoreMachine} {x : Char} {b : BodyStageState} {p : SlotPairState} 
         room = room;
         limit = ap (λ (k : Gathered). k.limit) u.gathered ∙ limit_gathered h a;
         used = u.used;
-        over = ap (λ (k : Gathered). k.over) u.gathered ∙ not_over m.limits g none_now;
+        over = ap (λ (k : Gathered). k.over) u.gathered ∙ (is_within m.limits g none_now).over;
         short = subst (λ (k : Gathered). All (IsShort m.limits.syllable) k.made) (sym u.gathered) (All-drop (IsShort m.limits.syllable) (length g.made - 1) g.made short);
       };
       counts = subst (λ (k : Gathered). CountsHold b.part k.builder) (sym (u.gathered ∙ ap with_held a.gathered)) ((counts_go_on a.steps.0 a.steps.1).counts was h.counts);
-      kept = rw (ap (λ (k : Gathered). k.builder.kept) u.gathered) (let kept = within m.limits g none_now in let limit = limit_gathered h a in omega (arith, kept, limit));
+      kept = rw (ap (λ (k : Gathered). k.builder.kept) u.gathered) (let kept = (is_within m.limits g none_now).kept in let limit = limit_gathered h a in omega (arith, kept, limit));
       preceded = preceded;
       after = ap (λ (k : Bounds). k.after) passed ∙ turns.after ∙ ap (λ (k : Bounds). with_each k.before (with_held g).made) (sym passed) ∙ ap (λ (k : Gathered). with_each bounds.before k.made) (sym u.gathered);
       lent = lent_past m.bounds.before bounds.before m.has_lent gave g.made h.lent before_is u.gave_is;
@@ -206,14 +198,7 @@ module _ {m : ScoreMachine} {x : Char} {b : BodyStageState} {p : SlotPairState} 
       fs = (found_past m x p f).items
 
       law : (xs : List HeadEvent) → left_of (shown m) (head_event.Body x ∷ xs) ≡ outputs_of fs lent ∷ left_of (shown n) xs
-      law xs =
-          left_is xs
-          ∙ ap (λ code. left_by code (held_score m) x now xs (later xs (with_all was now))) none
-          ∙ ap (λ (es : List Finding). outputs_of es (take (length (with_all was now).made - 1) (placed_after m.has_lent (with_all was now).made)) ∷ later xs (with_all was now)) (found_is h a)
-          ∙ ap (λ (k : Gathered). outputs_of fs (take (length k.made - 1) (placed_after m.has_lent k.made)) ∷ later xs k) (sym a.gathered)
-          ∙ ap (λ (k : Gathered). outputs_of fs lent ∷ body_left m.limits (record { next = n.next; gathered = k; has_lent = m.has_lent || nat_lt 1 (length g.made) }) (running_events_left b (characters_in xs)) xs) (sym u.gathered)
-          ∙ ap (λ (gave : Bool). outputs_of fs lent ∷ body_left m.limits (record { next = n.next; gathered = q.gathered; has_lent = m.has_lent || gave }) (running_events_left b (characters_in xs)) xs) (sym u.gave_is)
-          ∙ ap (λ (k : ScorePart). outputs_of fs lent ∷ outputs_left m.limits k (held_score n) b xs) (sym body)
+      law xs = grind (arith, left_is, none, found_is)
 
       texts : MayCome m.limits m.next (head_event.Body x) → IsReportOfText (shown m) → HoldsTexts q.gathered
       texts may t = subst HoldsTexts (sym u.gathered) (plain_held g (subst HoldsTexts (sym a.gathered)

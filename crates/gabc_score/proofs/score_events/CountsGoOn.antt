@@ -1,7 +1,5 @@
 -- The counts that a machine reports stay within the limits, past a point.
-use Rattle.std.proofs.Common.{◌≡◌, ◌⊎◌, inl, inr, ℕ, zero, suc, None, ◌-◌, ◌≤◌, ◌<◌, ◌^◌, Bool, true, false, List, [], ◌∷◌, take, drop, map, length, refl, sym, ap, subst, ◌∙◌, arith, length-append}
-use Rattle.std.proofs.lemmas.Bool.{true≢false}
-use Rattle.std.specs.List.{All}
+use Rattle.std.proofs.Common.{◌≡◌, ◌⊎◌, inl, inr, ℕ, None, ◌-◌, ◌≤◌, ◌<◌, ◌^◌, Bool, true, false, List, [], ◌∷◌, take, map, length, refl, sym, ap, subst, ◌∙◌, arith, length-append}
 use Rattle.std.proofs.lemmas.Bool.Decides.{nat_tests}
 use Rattle.std.proofs.lemmas.List.Elements.{All-nil}
 use Rattle.gabc_places.specs.declared.limits.Limits.{Limits}
@@ -19,8 +17,7 @@ use Rattle.gabc_score.specs.Body.{is_none}
 use Rattle.gabc_score.specs.Syllable.{UnplacedSyllable, PlacedSyllable}
 use Rattle.gabc_score.specs.ScoreEvents.{first_place}
 use Rattle.gabc_score.specs.ScoreStage.{MayCome}
-use Rattle.gabc_places.specs.TextOfAnInput.{IsText}
-use Rattle.gabc_score.specs.ReportedWithin.{IsPlace, AreCountsWithin, IsReportOfText}
+use Rattle.gabc_score.specs.ReportedWithin.{AreCountsWithin, IsReportOfText}
 use Rattle.gabc_score.specs.witness.BodyStage.{BodyStageState}
 use Rattle.gabc_score.specs.witness.ScoreStage.{ScoreStageState}
 use Rattle.gabc_score.proofs.score_events.TextsArePlain.{nothing_plain}
@@ -31,6 +28,7 @@ use Rattle.gabc_score.specs.machine.PartPushes.{ClosesLast}
 use Rattle.gabc_score.specs.machine.Preceded.{IsPreceded, after_headers}
 use Rattle.gabc_score.specs.machine.ScoreStage.{placed_after, with_held}
 use Rattle.gabc_score.proofs.score_events.WhatPrecedes.{Closed, same_or_closed}
+use Rattle.gabc_score.proofs.score_events.EventsStayWithinBounds.{last_stays}
 
 pub more : (least : ℕ) (p : Preceding) (ms : List UnplacedSyllable) → least < 2 ^ 64 → least ≤ p.canonical → least ≤ (with_each p ms).canonical
 more least p [] small h = h
@@ -41,16 +39,11 @@ fits p [] h = h
 fits p (m ∷ ms) h = fits (with_one p m) ms (grind (arith, nat_tests))
 
 held_some : (g : Gathered) → is_none (with_held g).made ≡ true → g.made ≡ []
-held_some g e = by g.made e
+held_some g e = by g.made (sym (last_stays g.made) ∙ e)
   where
-    short : (n : ℕ) (m : UnplacedSyllable) (ms : List UnplacedSyllable) → n ≤ length ms → is_none (drop n (m ∷ ms)) ≡ false
-    short zero m ms h = refl
-    short (suc n) m [] h = absurd (omega (arith, h))
-    short (suc n) m (k ∷ ms) h = short n k ms (omega (arith, h))
-
-    by : (ms : List UnplacedSyllable) → is_none (drop (length ms - 1) ms) ≡ true → ms ≡ []
+    by : (ms : List UnplacedSyllable) → is_none ms ≡ true → ms ≡ []
     by [] e = refl
-    by (m ∷ ms) e = absurd (true≢false (sym e ∙ short (length (m ∷ ms) - 1) m ms (omega arith)))
+    by (m ∷ ms) e = absurd (cc)
 
 -- what stands before what is held is below the limit of the input, as what stands after it is
 pub counts_past : (limits : Limits) (lines macros : ℕ) (before after : Preceding) (has_lent : Bool) (h turned : Gathered) → after ≡ with_placed before (take (length h.made - 1) (placed_after has_lent h.made)) → turned ≡ with_held h
@@ -65,11 +58,8 @@ counts_past limits lines macros before after has_lent h turned there turns prece
     given : List UnplacedSyllable
     given = map (λ (s : PlacedSyllable). s.made) (take (length h.made - 1) (placed_after has_lent h.made))
 
-    most : limits.input ≤ 4294967295
-    most = limits.in_range.input_most
-
     small : after.canonical < 2 ^ 64
-    small = let under = c.below in subst (λ (p : Preceding). p.canonical < 2 ^ 64) (sym there) (fits before given (omega (arith, under, most)))
+    small = let under = c.below in let most = limits.in_range.input_most in rw there (fits before given (omega (arith, under, most)))
 
     by : (b : Bool) → is_none turned.made ≡ b → after.canonical < limits.input
     by false e =
@@ -85,11 +75,11 @@ counts_past limits lines macros before after has_lent h turned there turns prece
 pub none_past : (before after : Preceding) (has_lent : Bool) (g h turned : Gathered) (now : List BodyEvent) → ClosesLast now → after ≡ with_placed before (take (length h.made - 1) (placed_after has_lent h.made)) → turned ≡ with_held h
     → h ≡ with_all g now → (held_in_body score_part.Body g.made ≡ None → before.syllables ≡ 0) → held_in_body score_part.Body turned.made ≡ None → after.syllables ≡ 0
 none_past before after has_lent g h turned now last there turns is was none =
-    let here : h.made ≡ [] = held_some h (sym (ap (λ (k : Gathered). is_none k.made) turns) ∙ ap is_none (none_in turned.made none)) in
+    let here : h.made ≡ [] = held_some h (sym (ap (λ (k : Gathered). is_none k.made) turns) ∙ none_in turned.made none) in
     ap (λ (p : Preceding). p.syllables) (there ∙ ap (λ (ms : List UnplacedSyllable). with_placed before (take (length ms - 1) (placed_after has_lent ms))) here)
     ∙ was (ap (held_in_body score_part.Body) (old (same_or_closed g now last) (ap (λ (k : Gathered). k.made) (sym is) ∙ here)))
   where
-    none_in : (ms : List UnplacedSyllable) → held_in_body score_part.Body ms ≡ None → ms ≡ []
+    none_in : (ms : List UnplacedSyllable) → held_in_body score_part.Body ms ≡ None → is_none ms ≡ true
     none_in [] e = refl
     none_in (m ∷ ms) e = absurd (cc e)
 
@@ -101,12 +91,4 @@ none_past before after has_lent g h turned now last there turns is was none =
 pub begins_of_text : (limits : Limits) (next : Place) (input : HeadEvent) (lines macros canonical : ℕ) (body : BodyStageState) (bounds : Bounds) → input ≡ head_event.Heads lines macros canonical
     → body ≡ record { nabc_lines = lines; macros = macros; part = part.Comment; ended = false; events = [] } → bounds ≡ after_headers canonical → MayCome limits next input
     → (s : ScoreStageState) → s.limits ≡ limits → s.body ≡ body → s.before ≡ bounds.before → s.held.next ≡ first_place → s.held.gathered.builder.kept ≡ [] → s.held.gathered.made ≡ [] → IsReportOfText s
-begins_of_text limits next input lines macros canonical body bounds is at begun may s l b p n none empty =
-    let counts : AreCountsWithin limits lines macros canonical = subst (MayCome limits next) is may in
-    record {
-      counts = rw (l, b ∙ at, p ∙ ap (λ (k : Bounds). k.before) begun) counts;
-      next = subst IsPlace (sym n) (record { line = omega arith; column = omega arith; in_64_bits = omega arith });
-      reading = subst IsText (sym none) nothing_plain;
-      held = subst (All (λ (m : UnplacedSyllable). IsText m.kept)) (sym empty) (All-nil (λ (m : UnplacedSyllable). IsText m.kept));
-      openers = rw (b ∙ at) (record { notes = tt; inner = tt; in_order = tt });
-    }
+begins_of_text limits next input lines macros canonical body bounds is at begun may s l b p n none empty = grind (arith, nothing_plain, All-nil)

@@ -1,14 +1,13 @@
 -- What a score is given of a text is what a stage of headers gives of it.
-use Rattle.std.proofs.Common.{◌≡◌, ℕ, zero, suc, ◌+◌, Bool, true, false, List, [], ◌∷◌, ◌++◌, map, take, drop, Result, Ok, Err, refl, sym, ap, ◌∙◌, append_assoc, append-nil}
+use Rattle.std.proofs.Common.{◌≡◌, ℕ, zero, suc, ◌+◌, Bool, List, [], ◌∷◌, ◌++◌, map, take, drop, Result, Ok, Err, refl, sym, ap, ◌∙◌, append_assoc, append-nil, arith}
 use Rattle.gabc_places.specs.Place.{placed_characters_after}
 use Rattle.gabc_places.specs.declared.limits.Limits.{Limits}
-use Rattle.gabc_places.specs.declared.place.Char.{Char}
 use Rattle.gabc_headers.specs.declared.heads.Heads.{Heads}
 use Rattle.gabc_headers.specs.declared.heads.HeadFault.{HeadFault}
 use Rattle.gabc_headers.specs.declared.head_event.HeadEvent.TheVariants as head_event
 use Rattle.gabc_headers.specs.Heads.{heads_of, head_len}
 use Rattle.gabc_headers.specs.declared.head_event.HeadEvent.{HeadEvent}
-use Rattle.gabc_headers.specs.HeadEvents.{event_of_book, events_of_heads, events_of_broken, events_of_stopped, body_characters as characters_after}
+use Rattle.gabc_headers.specs.HeadEvents.{events_of_heads, events_of_broken, events_of_stopped, body_characters as characters_after}
 use Rattle.gabc_score.specs.declared.ending.InputEnding.{InputEnding}
 use Rattle.gabc_score.specs.declared.ending.InputEnding.TheVariants.{Whole, Broken, At}
 use Rattle.gabc_score.specs.Score.{head_fault_by}
@@ -33,26 +32,14 @@ module _ (t : List ℕ) where
   same_body = sym (placed_on (head_len t + 2) [] t)
 
   heads_given : (ending : InputEnding) (heads : Heads) → head_events_by ending t (Ok heads) ≡ given_of ending t (Ok heads)
-  heads_given Whole heads =
-      ap (λ (xs : List Char). map (λ f. head_event.Found f) heads.findings ++ event_of_book heads.book ∷ (map (λ x. head_event.Body x) xs ++ head_event.End ∷ [])) same_body
-  heads_given Broken heads =
-      ap (λ (xs : List HeadEvent). map (λ f. head_event.Found f) heads.findings ++ event_of_book heads.book ∷ xs)
-      (append-nil (map (λ x. head_event.Body x) (body_characters t)) ∙ ap (λ (xs : List Char). map (λ x. head_event.Body x) xs) same_body)
-  heads_given (At fault) heads =
-      ap (λ (xs : List Char). map (λ f. head_event.Found f) heads.findings ++ event_of_book heads.book ∷ (map (λ x. head_event.Body x) xs ++ head_event.Stop fault ∷ [])) same_body
+  heads_given ending heads = grind (arith, same_body, append-nil)
 
   stop_given : (ending : InputEnding) (stop : HeadFault) (at_end : Bool)
       → map (λ f. head_event.Found f) stop.findings ++ stop_events (head_fault_by ending at_end stop.fault) ≡ given_of ending t (Err (record stop { at_end = at_end }))
-  stop_given Whole stop true = refl
-  stop_given Whole stop false = refl
-  stop_given Broken stop true = refl
-  stop_given Broken stop false = refl
-  stop_given (At fault) stop true = refl
-  stop_given (At fault) stop false = refl
+  stop_given ending stop at_end = grind arith
 
   given_by : (ending : InputEnding) (r : Result Heads HeadFault) → head_events_by ending t r ≡ given_of ending t r
-  given_by ending (Ok heads) = heads_given ending heads
-  given_by ending (Err stop) = stop_given ending stop stop.at_end
+  given_by ending r = grind (arith, heads_given, stop_given)
 
 pub given_is : (limits : Limits) (ending : InputEnding) (t : List ℕ) → head_events limits ending t ≡ given_of ending t (heads_of limits t)
 given_is limits ending t = given_by t ending (heads_of limits t)

@@ -1,23 +1,19 @@
 -- In front of the first text no syllable is whole.
-use Rattle.std.proofs.Common.{◌≡◌, ℕ, ◌-◌, List, [], true, false, length, take, drop, refl, sym, ap, ◌∙◌}
+use Rattle.std.proofs.Common.{◌≡◌, ℕ, ◌-◌, List, true, false, length, take, refl, sym, ◌∙◌, arith}
 use Rattle.std.proofs.lemmas.Bool.{true≢false}
 use Rattle.gabc_places.specs.declared.place.Place.{Place}
 use Rattle.gabc_score.specs.declared.before.Preceding.{Preceding}
 use Rattle.gabc_score.specs.declared.body_stage.BodyPart.{BodyPart}
-use Rattle.gabc_score.specs.declared.body_stage.BodyPart.TheVariants as part
 use Rattle.gabc_score.specs.declared.events.BodyEvent.{BodyEvent}
 use Rattle.gabc_score.specs.declared.score_machine.ScoreMachine.{ScoreMachine}
-use Rattle.gabc_score.specs.declared.score_machine.ScorePart.{ScorePart}
 use Rattle.gabc_score.specs.declared.score_machine.ScorePart.TheVariants as score_part
 use Rattle.gabc_score.specs.Before.{with_placed}
-use Rattle.gabc_score.specs.ScoreReports.{IsInFront, held_in_body, is_in_comment, is_in_front, moved_part, reading_in_body}
-use Rattle.gabc_score.specs.Syllable.{UnplacedSyllable}
+use Rattle.gabc_score.specs.ScoreReports.{IsInFront, is_in_comment, is_in_front, moved_part}
 use Rattle.gabc_score.specs.machine.BodyBuilder.{with_all}
 use Rattle.gabc_score.specs.machine.Gatherer.{Gathered}
 use Rattle.gabc_score.specs.machine.PartFronts.{PartLeavesFront}
 use Rattle.gabc_score.specs.machine.ScoreMachine.{shown, IsInBody, NoneIsWhole}
 use Rattle.gabc_score.specs.machine.ScoreStage.{placed_after, with_held}
-use Rattle.gabc_score.specs.machine.SyllableBuilder.{OpenSyllable}
 use Rattle.gabc_score.proofs.resuming.BeginsAnywhere.{front_reads}
 use Rattle.gabc_places.specs.declared.place.Char.{Char}
 use Rattle.gabc_notes.specs.declared.stage.NoteEvent.{NoteEvent}
@@ -26,41 +22,25 @@ use Rattle.gabc_score.specs.machine.PartSteps as step
 
 -- a part in which no comment is open is not in front
 pub no_comment_no_front : {A : Type 0} (b : BodyPart) → is_in_comment b ≡ false → is_in_front b ≡ true → A
-no_comment_no_front part.Comment e front = absurd (true≢false e)
-no_comment_no_front _ e front = absurd (true≢false (sym front))
+no_comment_no_front b e front = grind arith
 
 -- where the next character stands does not count
 pub front_moved : (at : Place) (b : BodyPart) → is_in_front (moved_part at b) ≡ is_in_front b
-front_moved at part.Comment = refl
-front_moved at _ = refl
+front_moved at b = grind arith
 
 -- After a character the comment is still open only where nothing has come.
 pub front_past : (before after : BodyPart) (p later : Preceding) (has_lent : _) (g h turned : Gathered) (now : List BodyEvent) → PartLeavesFront before after now → (is_in_front before ≡ true → NoneIsWhole p g)
     → h ≡ with_all g now → later ≡ with_placed p (take (length h.made - 1) (placed_after has_lent h.made)) → turned ≡ with_held h → is_in_front after ≡ true → NoneIsWhole later turned
-front_past before after p later has_lent g h turned now leaves was is there turns front = record {
-  none_before = ap (λ (q : Preceding). q.syllables) (there ∙ ap (λ (ms : List UnplacedSyllable). with_placed p (take (length ms - 1) (placed_after has_lent ms))) none) ∙ (was (leaves front).0).none_before;
-  none_made = ap (λ (k : Gathered). k.made) turns ∙ ap (λ (ms : List UnplacedSyllable). drop (length ms - 1) ms) none;
-}
-  where
-    none : h.made ≡ []
-    none = ap (λ (k : Gathered). k.made) is ∙ ap (λ (es : List BodyEvent). (with_all g es).made) (leaves front).1 ∙ (was (leaves front).0).none_made
+front_past before after p later has_lent g h turned now leaves was is there turns front = grind arith
 
 -- a machine in front has read nothing
 pub stands_there : (m : ScoreMachine) → m.part ≡ score_part.Body → IsInBody m → is_in_front m.body.part ≡ true → IsInFront (shown m)
-stands_there m body h front =
-    let none = h.front front in
-    record {
-      front = front;
-      none_before = none.none_before;
-      none_held = ap (λ (p : ScorePart). held_in_body p m.pair.gathered.made) body ∙ ap (held_in_body score_part.Body) none.none_made;
-      nothing_read = ap (λ (p : ScorePart). reading_in_body p m.pair.gathered.builder.kept) body ∙ ap (λ (o : OpenSyllable). o.kept) (front_reads m.body.part m.pair.gathered.builder front h.counts);
-    }
+stands_there m body h front = grind (arith, front_reads)
 
 -- ---- a part takes a character
 
 snippet_front : {x : Char} {line : ℕ} {opened : Place} {before after : BodyPart} {es : List NoteEvent} → SnippetSteps x line opened before es after → is_in_front after ≡ false
-snippet_front (step.in_gabc h) = refl
-snippet_front (step.in_nabc h) = refl
+snippet_front h = grind arith
 
 pub leaves_front : {lines macros : ℕ} {x : Char} {before after : BodyPart} {now : List BodyEvent} → PartSteps lines macros x before now after → PartLeavesFront before after now
 leaves_front (step.in_front h) = λ front. (refl, refl)

@@ -1,5 +1,5 @@
 -- Where a stage does not stand in the body after an input, it gives what was to come by these facts alone.
-use Rattle.std.proofs.Common.{◌≡◌, ℕ, List, ◌∷◌, true}
+use Rattle.std.proofs.Common.{◌≡◌, ℕ, List, ◌∷◌, true, arith}
 use Rattle.std.specs.List.{list_any}
 use Rattle.gabc_places.specs.BoundedList.{BoundedList}
 use Rattle.gabc_headers.specs.declared.head_event.HeadEvent.{HeadEvent}
@@ -22,22 +22,4 @@ pub record GivesThere (before : ScoreStageState) (x : HeadEvent) (after : ScoreS
 
 pub gives_outside : {before after : ScoreStageState} {x : HeadEvent} {old new : BoundedList ScoreEvent} (outputs : List ScoreOutput) → (after.part ≡ score_part.Body → ⊥)
     → (before.part ≡ score_part.Heads → (lines macros canonical : ℕ) → x ≡ head_event.Heads lines macros canonical → ⊥) → GivesThere before x after old new outputs → GivesAt before x after old new
-gives_outside outputs outside other g = record {
-  outputs = outputs;
-  lends = g.lends;
-  limits = g.limits;
-  part = g.part;
-  last = g.last;
-  passes = g.passes;
-  line = λ lf body. absurd (outside body);
-  counts = λ place here was body. absurd (outside body);
-  before_held = λ body. absurd (outside body);
-  next = λ body. absurd (outside body);
-  stands = λ here was body. absurd (outside body);
-  whole = λ body. absurd (outside body);
-  told = λ may here was body. absurd (outside body);
-  holds = λ was body. absurd (outside body);
-  law = g.law;
-  emitted = g.emitted;
-  front = λ heads lines macros canonical is. absurd (other heads lines macros canonical is);
-}
+gives_outside outputs outside other g = grind arith

@@ -1,5 +1,5 @@
 -- What a stage of headers gives before the body may come of a text.
-use Rattle.std.proofs.Common.{◌≡◌, ℕ, ◌+◌, ◌<◌, ◌≤◌, Bool, true, false, List, [], ◌∷◌, ◌++◌, map, Result, Ok, Err, refl, arith, if◌then◌else◌}
+use Rattle.std.proofs.Common.{◌≡◌, ℕ, ◌+◌, ◌<◌, ◌≤◌, List, [], ◌∷◌, ◌++◌, map, Result, Ok, Err, refl, arith}
 use Rattle.std.specs.List.{All}
 use Rattle.std.proofs.lemmas.List.Elements.{All-nil, All-cons, All-append}
 use Rattle.gabc_places.specs.declared.code.Finding.{Finding}
@@ -16,6 +16,7 @@ use Rattle.gabc_headers.specs.Heads.{heads_of}
 use Rattle.gabc_headers.specs.Lines.{bytes_len}
 use Rattle.gabc_headers.specs.witness.HeadEvents.{events_by, events_of_input, new_findings, reading}
 use Rattle.gabc_score.specs.ScoreStage.{MayCome}
+use Rattle.std.proofs.lemmas.Bool.{cond_both}
 
 module _ (limits : Limits) (next : Place) where
   found_may_come : (fs : List Finding) → All (MayCome limits next) (map (λ f. Found f) fs)
@@ -30,12 +31,9 @@ module _ (limits : Limits) (next : Place) where
         found : List Finding
         found = new_findings limits t (t ++ x.c ∷ [])
 
-        stopped_by : (b : Bool) (stopped : HeadFault) → All (MayCome limits next) (if b then map (λ f. Found f) found else Stop stopped.fault ∷ [])
-        stopped_by true stopped = found_may_come found
-        stopped_by false stopped = All-cons (MayCome limits next) (Stop stopped.fault) [] tt (All-nil (MayCome limits next))
-
         by : (r : Result Heads HeadFault) → heads_of limits (t ++ x.c ∷ []) ≡ r → All (MayCome limits next) (events_by found r)
-        by (Err stopped) e = stopped_by stopped.at_end stopped
+        by (Err stopped) e =
+            cond_both stopped.at_end _ _ (All (MayCome limits next)) (λ e. found_may_come found) (λ e. All-cons (MayCome limits next) (Stop stopped.fault) [] tt (All-nil (MayCome limits next)))
         by (Ok heads) e =
             let size = (within limits (t ++ x.c ∷ []) heads e).1 in
             All-append (MayCome limits next) (map (λ f. Found f) found) (event_of_book heads.book ∷ []) (found_may_come found)

@@ -1,5 +1,5 @@
 -- What a stage emits that holds one whole syllable is what the definition says.
-use Rattle.std.proofs.Common.{Bool, true, false, cond, if◌then◌else◌, ◌==◌, ◌≡◌, ℕ, ◌+◌, ◌-◌, ◌<◌, ◌≤◌, ◌^◌, ◌||◌, min, nat_lt, List, [], ◌∷◌, ◌++◌, length, take, drop, Option, Some, None, option_map, refl, sym, ap, subst, ◌∙◌, arith, length-append, length-drop}
+use Rattle.std.proofs.Common.{◌≡◌, ℕ, ◌+◌, ◌-◌, ◌<◌, ◌≤◌, ◌^◌, nat_lt, List, [], ◌∷◌, ◌++◌, length, Option, Some, None, option_map, refl, ap, subst, ◌∙◌, arith, length-append, length-drop}
 use Rattle.gabc_places.specs.StageLaw.{concat_of, silence}
 use Rattle.gabc_places.specs.Place.{next_place, saturating_next_place}
 use Rattle.gabc_text.specs.TextStage.{count_plus}
@@ -11,17 +11,16 @@ use Rattle.gabc_places.specs.declared.place.Char.{Char}
 use Rattle.gabc_places.specs.declared.place.Place.{Place}
 use Rattle.gabc_headers.specs.declared.head_event.HeadEvent.{HeadEvent}
 use Rattle.gabc_headers.specs.declared.head_event.HeadEvent.TheVariants as head_event
-use Rattle.gabc_text.specs.TextView.{ViewContent}
 use Rattle.gabc_score.specs.declared.events.BodyEvent.{BodyEvent}
 use Rattle.gabc_score.specs.witness.BodyStage.{texts_by_stage}
 use Rattle.gabc_score.specs.Events.{InComment, events_from}
-use Rattle.gabc_score.specs.Body.{events_onto, code_at, fault_at, has_text, has_last, all_units, cut_of, fault_of_end, found_at_end}
-use Rattle.gabc_score.specs.NoteBeforeClef.{first_of, found_first, with_first, with_first_each}
-use Rattle.gabc_score.specs.ScoreEvents.{ScoreOutput, Found, Stop, End, findings_now, given_now, count_made, outputs_of, outputs_at, held_output, outputs_at_stop, outputs_at_end, outputs_by, body_outputs, characters_in, first_place, score_outputs}
-use Rattle.gabc_score.specs.Syllable.{UnplacedSyllable, all_syllables}
-use Rattle.gabc_score.specs.machine.BodyBuilder.{with_all, code_in, end_fault_by, end_fault, end_findings}
+use Rattle.gabc_score.specs.Body.{events_onto, code_at, fault_at, has_last, all_units, cut_of, fault_of_end}
+use Rattle.gabc_score.specs.NoteBeforeClef.{with_first, with_first_each}
+use Rattle.gabc_score.specs.ScoreEvents.{ScoreOutput, Found, Stop, count_made, outputs_of, outputs_at, held_output, outputs_at_stop, outputs_at_end, outputs_by, body_outputs, characters_in, first_place, score_outputs}
+use Rattle.gabc_score.specs.Syllable.{all_syllables}
+use Rattle.gabc_score.specs.machine.BodyBuilder.{with_all, code_in, end_fault_by, end_fault}
 use Rattle.gabc_score.specs.machine.Gatherer.{Gathered, with_last}
-use Rattle.gabc_score.specs.machine.ScoreStage.{HeldScore, placed_after, held_outputs, stop_outputs, point_outputs, with_held, score_past, end_outputs_by, end_outputs, left_by, body_left, begun_score, score_left}
+use Rattle.gabc_score.specs.machine.ScoreStage.{HeldScore, held_outputs, stop_outputs, point_outputs, score_past, end_outputs_by, end_outputs, left_by, body_left, begun_score, score_left}
 use Rattle.gabc_score.proofs.building.BuilderHoldsDefinition.{gathered}
 use Rattle.gabc_score.proofs.building.EventsOfOnePoint.{gathered_all, code_is, made_after}
 use Rattle.gabc_score.proofs.building.EndOfBody.{made_by_last, open_by_last, fault_is}
@@ -46,9 +45,7 @@ module _ (limits : Limits) (head : ℕ) (small : limits.syllable < 2 ^ 64 - 1) (
 
   -- it holds the same where the same was gathered
   holding_as : (at : Place) (one other : List BodyEvent) → SaysSame one other → holding at one ≡ holding at other
-  holding_as at one other e =
-      let same = same_gathered limits.syllable head one other e in
-      ap (λ (g : Gathered). record { next = at; gathered = without (length g.made - 1) g; has_lent = nat_lt 1 (length g.made) }) same
+  holding_as at one other e = grind (arith, same_gathered)
 
   module _ (before now : List BodyEvent) where
     abbrev all : List BodyEvent
@@ -64,37 +61,18 @@ module _ (limits : Limits) (head : ℕ) (small : limits.syllable < 2 ^ 64 - 1) (
     now_is = all_without k (gathered limits.syllable head before) now (but_last_goes (gathered limits.syllable head before)) ∙ ap (without k) (gathered_all limits.syllable head before small now)
 
     code_here : (at : Place) (x : Char) → code_in limits (with_all (holding at before).gathered now) ≡ code_at limits head (events_onto (with_first before x now) before)
-    code_here at x =
-        ap (code_in limits) now_is ∙ code_without limits k (gathered limits.syllable head all) goes ∙ code_is limits head all low
-        ∙ sym (same_code limits head (events_onto (with_first before x now) before) all (says_with_first before now x))
+    code_here at x = grind (arith, now_is, code_without, goes, code_is, same_code, says_with_first)
 
     -- the syllables that are made and what came first are the same with what is found beside what the body emits
     point_is : (at : Place) (x : Char) → point_outputs (holding at before) x now ≡ outputs_at before (with_first before x now)
     point_is at x =
-        let fs = findings_now now ++ found_first (first_of before) (first_of all) x.place in
-        ap (λ (g : Gathered). outputs_of (findings_now now ++ found_first (first_of before) g.first_kind x.place) (take (length g.made - 1) (placed_after (nat_lt 1 (count_made before)) g.made))) now_is
-        ∙ ap (outputs_of fs) (placed_now (count_made before) (count_made all) (all_syllables all) refl (made_grows before now))
-        ∙ ap (λ gs. outputs_of gs (given_now (count_made before) (all_syllables all))) (sym (findings_with_first before now x))
-        ∙ ap (λ (g : Gathered). outputs_of (findings_now (with_first before x now)) (given_now (count_made before) g.made)) (sym (says_with_first before now x))
+        rw (now_is, placed_now (count_made before) (count_made all) (all_syllables all) refl (made_grows before now), findings_with_first before now x, ap (λ (g : Gathered). g.made) (says_with_first before now x)) refl
 
     past_is : (at : Place) (x : Char) → score_past (holding at before) x now ≡ holding (saturating_next_place x.place x.c) (events_onto (with_first before x now) before)
-    past_is at x =
-        ap (λ (g : Gathered). record { next = saturating_next_place x.place x.c; gathered = with_held g; has_lent = nat_lt 1 (count_made before) || nat_lt 1 (length g.made) }) now_is
-        ∙ ap (λ (ms : List UnplacedSyllable). record {
-          next = saturating_next_place x.place x.c;
-          gathered = record (gathered limits.syllable head all) { made = ms };
-          has_lent = nat_lt 1 (count_made before) || nat_lt 1 (length (drop k (all_syllables all)));
-        })
-        (held_then (count_made before) (count_made all) (all_syllables all) refl (made_grows before now))
-        ∙ ap (λ b. record { next = saturating_next_place x.place x.c; gathered = without (count_made all - 1) (gathered limits.syllable head all); has_lent = b })
-        (given_then_is (count_made before) (count_made all) (length (drop k (all_syllables all))) (length-drop k (all_syllables all)) (made_grows before now))
-        ∙ sym (holding_as (saturating_next_place x.place x.c) (events_onto (with_first before x now) before) all (says_with_first before now x))
-
-    abbrev last_of : Gathered → Gathered
-    last_of g = with_last g
+    past_is at x = grind (arith, now_is, held_then, made_grows, given_then_is, length-drop, holding_as, says_with_first)
 
     last_is : with_last (with_all (without k (gathered limits.syllable head before)) now) ≡ without k (with_last (gathered limits.syllable head all))
-    last_is = ap last_of now_is ∙ last_without k (gathered limits.syllable head all) goes
+    last_is = ap (λ (g : Gathered). with_last g) now_is ∙ last_without k (gathered limits.syllable head all) goes
 
     end_fault_is : (at : Place) → end_fault limits at (with_last (with_all (holding at before).gathered now)) ≡ fault_of_end limits head at all (cut_of all)
     end_fault_is at =
@@ -112,17 +90,10 @@ module _ (limits : Limits) (head : ℕ) (small : limits.syllable < 2 ^ 64 - 1) (
     stop_is : (at : Place) (fault : Fault) → stop_outputs (holding at before) fault ≡ outputs_at_stop before fault
     stop_is at fault = ap (λ outputs. outputs ++ Stop fault ∷ []) (held_is at)
 
-    abbrev end_from : Place → ViewContent → Gathered → List ScoreOutput
-    end_from at view g = outputs_of (findings_now now ++ end_findings at (has_text view) (g.eu || g.nlba)) (placed_after (nat_lt 1 (count_made before)) g.made) ++ End ∷ []
-
     end_by : (at : Place) (fault : Option Fault) → end_outputs_by (holding at before) now fault ≡ outputs_at_end at before now fault
     end_by at (Some fault) = stop_is at fault
     end_by at None =
-        ap (λ (g : Gathered). end_from at g.builder.view (with_last g)) now_is
-        ∙ ap (end_from at (gathered limits.syllable head all).builder.view) (last_without k (gathered limits.syllable head all) goes)
-        ∙ ap (λ b. outputs_of (findings_now now ++ end_findings at (has_last all) b) (placed_after (nat_lt 1 (count_made before)) (drop k (with_last (gathered limits.syllable head all)).made)) ++ End ∷ []) (open_by_last limits head small low all (has_last all))
-        ∙ ap (λ (ms : List UnplacedSyllable). outputs_of (findings_now now ++ found_at_end at all) (placed_after (nat_lt 1 (count_made before)) (drop k ms)) ++ End ∷ []) (made_by_last limits head small low all (has_last all))
-        ∙ ap (λ ss. outputs_of (findings_now now ++ found_at_end at all) ss ++ End ∷ []) (placed_rest (count_made before) (all_units all))
+        rw (now_is, last_without k (gathered limits.syllable head all) goes, open_by_last limits head small low all (has_last all), made_by_last limits head small low all (has_last all), placed_rest (count_made before) (all_units all)) refl
 
     end_is : (at : Place) → end_outputs limits (holding at before) now ≡ outputs_at_end at before now (fault_of_end limits head at all (cut_of all))
     end_is at = ap (end_outputs_by (holding at before) now) (end_fault_is at) ∙ end_by at (fault_of_end limits head at all (cut_of all))
@@ -132,29 +103,20 @@ module _ (limits : Limits) (head : ℕ) (small : limits.syllable < 2 ^ 64 - 1) (
   by_code at before now x xs left later e (Some code) = ap (λ outputs. outputs ∷ silence xs) (stop_is before now at (fault_at x.place code))
   by_code at before now x xs left later e None = ap (λ outputs. outputs ∷ left) (point_is before now at x) ∙ ap (λ lists. outputs_at before (with_first before x now) ∷ lists) e
 
-  -- the place after a character, where no count reaches its last value
-  abbrev bounded_place : Char → Bool → Place
-  bounded_place x b = cond b (record { line = count_plus x.place.line 1; column = 1 }) (record { line = x.place.line; column = count_plus x.place.column 1 })
-
-  abbrev true_place : Char → Bool → Place
-  true_place x b = if b then record { line = x.place.line + 1; column = 1 } else record { line = x.place.line; column = x.place.column + 1 }
-
+  -- where no count reaches its last value
   next_is : (x : Char) → IsPlaceBelow x → saturating_next_place x.place x.c ≡ next_place x.place x.c
-  next_is x h = by (x.c == 10)
-    where
-      by : (b : Bool) → bounded_place x b ≡ true_place x b
-      by true = let l = h.0 in ap (λ (n : ℕ). let p : Place = record { line = n; column = 1 } in p) (omega (arith, l))
-      by false = let l = h.1 in ap (λ (n : ℕ). let p : Place = record { line = x.place.line; column = n } in p) (omega (arith, l))
+  next_is x h =
+      let line : count_plus x.place.line 1 ≡ x.place.line + 1 = let l = h.0 in omega (arith, l) in
+      let column : count_plus x.place.column 1 ≡ x.place.column + 1 = let l = h.1 in omega (arith, l) in
+      rw (line, column) refl
 
   -- what it will still emit
   pub left_is : (at : Place) (before : List BodyEvent) (lists : List (List BodyEvent)) (xs : List HeadEvent) → AreCountsBelow xs
       → body_left limits (holding at before) lists xs ≡ body_outputs limits head at before (with_first_each before (characters_in xs) lists) xs
   left_is at before lists [] p = ap (λ outputs. outputs ∷ []) (held_is before [] at)
   left_is at before (now ∷ lists) (head_event.Body x ∷ xs) p =
-      ap (λ s. left_by (code_in limits (with_all (holding at before).gathered now)) (holding at before) x now xs (body_left limits s lists xs)) (past_is before now at x)
-      ∙ ap (λ place. left_by (code_in limits (with_all (holding at before).gathered now)) (holding at before) x now xs (body_left limits (holding place (events_onto (with_first before x now) before)) lists xs)) (next_is x p.0)
-      ∙ ap (λ code. left_by code (holding at before) x now xs (body_left limits (holding (next_place x.place x.c) (events_onto (with_first before x now) before)) lists xs)) (code_here before now at x)
-      ∙ by_code at before now x xs _ _ (left_is (next_place x.place x.c) (events_onto (with_first before x now) before) lists xs p.1) (code_at limits head (events_onto (with_first before x now) before))
+      rw (past_is before now at x, next_is x p.0, code_here before now at x)
+      (by_code at before now x xs _ _ (left_is (next_place x.place x.c) (events_onto (with_first before x now) before) lists xs p.1) (code_at limits head (events_onto (with_first before x now) before)))
   left_is at before [] (head_event.Body x ∷ xs) p = refl
   left_is at before lists (head_event.End ∷ xs) p = ap (λ outputs. outputs ∷ silence xs) (end_is before (concat_of lists) at)
   left_is at before lists (head_event.Stop fault ∷ xs) p = ap (λ outputs. outputs ∷ silence xs) (stop_is before [] at fault)
@@ -165,9 +127,7 @@ module _ (limits : Limits) (head : ℕ) (small : limits.syllable < 2 ^ 64 - 1) (
 
 -- nothing is held at first
 pub holds_nothing : (limits : Limits) (head : ℕ) (small : limits.syllable < 2 ^ 64 - 1) (low : limits.input < 2 ^ 64 - 1) (at : Place) → head < 2 ^ 64 → begun_score limits at head ≡ holding limits head small low at []
-holds_nothing limits head small low at h =
-    let least : min (head + 0) (2 ^ 64 - 1) ≡ head = omega (arith, h) in
-    rw least refl
+holds_nothing limits head small low at h = grind arith
 
 pub score_is : (limits : Limits) → limits.syllable < 2 ^ 64 - 1 → limits.input < 2 ^ 64 - 1 → (xs : List HeadEvent) → AreCountsBelow xs → score_left limits xs ≡ score_outputs texts_by_stage limits xs
 score_is limits small low [] p = refl

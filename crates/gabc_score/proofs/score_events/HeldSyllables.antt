@@ -17,6 +17,9 @@ use Rattle.gabc_score.specs.machine.ScoreStage.{placed_after}
 use Rattle.gabc_score.specs.Syllable.{UnplacedSyllable}
 use Rattle.gabc_score.specs.machine.Gatherer.{Gathered, with_made, with_syllable, with_snippet, with_no_notes, with_event, with_last}
 use Rattle.gabc_score.specs.machine.BodyBuilder.{with_all, code_in}
+use Rattle.std.proofs.lemmas.Bool.{cond_both}
+use Rattle.gabc_score.proofs.score_events.EventsStayWithinBounds.{last_stays}
+use Rattle.std.proofs.lemmas.Bool.Decides.{nat_tests}
 
 -- without the first syllables
 abbrev pub without : ℕ → Gathered → Gathered
@@ -27,7 +30,7 @@ pub record MayGo (k : ℕ) (g : Gathered) : Type 0 where
   pub few : k ≤ length g.made
   pub some : is_none (drop k g.made) ≡ is_none g.made
 
-pub none_of : (xs : List UnplacedSyllable) (m : UnplacedSyllable) → is_none (xs ++ m ∷ []) ≡ false
+pub none_of : {A : Type 0} (xs : List A) (m : A) → is_none (xs ++ m ∷ []) ≡ false
 none_of [] m = refl
 none_of (x ∷ xs) m = refl
 
@@ -47,10 +50,7 @@ goes_on k g (event.Notes line (note.Ended note_end.Close n)) h = made_goes k (wi
 goes_on k g _ h = record { few = h.few; some = h.some }
 
 event_without : (k : ℕ) (g : Gathered) (t : BodyEvent) → MayGo k g → with_event (without k g) t ≡ without k (with_event g t)
-event_without k g (event.Text (text.Part part.WordStart)) h = refl
-event_without k g (event.Text (text.Ended text_end.Notes)) h = refl
-event_without k g (event.Notes line (note.Ended note_end.Close n)) h = made_without k (with_snippet g line n 41) _ (record { few = h.few; some = h.some })
-event_without k g _ h = refl
+event_without k g t h = grind (arith, made_without)
 
 -- which limit is passed is the same
 pub code_without : (limits : Limits) (k : ℕ) (g : Gathered) → MayGo k g → code_in limits (without k g) ≡ code_in limits g
@@ -65,79 +65,42 @@ all_go k g [] h = h
 all_go k g (t ∷ now) h = all_go k (with_event g t) now (goes_on k g t h)
 
 pub last_without : (k : ℕ) (g : Gathered) → MayGo k g → with_last (without k g) ≡ without k (with_last g)
-last_without k g h = by (has_text g.builder.view)
-  where
-    by : (b : Bool) → cond b (with_syllable (with_no_notes (without k g))) (without k g) ≡ without k (cond b (with_syllable (with_no_notes g)) g)
-    by true = made_without k (with_no_notes g) _ (record { few = h.few; some = h.some })
-    by false = refl
+last_without k g h = grind (arith, made_without)
 
 pub last_goes : (k : ℕ) (g : Gathered) → MayGo k g → MayGo k (with_last g)
-last_goes k g h = by (has_text g.builder.view)
-  where
-    by : (b : Bool) → MayGo k (cond b (with_syllable (with_no_notes g)) g)
-    by true = made_goes k (with_no_notes g) _ (record { few = h.few; some = h.some })
-    by false = h
+last_goes k g h =
+    cond_both (has_text g.builder.view) (with_syllable (with_no_notes g)) g (MayGo k) (λ e. made_goes k (with_no_notes g) _ (record { few = h.few; some = h.some })) (λ e. h)
 
 -- all but the last may go
 pub but_last_goes : (g : Gathered) → MayGo (length g.made - 1) g
-but_last_goes g = record { few = omega arith; some = by g.made }
-  where
-    one_more : (k : ℕ) → suc (suc k) - 1 ≡ suc (suc k - 1)
-    one_more k = omega arith
-
-    by : (ms : List UnplacedSyllable) → is_none (drop (length ms - 1) ms) ≡ is_none ms
-    by [] = refl
-    by (m ∷ []) = refl
-    by (m ∷ n ∷ ms) = rw (one_more (length ms)) (by (n ∷ ms))
+but_last_goes g = record { few = omega arith; some = last_stays g.made }
 
 -- ---- positions
 
--- after n, the first is no longer the first of all
-first_after : ℕ → Bool → Bool
-first_after zero first = first
-first_after (suc k) first = false
-
-no_first : (k : ℕ) → first_after k false ≡ false
-unfolding first_after
-no_first zero = refl
-no_first (suc k) = refl
-
-placed_drop : (k : ℕ) (first : Bool) (ms : List UnplacedSyllable) → drop k (placed_syllables_by first ms) ≡ placed_syllables_by (first_after k first) (drop k ms)
-unfolding first_after
-placed_drop zero first ms = refl
-placed_drop (suc k) first [] = refl
-placed_drop (suc k) first (m ∷ ms) = placed_drop k false ms ∙ ap (λ b. placed_syllables_by b (drop k ms)) (no_first k)
-
-first_is : (n : ℕ) → first_after (n - 1) true ≡ not (nat_lt 1 n)
-unfolding first_after
-first_is (suc (suc n)) =
-    let one_more : suc (suc n) - 1 ≡ suc n = omega arith in
-    let two : nat_lt 1 (suc (suc n)) ≡ true = grind arith in
-    rw (one_more, two) refl
-first_is _ = refl
+-- after the first ones none is the first of all
+placed_drop : (k : ℕ) (first : Bool) (ms : List UnplacedSyllable) → drop (suc k) (placed_syllables_by first ms) ≡ placed_syllables_by false (drop (suc k) ms)
+placed_drop k first [] = refl
+placed_drop zero first (m ∷ ms) = refl
+placed_drop (suc k) first (m ∷ ms) = placed_drop k false ms
 
 -- the syllables not given yet have the positions that they have among all
 pub placed_rest : (n : ℕ) (ms : List UnplacedSyllable) → placed_after (nat_lt 1 n) (drop (n - 1) ms) ≡ not_given n ms
-placed_rest n ms = ap (λ b. placed_syllables_by b (drop (n - 1) ms)) (sym (first_is n)) ∙ sym (placed_drop (n - 1) true ms)
+placed_rest (suc (suc n)) ms =
+    let less : suc (suc n) - 1 ≡ suc n = omega arith in
+    let two : nat_lt 1 (suc (suc n)) ≡ true = grind arith in
+    rw (less, two) (sym (placed_drop n true ms))
+placed_rest _ ms = refl
 
 -- all of them but the last are given
 pub placed_now : (n m : ℕ) (ms : List UnplacedSyllable) → length ms ≡ m → n ≤ m
     → take (length (drop (n - 1) ms) - 1) (placed_after (nat_lt 1 n) (drop (n - 1) ms)) ≡ given_now n ms
 placed_now n m ms l h =
     let count : (n - 1) + (length (drop (n - 1) ms) - 1) ≡ length ms - 1 = rw (length-drop (n - 1) ms) (omega (arith, l, h)) in
-    ap (take (length (drop (n - 1) ms) - 1)) (placed_rest n ms)
-    ∙ sym (drop-take (n - 1) (length (drop (n - 1) ms) - 1) (with_positions ms))
-    ∙ ap (λ (k : ℕ). drop (n - 1) (take k (with_positions ms))) count
+    rw (placed_rest n ms, ← drop-take (n - 1) (length (drop (n - 1) ms) - 1) (with_positions ms), count) refl
 
 -- and the last is held
 pub held_then : (n m : ℕ) (ms : List UnplacedSyllable) → length ms ≡ m → n ≤ m → drop (length (drop (n - 1) ms) - 1) (drop (n - 1) ms) ≡ drop (m - 1) ms
-held_then n m ms l h =
-    let count : (n - 1) + (length (drop (n - 1) ms) - 1) ≡ m - 1 = rw (length-drop (n - 1) ms) (omega (arith, l, h)) in
-    drop-drop (length (drop (n - 1) ms) - 1) (n - 1) ms ∙ ap (λ (k : ℕ). drop k ms) count
+held_then n m ms l h = grind (arith, length-drop, drop-drop)
 
 pub given_then_is : (n m k : ℕ) → k ≡ m - (n - 1) → n ≤ m → (nat_lt 1 n || nat_lt 1 k) ≡ nat_lt 1 m
-given_then_is n m k e h = by (nat_lt 1 n) refl
-  where
-    by : (b : Bool) → nat_lt 1 n ≡ b → (b || nat_lt 1 k) ≡ nat_lt 1 m
-    by true t = grind (arith, h, t)
-    by false t = grind (arith, h, t, e)
+given_then_is n m k e h = grind (arith, nat_tests, h, e)

@@ -1,7 +1,9 @@
 -- What was gathered stays within the limits as it will be written, past a point.
-use Rattle.gabc_score.proofs.score_events.EventsStayWithinBounds.{is_within, limit_stays}
-use Rattle.std.proofs.Common.{◌≡◌, ℕ, zero, suc, ◌-◌, ◌≤◌, ◌<◌, ◌^◌, ◌==◌, ◌||◌, ◌&&◌, not, nat_lt, Bool, true, false, List, [], ◌∷◌, ◌++◌, take, drop, map, length, None, refl, sym, ap, subst, ◌∙◌, arith}
-use Rattle.std.proofs.lemmas.Bool.{true≢false}
+use Rattle.gabc_score.proofs.score_events.EventsStayWithinBounds.{is_within, last_stays, limit_stays, limit_with}
+use Rattle.std.proofs.Common.{◌≡◌, ℕ, zero, suc, ◌-◌, ◌≤◌, ◌<◌, ◌^◌, ◌==◌, ◌||◌, ◌&&◌, not, nat_lt, Bool, false, List, [], ◌∷◌, ◌++◌, take, drop, length, None, sym, ap, subst, ◌∙◌, arith}
+use Rattle.std.specs.List.{All}
+use Rattle.std.proofs.lemmas.Bool.{cond_both}
+use Rattle.std.proofs.lemmas.List.Elements.{All-push}
 use Rattle.std.proofs.lemmas.Bool.Decides.{nat_tests}
 use Rattle.std.proofs.Math.Bool.{and-false, and-true}
 use Rattle.gabc_places.specs.declared.limits.Limits.{Limits}
@@ -13,18 +15,20 @@ use Rattle.gabc_notes.specs.declared.stage.NoteEvent.TheVariants as note
 use Rattle.gabc_score.specs.declared.before.Preceding.{Preceding}
 use Rattle.gabc_score.specs.declared.events.BodyEvent.{BodyEvent}
 use Rattle.gabc_score.specs.declared.events.BodyEvent.TheVariants as event
-use Rattle.gabc_score.specs.Before.{no_syllable, with_each, with_one, with_placed}
-use Rattle.gabc_score.specs.Body.{is_none}
+use Rattle.gabc_score.specs.Before.{no_syllable, with_each, with_placed}
+use Rattle.gabc_score.specs.Body.{has_text, is_none}
 use Rattle.gabc_score.specs.Canonical.{canonical}
-use Rattle.gabc_score.specs.Syllable.{UnplacedSyllable, PlacedSyllable}
+use Rattle.gabc_score.specs.Syllable.{UnplacedSyllable}
 use Rattle.gabc_score.specs.ReportedWithin.{IsAtOutset}
 use Rattle.gabc_score.specs.machine.BodyBuilder.{with_all, code_in}
-use Rattle.gabc_score.specs.machine.Gatherer.{Gathered, with_event, with_made, with_snippet}
+use Rattle.gabc_score.specs.machine.Gatherer.{Gathered, with_event, with_last, with_made, with_no_notes, with_snippet, with_syllable}
 use Rattle.gabc_score.specs.machine.HeldWithin.{AreWritten, HoldsWithin}
+use Rattle.gabc_score.specs.machine.ScoreMachine.{IsShort}
 use Rattle.gabc_score.specs.machine.ScoreStage.{placed_after, with_held}
 use Rattle.gabc_score.specs.machine.SyllableBuilder.{made_from}
-use Rattle.gabc_score.proofs.score_events.FewAndShortAreLent.{counted, either, not_over}
-use Rattle.gabc_score.proofs.score_events.WhatPrecedes.{each_some, not_some}
+use Rattle.gabc_score.proofs.score_events.MemoryIsKept.{limit_last}
+use Rattle.gabc_score.proofs.score_events.FewAndShortAreLent.{counted, either, without_start}
+use Rattle.gabc_score.proofs.score_events.WhatPrecedes.{each_some, given_some, not_some}
 use Rattle.gabc_score.proofs.score_events.HeldSyllables.{none_of}
 
 -- ---- a syllable more
@@ -39,17 +43,21 @@ one_more limit first [] m starts f h k = (subst (λ (b : Bool). length (canonica
 one_more limit first (s ∷ ms) m starts f h k = (h.0, later limit ms m h.1 (subst (λ (b : Bool). length (canonical (b || m.text.word_start) m) ≤ limit) (f ∙ and-false first) k))
 
 module _ (first : Bool) where
-  -- where it is not over the limit
+  -- where it is not over the limit, what was made is short, and so it is as it will be written
   abbrev AreWithin : Gathered → Type 0
-  AreWithin g = (not g.follows ≡ (first && is_none g.made)) × (g.over ≡ false → AreWritten g.limit first g.made)
+  AreWithin g = (not g.follows ≡ (first && is_none g.made)) × (g.over ≡ false → AreWritten g.limit first g.made × All (IsShort g.limit) g.made)
 
   within_made : (g : Gathered) (m : UnplacedSyllable) → g.limit < 2 ^ 32 → AreWithin g → AreWithin (with_made g m)
-  within_made g m small h = (sym (and-false first) ∙ ap (λ b. first && b) (sym (none_of g.made m)), written)
+  within_made g m small h = (sym (and-false first) ∙ ap (λ b. first && b) (sym (none_of g.made m)), made)
     where
-      written : (with_made g m).over ≡ false → AreWritten g.limit first (g.made ++ m ∷ [])
-      written over =
+      made : (with_made g m).over ≡ false → AreWritten g.limit first (g.made ++ m ∷ []) × All (IsShort g.limit) (g.made ++ m ∷ [])
+      made over =
           let e = either g.over _ _ over in
-          one_more g.limit first g.made m (not g.follows) h.0 (h.1 e.0) (counted g.limit (length (canonical (not g.follows || m.text.word_start) m)) (length m.kept) small e.1.0 e.1.1).1
+          let starts = not g.follows || m.text.word_start in
+          let k = counted g.limit (length (canonical starts m)) (length m.kept) small e.1.0 e.1.1 in
+          let s = without_start starts m in
+          let short = k.1 in
+          (one_more g.limit first g.made m (not g.follows) h.0 (h.1 e.0).0 k.1, All-push (IsShort g.limit) g.made m (h.1 e.0).1 (record { kept = k.0; canonical = omega (arith, s, short) }))
 
   within_with : (g : Gathered) (t : BodyEvent) → g.limit < 2 ^ 32 → AreWithin g → AreWithin (with_event g t)
   within_with g (event.Text (text.Part part.WordStart)) s h = h
@@ -59,24 +67,30 @@ module _ (first : Bool) where
 
   within_all : (g : Gathered) (now : List BodyEvent) → g.limit < 2 ^ 32 → AreWithin g → AreWithin (with_all g now)
   within_all g [] s h = h
-  within_all g (t ∷ now) s h = within_all (with_event g t) now (let e = limit_stays g (t ∷ []) in omega (arith, e, s)) (within_with g t s h)
+  within_all g (t ∷ now) s h = within_all (with_event g t) now (let e = limit_with g t in omega (arith, e, s)) (within_with g t s h)
+
+  within_last : (g : Gathered) → g.limit < 2 ^ 32 → AreWithin g → AreWithin (with_last g)
+  within_last g s h = let u = with_no_notes g in cond_both (has_text g.builder.view) (with_syllable u) g AreWithin (λ e. within_made u (made_from u.builder u.eu u.nlba) s h) (λ e. h)
 
 is_first : (p : Preceding) (ms : List UnplacedSyllable) (follows : Bool) → follows ≡ nat_lt 0 (with_each p ms).syllables → not follows ≡ ((p.syllables == 0) && is_none ms)
-is_first p [] follows f = ap not f ∙ not_some p.syllables ∙ sym (and-true (p.syllables == 0))
-is_first p (m ∷ ms) follows f = ap not (f ∙ some) ∙ sym (and-false (p.syllables == 0))
-  where
-    some : nat_lt 0 (with_each (with_one p m) ms).syllables ≡ true
-    some = let k : 1 ≤ (with_each (with_one p m) ms).syllables = each_some (with_one p m) ms (omega arith) in grind (arith, nat_tests, k)
+is_first p ms follows f = grind (arith, not_some, and-true, and-false, each_some)
 
--- what was made without passing a limit is within it
-written_now : (limits : Limits) (p : Preceding) (g : Gathered) (now : List BodyEvent) → g.limit ≡ limits.syllable → g.over ≡ false → g.follows ≡ nat_lt 0 (with_each p g.made).syllables
-    → AreWritten limits.syllable (p.syllables == 0) g.made → code_in limits (with_all g now) ≡ None → AreWritten limits.syllable (p.syllables == 0) (with_all g now).made
-written_now limits p g now e over f written none =
-    let most = limits.in_range.syllable_most in
-    let same : (with_all g now).limit ≡ limits.syllable = limit_stays g now ∙ e in
-    subst (λ (n : ℕ). AreWritten n (p.syllables == 0) (with_all g now).made) same
-    ((within_all (p.syllables == 0) g now (omega (arith, e, most)) (is_first p g.made g.follows f, λ o. subst (λ (n : ℕ). AreWritten n (p.syllables == 0) g.made) (sym e) written)).1
-    (not_over limits (with_all g now) none))
+-- what was made without passing a limit is within it, and so it is at the end, with the last text
+module _ (limits : Limits) (p : Preceding) (g : Gathered) (now : List BodyEvent) (e : g.limit ≡ limits.syllable) (over : g.over ≡ false) (f : g.follows ≡ nat_lt 0 (with_each p g.made).syllables)
+    (written : AreWritten limits.syllable (p.syllables == 0) g.made) (short : All (IsShort limits.syllable) g.made) where
+  small : g.limit < 2 ^ 32
+  small = let most = limits.in_range.syllable_most in omega (arith, e, most)
+
+  all_within : AreWithin (p.syllables == 0) (with_all g now)
+  all_within = within_all (p.syllables == 0) g now small (is_first p g.made g.follows f, λ o. rw e (written, short))
+
+  pub within_now : code_in limits (with_all g now) ≡ None → AreWritten limits.syllable (p.syllables == 0) (with_all g now).made × All (IsShort limits.syllable) (with_all g now).made
+  within_now none = rw (← (limit_stays g now ∙ e)) (all_within.1 (is_within limits (with_all g now) none).over)
+
+  pub short_at_end : code_in limits (with_last (with_all g now)) ≡ None → All (IsShort limits.syllable) (with_last (with_all g now)).made
+  short_at_end none =
+      let stays = limit_stays g now in
+      rw (← (limit_last (with_all g now) ∙ stays ∙ e)) ((within_last (p.syllables == 0) (with_all g now) (omega (arith, stays, small)) all_within).1 (is_within limits (with_last (with_all g now)) none).over).1
 
 pub file_now : (limits : Limits) (h : Gathered) → code_in limits h ≡ None → is_none h.made ≡ false → h.total < limits.input
 file_now limits h none some = let file = (is_within limits h none).file some in omega (arith, file)
@@ -88,58 +102,40 @@ dropped limit zero ms h = h
 dropped limit (suc n) [] h = tt
 dropped limit (suc n) (m ∷ ms) h = dropped limit n ms h.1
 
-none_dropped : (n : ℕ) (ms : List UnplacedSyllable) → is_none (drop n ms) ≡ false → is_none ms ≡ false
-none_dropped zero ms e = e
-none_dropped (suc n) [] e = e
-none_dropped (suc n) (m ∷ ms) e = refl
-
 module _ (has_lent : Bool) where
   abbrev passed : Preceding → List UnplacedSyllable → Preceding
   passed p made = with_placed p (take (length made - 1) (placed_after has_lent made))
-
-  count : (s m : UnplacedSyllable) (ms : List UnplacedSyllable) → length (s ∷ m ∷ ms) - 1 ≡ suc (length ms)
-  count s m ms = omega arith
-
-  passed_some : (p : Preceding) (s m : UnplacedSyllable) (ms : List UnplacedSyllable) → 1 ≤ (passed p (s ∷ m ∷ ms)).syllables
-  passed_some p s m ms =
-      subst (λ (k : ℕ). 1 ≤ (with_placed p (take k (placed_after has_lent (s ∷ m ∷ ms)))).syllables) (sym (count s m ms))
-      (each_some (with_one p s) (map (λ (s : PlacedSyllable). s.made) (take (length ms) (placed_after true (m ∷ ms)))) (omega arith))
 
   written_passed : (limit : ℕ) (p : Preceding) (made : List UnplacedSyllable) → AreWritten limit (p.syllables == 0) made → AreWritten limit ((passed p made).syllables == 0) (drop (length made - 1) made)
   written_passed limit p [] h = tt
   written_passed limit p (m ∷ []) h = h
   written_passed limit p (s ∷ m ∷ ms) h =
-      let some = passed_some p s m ms in
+      let some = given_some has_lent p s m ms in
       let later_one : ((passed p (s ∷ m ∷ ms)).syllables == 0) ≡ false = grind (arith, nat_tests, some) in
-      subst (λ (b : Bool). AreWritten limit b (drop (length (s ∷ m ∷ ms) - 1) (s ∷ m ∷ ms))) (sym later_one)
-      (subst (λ (k : ℕ). AreWritten limit false (drop k (s ∷ m ∷ ms))) (sym (count s m ms)) (dropped limit (length ms) (m ∷ ms) h.1))
+      let count : length (s ∷ m ∷ ms) - 1 ≡ suc (length ms) = omega arith in
+      subst (λ (b : Bool). AreWritten limit b (drop (length (s ∷ m ∷ ms) - 1) (s ∷ m ∷ ms))) (sym later_one) (rw count (dropped limit (length ms) (m ∷ ms) h.1))
 
   outset_passed : (p : Preceding) (made : List UnplacedSyllable) → IsAtOutset p → IsAtOutset (passed p made)
   outset_passed p [] h = h
   outset_passed p (m ∷ []) h = h
-  outset_passed p (s ∷ m ∷ ms) h = λ e. absurd (let some = passed_some p s m ms in omega (arith, some, e))
+  outset_passed p (s ∷ m ∷ ms) h = λ e. absurd (let some = given_some has_lent p s m ms in omega (arith, some, e))
 
 -- ---- what holds from point to point
 
 pub within_past : (limits : Limits) (before after : Preceding) (has_lent : Bool) (g h turned : Gathered) (now : List BodyEvent) → g.limit ≡ limits.syllable → g.over ≡ false → g.follows ≡ nat_lt 0 (with_each before g.made).syllables
-    → HoldsWithin limits before g → h ≡ with_all g now → code_in limits (with_all g now) ≡ None → after ≡ passed has_lent before h.made → turned ≡ with_held h → HoldsWithin limits after turned
-within_past limits before after has_lent g h turned now e over f within is none there turns =
-    let written : AreWritten limits.syllable (before.syllables == 0) h.made = subst (λ (k : Gathered). AreWritten limits.syllable (before.syllables == 0) k.made) (sym is) (written_now limits before g now e over f within.written none) in
+    → HoldsWithin limits before g → All (IsShort limits.syllable) g.made → h ≡ with_all g now → code_in limits (with_all g now) ≡ None → after ≡ passed has_lent before h.made → turned ≡ with_held h → HoldsWithin limits after turned
+within_past limits before after has_lent g h turned now e over f within short is none there turns =
+    let written : AreWritten limits.syllable (before.syllables == 0) h.made = rw is (within_now limits before g now e over f within.written short none).0 in
     let code : code_in limits h ≡ None = ap (code_in limits) is ∙ none in
-    subst (λ (k : Gathered). HoldsWithin limits after k) (sym turns)
-    (subst (λ (p : Preceding). HoldsWithin limits p (with_held h)) (sym there) (record {
+    rw (turns, there) (record {
       written = written_passed has_lent limits.syllable before h.made written;
-      file = λ some. file_now limits h code (none_dropped (length h.made - 1) h.made some);
+      file = λ some. file_now limits h code (sym (last_stays h.made) ∙ some);
       outset = outset_passed has_lent before h.made within.outset;
-    }))
+    })
 
 -- nothing was gathered
 pub within_none : (limits : Limits) (before : Preceding) (g : Gathered) → IsAtOutset before → g.made ≡ [] → HoldsWithin limits before g
-within_none limits before g outset none = record {
-  written = subst (AreWritten limits.syllable (before.syllables == 0)) (sym none) tt;
-  file = λ some. absurd (true≢false (sym (ap (λ (ms : List UnplacedSyllable). is_none ms) none) ∙ some));
-  outset = outset;
-}
+within_none limits before g outset none = grind arith
 
 -- nothing was after the headers
 pub within_begun : (limits : Limits) (head : ℕ) (before : Preceding) (g : Gathered) → before ≡ no_syllable head → g.made ≡ [] → HoldsWithin limits before g

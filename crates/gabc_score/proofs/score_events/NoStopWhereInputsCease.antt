@@ -1,5 +1,5 @@
 -- Where what comes in just ceases, a stage of scores gives no finding, no stop and no end; and it gives the end only at the end.
-use Rattle.std.proofs.Common.{◌≡◌, ◌≤◌, not, List, [], ◌∷◌, ◌++◌, length, Option, Some, None, false, refl, ap, ◌∙◌, arith, append-nil, append_assoc}
+use Rattle.std.proofs.Common.{◌≡◌, ◌≤◌, not, List, [], ◌∷◌, ◌++◌, length, Option, None, false, refl, ap, ◌∙◌, append_assoc, arith}
 use Rattle.gabc_places.proofs.PushesAreOne.{joined_silence}
 use Rattle.gabc_places.specs.StageLaw.{concat_of, silence}
 use Rattle.gabc_places.specs.declared.code.Code.{Code}
@@ -8,19 +8,18 @@ use Rattle.gabc_places.specs.declared.limits.Limits.{Limits}
 use Rattle.gabc_places.specs.declared.place.Char.{Char}
 use Rattle.gabc_headers.specs.declared.head_event.HeadEvent.{HeadEvent}
 use Rattle.gabc_headers.specs.declared.head_event.HeadEvent.TheVariants as head_event
-use Rattle.gabc_score.specs.witness.BodyStage.{BodyStageState, running_events_left, texts_by_stage}
-use Rattle.gabc_score.specs.Events.{InComment, events_from}
+use Rattle.gabc_score.specs.witness.BodyStage.{BodyStageState}
 use Rattle.gabc_score.specs.declared.events.BodyEvent.{BodyEvent}
 use Rattle.gabc_score.specs.declared.score_machine.ScorePart.{ScorePart}
 use Rattle.gabc_score.specs.declared.score_machine.ScorePart.TheVariants as score_part
 use Rattle.gabc_score.specs.NoteBeforeClef.{found_first}
-use Rattle.gabc_score.specs.ScoreEvents.{HasNoEnd, ScoreOutput, Stop, characters_in, findings_now, has_end, outputs_of, syllables_in}
+use Rattle.gabc_score.specs.ScoreEvents.{HasNoEnd, ScoreOutput, Stop, findings_now, has_end, outputs_of, syllables_in}
 use Rattle.gabc_score.specs.witness.ScoreStage.{ScoreStageState, left_of}
 use Rattle.gabc_score.specs.Syllable.{PlacedSyllable}
-use Rattle.gabc_score.specs.machine.BodyBuilder.{code_in, with_all}
-use Rattle.gabc_score.specs.machine.ScoreStage.{HeldScore, body_left, fresh_score, left_by, outputs_left, placed_after, point_outputs, score_left, score_past, stop_outputs}
+use Rattle.gabc_score.specs.machine.BodyBuilder.{with_all}
+use Rattle.gabc_score.specs.machine.ScoreStage.{HeldScore, body_left, left_by, outputs_left, placed_after, point_outputs, score_left, score_past, stop_outputs}
 use Rattle.gabc_score.proofs.score_events.FewAndShortAreLent.{placed_count}
-use Rattle.gabc_score.proofs.score_events.WhatOutputsSay.{Said, said_by, said_of}
+use Rattle.gabc_score.proofs.score_events.WhatOutputsSay.{Said, said_by, said_of, given_syllables}
 
 -- ---- what ceases
 
@@ -44,12 +43,7 @@ no_stop s = by_part s.limits s.part s.held s.body
 -- one syllable is given at most, where one is held at most
 pub few_are_held : (limits : Limits) (s : HeldScore) (body : BodyStageState) → length s.gathered.made ≤ 1
     → length (syllables_in (concat_of (outputs_left limits score_part.Body s body []))) ≤ 1
-few_are_held limits s body few =
-    let ss = placed_after s.has_lent s.gathered.made in
-    let said = ap (λ (t : Said). length t.syllables) (said_of [] ss []) in
-    let same = ap (λ (l : List PlacedSyllable). length l) (append-nil ss) in
-    let count = placed_count (not s.has_lent) s.gathered.made in
-    omega (arith, said, same, count, few)
+few_are_held limits s body few = rw (given_syllables [] (placed_after s.has_lent s.gathered.made) [] refl, placed_count (not s.has_lent) s.gathered.made) few
 
 -- ---- the end
 
@@ -69,13 +63,11 @@ pointed s x now later none = ap (λ (t : Said). t.ended) (said_of (findings_now 
 
 read : (code : Option Code) (s : HeldScore) (x : Char) (now : List BodyEvent) (xs : List HeadEvent) (later : List (List ScoreOutput)) → has_end (concat_of later) ≡ false
     → has_end (concat_of (left_by code s x now xs later)) ≡ false
-read (Some code) s x now xs later none = stopped s _ xs
-read None s x now xs later none = pointed s x now later none
+read code s x now xs later none = grind (arith, stopped, pointed)
 
 in_body : (limits : Limits) (s : HeldScore) (lists : List (List BodyEvent)) (xs : List HeadEvent) → HasNoEnd xs → has_end (concat_of (body_left limits s lists xs)) ≡ false
 in_body limits s lists [] h = (held (placed_after s.has_lent s.gathered.made)).end
-in_body limits s (now ∷ lists) (head_event.Body x ∷ xs) h =
-    read (code_in limits (with_all s.gathered now)) s x now xs (body_left limits (score_past s x now) lists xs) (in_body limits (score_past s x now) lists xs h)
+in_body limits s (now ∷ lists) (head_event.Body x ∷ xs) h = grind (arith, in_body limits (score_past s x now) lists xs h, read)
 in_body limits s [] (head_event.Body x ∷ xs) h = silent xs
 in_body limits s lists (head_event.End ∷ xs) h = absurd h
 in_body limits s lists (head_event.Stop fault ∷ xs) h = stopped s fault xs
@@ -83,16 +75,13 @@ in_body limits s lists (_ ∷ xs) h = in_body limits s lists xs h
 
 in_score : (limits : Limits) (xs : List HeadEvent) → HasNoEnd xs → has_end (concat_of (score_left limits xs)) ≡ false
 in_score limits [] h = refl
-in_score limits (head_event.Heads lines macros canonical ∷ xs) h =
-    in_body limits (fresh_score limits canonical) (events_from texts_by_stage lines macros InComment (characters_in xs)) xs h
+in_score limits (head_event.Heads lines macros canonical ∷ xs) h = grind (arith, in_body)
 in_score limits (head_event.Stop fault ∷ xs) h = silent xs
 in_score limits (head_event.End ∷ xs) h = absurd h
 in_score limits (_ ∷ xs) h = in_score limits xs h
 
 in_part : (limits : Limits) (part : ScorePart) (s : HeldScore) (body : BodyStageState) (xs : List HeadEvent) → HasNoEnd xs → has_end (concat_of (outputs_left limits part s body xs)) ≡ false
-in_part limits score_part.Heads s body xs h = in_score limits xs h
-in_part limits score_part.Body s body xs h = in_body limits s (running_events_left body (characters_in xs)) xs h
-in_part limits score_part.Over s body xs h = silent xs
+in_part limits part s body xs h = grind (arith, in_score, in_body, silent)
 
 pub no_end : (s : ScoreStageState) (xs : List HeadEvent) → HasNoEnd xs → has_end (concat_of (left_of s xs)) ≡ false
 no_end s xs h = in_part s.limits s.part s.held s.body xs h

@@ -1,5 +1,5 @@
 -- After a stop or the end nothing is emitted.
-use Rattle.std.proofs.Common.{◌≡◌, ℕ, true, List, [], ◌∷◌, ◌++◌, map, Option, Some, None, sym, ap, subst, ◌∙◌, append_assoc}
+use Rattle.std.proofs.Common.{◌≡◌, ℕ, true, List, [], ◌∷◌, ◌++◌, map, Option, Some, None, sym, ap, subst, ◌∙◌, append_assoc, arith}
 use Rattle.gabc_places.specs.StageLaw.{concat_of, silence}
 use Rattle.gabc_places.proofs.PushesAreOne.{joined_silence}
 use Rattle.gabc_places.specs.Place.{next_place}
@@ -13,10 +13,10 @@ use Rattle.gabc_headers.specs.declared.head_event.HeadEvent.{HeadEvent}
 use Rattle.gabc_headers.specs.declared.head_event.HeadEvent.TheVariants as head_event
 use Rattle.gabc_score.specs.declared.events.BodyEvent.{BodyEvent}
 use Rattle.gabc_score.specs.Syllable.{PlacedSyllable, all_syllables}
-use Rattle.gabc_score.specs.Body.{code_at, events_onto, fault_at, fault_of_end, cut_of, found_at_end, all_units}
+use Rattle.gabc_score.specs.Body.{code_at, events_onto, fault_at}
 use Rattle.gabc_score.specs.Events.{Texts, InComment, events_from}
 use Rattle.gabc_score.specs.NoteBeforeClef.{with_first_each}
-use Rattle.gabc_score.specs.ScoreEvents.{ScoreOutput, Found, Stop, Syllable, End, is_last, not_given, given_now, count_made, findings_now, outputs_of, outputs_at_end, outputs_by, characters_in, body_outputs, first_place, score_outputs}
+use Rattle.gabc_score.specs.ScoreEvents.{ScoreOutput, Found, Stop, Syllable, is_last, not_given, given_now, count_made, findings_now, outputs_of, outputs_at_end, outputs_by, characters_in, body_outputs, first_place, score_outputs}
 
 -- after the first stop or end among these nothing stands
 abbrev pub Ends : List ScoreOutput → Type 0
@@ -44,8 +44,7 @@ last_ends fs ss o outputs e = subst Ends (sym (append_assoc (outputs_of fs ss) (
 module _ (limits : Limits) (head : ℕ) where
   end_ends : (at : Place) (before now : List BodyEvent) (fault : Option Fault) (outputs : List ScoreOutput) → outputs ≡ [] → Ends (outputs_at_end at before now fault ++ outputs)
   end_ends at before now (Some fault) outputs e = last_ends [] (not_given (count_made before) (all_syllables before)) (Stop fault) outputs e
-  end_ends at before now None outputs e =
-      last_ends (findings_now now ++ found_at_end at (events_onto now before)) (not_given (count_made before) (all_units (events_onto now before))) End outputs e
+  end_ends at before now None outputs e = grind (arith, last_ends)
 
   by_code : (code : Option Code) (x : Char) (before now : List BodyEvent) (xs : List HeadEvent) (later : List (List ScoreOutput)) → Ends (concat_of later) → Ends (concat_of (outputs_by code x before now xs later))
   by_code (Some code) x before now xs later h = last_ends [] (not_given (count_made before) (all_syllables before)) (Stop (fault_at x.place code)) (concat_of (silence xs)) (joined_silence xs)
@@ -56,8 +55,7 @@ module _ (limits : Limits) (head : ℕ) where
   body_ends at before (now ∷ lists) (head_event.Body x ∷ xs) =
       by_code (code_at limits head (events_onto now before)) x before now xs _ (body_ends (next_place x.place x.c) (events_onto now before) lists xs)
   body_ends at before [] (head_event.Body x ∷ xs) = silent _ (joined_silence (head_event.Body x ∷ xs))
-  body_ends at before lists (head_event.End ∷ xs) =
-      end_ends at before (concat_of lists) (fault_of_end limits head at (events_onto (concat_of lists) before) (cut_of (events_onto (concat_of lists) before))) (concat_of (silence xs)) (joined_silence xs)
+  body_ends at before lists (head_event.End ∷ xs) = grind (arith, end_ends, joined_silence)
   body_ends at before lists (head_event.Stop fault ∷ xs) = last_ends [] (not_given (count_made before) (all_syllables before)) (Stop fault) (concat_of (silence xs)) (joined_silence xs)
   body_ends at before lists (head_event.Found f ∷ xs) = (λ l. absurd (cc), body_ends at before lists xs)
   body_ends at before lists (head_event.Heads lines macros canonical ∷ xs) = body_ends at before lists xs

@@ -1,5 +1,5 @@
 -- What is collected of events is what the outputs say.
-use Rattle.std.proofs.Common.{◌≡◌, ◌⊎◌, inl, inr, ℕ, zero, suc, ◌+◌, ◌<◌, List, [], ◌∷◌, ◌++◌, take, length, get_or, Option, Some, None, refl, sym, ap, ◌∙◌, append_assoc, append-nil}
+use Rattle.std.proofs.Common.{◌≡◌, ◌⊎◌, inl, inr, ℕ, zero, suc, ◌+◌, ◌<◌, List, [], ◌∷◌, ◌++◌, take, length, get_or, Option, Some, None, refl, sym, ap, ◌∙◌, append_assoc, append-nil, arith}
 use Rattle.std.proofs.lemmas.List.{take_more}
 use Rattle.gabc_places.specs.declared.code.Fault.{Fault}
 use Rattle.gabc_score.specs.declared.body_result.BodyResult.{BodyResult}
@@ -12,18 +12,13 @@ use Rattle.gabc_score.specs.Syllable.{PlacedSyllable}
 use Rattle.gabc_score.specs.machine.Collected.{fault_then, result_with, result_past, result_past_all}
 
 no_fault_then : (o : Option Fault) → fault_then o None ≡ o
-no_fault_then (Some f) = refl
-no_fault_then None = refl
+no_fault_then o = grind arith
 
 then_assoc : (a b c : Option Fault) → fault_then (fault_then a b) c ≡ fault_then a (fault_then b c)
-then_assoc (Some f) b c = refl
-then_assoc None b c = refl
+then_assoc a b c = grind arith
 
 pub with_none : (r : BodyResult) → result_with r [] ≡ r
-with_none r =
-    ap (λ ss. record { syllables = ss; findings = r.findings ++ []; fault = fault_then r.fault None }) (append-nil r.syllables)
-    ∙ ap (λ fs. record { syllables = r.syllables; findings = fs; fault = fault_then r.fault None }) (append-nil r.findings)
-    ∙ ap (λ o. record { syllables = r.syllables; findings = r.findings; fault = o }) (no_fault_then r.fault)
+with_none r = simp (append-nil, no_fault_then)
 
 findings_more : (a b : List ScoreOutput) → findings_in (a ++ b) ≡ findings_in a ++ findings_in b
 findings_more [] b = refl
@@ -42,13 +37,7 @@ fault_more (_ ∷ a) b = fault_more a b
 
 -- outputs after outputs
 pub with_more : (r : BodyResult) (a b : List ScoreOutput) → result_with (result_with r a) b ≡ result_with r (a ++ b)
-with_more r a b =
-    ap (λ ss. record { syllables = ss; findings = (r.findings ++ findings_in a) ++ findings_in b; fault = fault_then (fault_then r.fault (fault_in a)) (fault_in b) })
-    (append_assoc r.syllables (syllables_in a) (syllables_in b) ∙ ap (λ ss. r.syllables ++ ss) (sym (syllables_more a b)))
-    ∙ ap (λ fs. record { syllables = r.syllables ++ syllables_in (a ++ b); findings = fs; fault = fault_then (fault_then r.fault (fault_in a)) (fault_in b) })
-    (append_assoc r.findings (findings_in a) (findings_in b) ∙ ap (λ fs. r.findings ++ fs) (sym (findings_more a b)))
-    ∙ ap (λ o. record { syllables = r.syllables ++ syllables_in (a ++ b); findings = r.findings ++ findings_in (a ++ b); fault = o })
-    (then_assoc r.fault (fault_in a) (fault_in b) ∙ ap (fault_then r.fault) (sym (fault_more a b)))
+with_more r a b = simp (syllables_more, findings_more, fault_more, append_assoc, then_assoc)
 
 module _ (first second : PlacedSyllable) where
   -- the syllables that these names stand for from here on
@@ -57,8 +46,7 @@ module _ (first second : PlacedSyllable) where
   AreAhead Second ahead = (ahead ≡ second ∷ []) ⊎ (ahead ≡ [])
 
   none_of : (n : ℕ) → take {A = PlacedSyllable} n [] ≡ []
-  none_of zero = refl
-  none_of (suc n) = refl
+  none_of n = grind arith
 
   collected_from : (l : BorrowedSyllable) (ahead : List PlacedSyllable) (outputs : List ScoreOutput) (n : ℕ) → AreAhead l ahead → syllables_in outputs ≡ take n ahead → (r : BodyResult)
       → result_past_all first second r (events_borrowed l outputs) ≡ result_with r outputs

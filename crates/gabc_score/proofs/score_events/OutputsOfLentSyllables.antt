@@ -1,6 +1,6 @@
 -- The outputs of events that lend syllables.
-use Rattle.std.proofs.Common.{◌≡◌, ℕ, zero, suc, ◌≤◌, Bool, true, false, cond, List, [], ◌∷◌, ◌++◌, map, take, length, refl, sym, ap, subst, ◌∙◌, arith, length-append, append-nil, append_assoc}
-use Rattle.std.proofs.lemmas.List.{length-map, map-append}
+use Rattle.std.proofs.Common.{◌≡◌, ℕ, zero, suc, ◌≤◌, Bool, cond, List, [], ◌∷◌, ◌++◌, map, take, length, refl, sym, ap, subst, ◌∙◌, arith, length-append, append-nil, append_assoc}
+use Rattle.std.proofs.lemmas.List.{length-map, map-append, length-take-le}
 use Rattle.gabc_places.specs.declared.code.Finding.{Finding}
 use Rattle.gabc_places.specs.BoundedList.{BoundedList, extended_by}
 use Rattle.gabc_score.specs.declared.score_event.BorrowedSyllable.{BorrowedSyllable}
@@ -11,6 +11,7 @@ use Rattle.gabc_score.specs.ScoreEvents.{ScoreOutput, Found, Syllable, outputs_o
 use Rattle.gabc_score.specs.ScoreStage.{events_borrowed, events_of, GivesOutputs}
 use Rattle.gabc_score.specs.Syllable.{PlacedSyllable}
 use Rattle.gabc_score.specs.machine.SlotPair.{lent_of}
+use Rattle.gabc_score.proofs.score_events.WhatOutputsSay.{given_syllables}
 
 abbrev pub found_events : List Finding → List ScoreEvent
 found_events fs = map (λ (f : Finding). event.Found f) fs
@@ -18,10 +19,6 @@ found_events fs = map (λ (f : Finding). event.Found f) fs
 found_lent : (l : BorrowedSyllable) (fs : List Finding) (outputs : List ScoreOutput) → events_borrowed l (map (λ f. Found f) fs ++ outputs) ≡ found_events fs ++ events_borrowed l outputs
 found_lent l [] outputs = refl
 found_lent l (f ∷ fs) outputs = ap (λ es. event.Found f ∷ es) (found_lent l fs outputs)
-
-pub found_syllables : (fs : List Finding) (outputs : List ScoreOutput) → syllables_in (map (λ f. Found f) fs ++ outputs) ≡ syllables_in outputs
-found_syllables [] outputs = refl
-found_syllables (f ∷ fs) outputs = found_syllables fs outputs
 
 module _ (fs : List Finding) (tail : List ScoreOutput) (last : List ScoreEvent) (none : syllables_in tail ≡ []) (last_is : (l : BorrowedSyllable) → events_borrowed l tail ≡ last) (first second : PlacedSyllable) where
   abbrev outs_of : ℕ → List ScoreOutput
@@ -36,37 +33,21 @@ module _ (fs : List Finding) (tail : List ScoreOutput) (last : List ScoreEvent) 
   lent_are (suc (suc zero)) h = ap (λ es. event.Syllable First ∷ event.Syllable Second ∷ es) (last_is Second)
   lent_are (suc (suc (suc n))) h = absurd (omega (arith, h))
 
-  syllables_are : (n : ℕ) → n ≤ 2 → syllables_in (map (λ s. Syllable s) (take n (first ∷ second ∷ [])) ++ tail) ≡ take n (first ∷ second ∷ [])
-  syllables_are zero h = none
-  syllables_are (suc zero) h = ap (λ ss. first ∷ ss) none
-  syllables_are (suc (suc zero)) h = ap (λ ss. first ∷ second ∷ ss) none
-  syllables_are (suc (suc (suc n))) h = absurd (omega (arith, h))
-
-  count_is : (n : ℕ) → n ≤ 2 → length (take n (first ∷ second ∷ [])) ≡ n
-  count_is (suc (suc (suc n))) h = absurd (omega (arith, h))
-  count_is _ h = refl
-
-  lent_count : (n : ℕ) → n ≤ 2 → length (lent_of n) ≡ n
-  lent_count (suc (suc (suc n))) h = absurd (omega (arith, h))
-  lent_count _ h = refl
-
-  all_syllables : (n : ℕ) → n ≤ 2 → syllables_in (outs_of n) ≡ take n (first ∷ second ∷ [])
-  all_syllables n h = ap syllables_in (assoc n) ∙ found_syllables fs _ ∙ syllables_are n h
-
   all_events : (n : ℕ) → n ≤ 2 → events_of (outs_of n) ≡ found_events fs ++ (lent_of n ++ last)
   all_events n h = ap events_of (assoc n) ∙ found_lent First fs _ ∙ ap (λ es. found_events fs ++ es) (lent_are n h)
 
   pub emitted : (n : ℕ) (ss : List PlacedSyllable) → take n (first ∷ second ∷ []) ≡ ss → n ≤ 2 → length fs ≤ 10 → length last ≤ 1 → (old new : BoundedList ScoreEvent)
       → new ≡ extended_by old (found_events fs ++ (lent_of n ++ last)) → GivesOutputs (outputs_of fs ss ++ tail) old new first second
   emitted n ss e h few one old new k =
+      let all = given_syllables fs (take n (first ∷ second ∷ [])) tail none in
       subst (λ ss. GivesOutputs (outputs_of fs ss ++ tail) old new first second) e (record {
         events = k ∙ ap (extended_by old) (sym (all_events n h));
         few = let l = length-append (found_events fs) (lent_of n ++ last) in
             let m = length-append (lent_of n) last in
             let f = length-map fs (λ (f : Finding). event.Found f) in
-            let c = lent_count n h in
+            let c = length-take-le n (event.Syllable First ∷ event.Syllable Second ∷ []) h in
             rw (all_events n h) (omega (arith, l, m, f, c, h, few, one));
-        lent = all_syllables n h ∙ ap (λ k. take k (first ∷ second ∷ [])) (sym (ap length (all_syllables n h) ∙ count_is n h));
+        lent = all ∙ ap (λ k. take k (first ∷ second ∷ [])) (sym (ap length all ∙ length-take-le n (first ∷ second ∷ []) h));
       })
 
 -- without anything after the syllables
@@ -84,12 +65,7 @@ then_more old mid new a b h k = k ∙ ap (λ r. extended_by r b) h ∙ ap (λ xs
 -- what is found at the end stands after what was found before
 pub found_then : (old first second third : BoundedList ScoreEvent) (fs gs hs : List Finding) → first ≡ extended_by old (found_events fs) → second ≡ extended_by first (found_events gs) → third ≡ extended_by second (found_events hs)
     → third ≡ extended_by old (found_events (fs ++ (gs ++ hs)))
-found_then old first second third fs gs hs a b c =
-    then_more old first third (found_events fs) (found_events gs ++ found_events hs) a (then_more first second third (found_events gs) (found_events hs) b c)
-    ∙ ap (extended_by old) (ap (λ es. found_events fs ++ es) (sym (map-append (λ (f : Finding). event.Found f) gs hs)) ∙ sym (map-append (λ (f : Finding). event.Found f) fs (gs ++ hs)))
+found_then old first second third fs gs hs a b c = grind (arith, then_more, map-append)
 
 pub few_at_end : (fs : List Finding) (f g : Finding) (a b : Bool) → length fs ≤ 8 → length (fs ++ (cond a (f ∷ []) [] ++ cond b (g ∷ []) [])) ≤ 10
-few_at_end fs f g true true h = let l = length-append fs (f ∷ g ∷ []) in omega (arith, h, l)
-few_at_end fs f g true false h = let l = length-append fs (f ∷ []) in omega (arith, h, l)
-few_at_end fs f g false true h = let l = length-append fs (g ∷ []) in omega (arith, h, l)
-few_at_end fs f g false false h = let l = length-append {A = Finding} fs [] in omega (arith, h, l)
+few_at_end fs f g a b h = grind (arith, length-append)

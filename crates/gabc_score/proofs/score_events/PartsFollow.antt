@@ -1,5 +1,5 @@
 -- Where a machine stands after what it gives.
-use Rattle.std.proofs.Common.{◌≡◌, ◌⊎◌, inl, inr, ◌||◌, Bool, true, false, List, [], ◌∷◌, ◌++◌, refl, ap, sym, ◌∙◌}
+use Rattle.std.proofs.Common.{◌≡◌, ◌⊎◌, ◌||◌, Bool, true, false, List, [], ◌∷◌, ◌++◌, refl, ap, ◌∙◌, arith}
 use Rattle.std.proofs.Math.Bool.{or-true}
 use Rattle.std.specs.List.{list_any}
 use Rattle.gabc_places.specs.declared.code.Finding.{Finding}
@@ -12,8 +12,7 @@ use Rattle.gabc_score.specs.Syllable.{PlacedSyllable}
 
 -- it is one of the others
 pub outside : (p : ScorePart) → (p ≡ score_part.Heads) ⊎ (p ≡ score_part.Over) → p ≡ score_part.Body → ⊥
-outside p (inl e) f = cc (sym e ∙ f)
-outside p (inr e) f = cc (sym e ∙ f)
+outside p h f = grind arith
 
 -- with a stop or the end after them
 pub last_after : (outputs : List ScoreOutput) (o : ScoreOutput) → is_last o ≡ true → list_any is_last (outputs ++ o ∷ []) ≡ true
@@ -26,16 +25,10 @@ none_is_last [] [] = refl
 none_is_last [] (s ∷ ss) = none_is_last [] ss
 none_is_last (f ∷ fs) ss = none_is_last fs ss
 
-over_by : (x : HeadEvent) (outputs : List ScoreOutput) → list_any is_last outputs ≡ true → score_part.Over ≡ part_past score_part.Body x outputs
-over_by x outputs e = rw e refl
-
-body_by : (x : HeadEvent) (outputs : List ScoreOutput) → list_any is_last outputs ≡ false → score_part.Body ≡ part_past score_part.Body x outputs
-body_by x outputs e = rw e refl
-
 -- in the body a stop or the end leads out of it
 pub leads_out : (part new : ScorePart) (x : HeadEvent) (outputs : List ScoreOutput) (o : ScoreOutput) → part ≡ score_part.Body → new ≡ score_part.Over → is_last o ≡ true → new ≡ part_past part x (outputs ++ o ∷ [])
-leads_out part new x outputs o body over e = over ∙ (over_by x (outputs ++ o ∷ []) (last_after outputs o e) ∙ ap (λ (p : ScorePart). part_past p x (outputs ++ o ∷ [])) (sym body))
+leads_out part new x outputs o body over e = rw (body, over, last_after outputs o e) refl
 
 -- findings and syllables leave it there
 pub stays_inside : (part new : ScorePart) (x : HeadEvent) (fs : List Finding) (ss : List PlacedSyllable) → part ≡ score_part.Body → new ≡ score_part.Body → new ≡ part_past part x (outputs_of fs ss)
-stays_inside part new x fs ss body is = is ∙ (body_by x (outputs_of fs ss) (none_is_last fs ss) ∙ ap (λ (p : ScorePart). part_past p x (outputs_of fs ss)) (sym body))
+stays_inside part new x fs ss body is = rw (body, is, none_is_last fs ss) refl

@@ -1,5 +1,5 @@
 -- A score without what is found beside its body: it has the same book, syllables and fault.
-use Rattle.std.proofs.Common.{◌≡◌, ℕ, List, Result, Ok, Err, refl}
+use Rattle.std.proofs.Common.{◌≡◌, ℕ, List, Result, Ok, Err, arith}
 use Rattle.gabc_places.specs.declared.limits.Limits.{Limits}
 use Rattle.gabc_places.specs.Place.{place_after, placed_characters_after}
 use Rattle.gabc_headers.specs.declared.heads.Heads.{Heads}
@@ -34,11 +34,7 @@ pub record ScoresAlike (r s : Score) : Type 0 where
   pub fault : r.fault ≡ s.fault
 
 pub alike_by : (limits : Limits) (ending : InputEnding) (t : List ℕ) (r : Result Heads HeadFault) → ScoresAlike (score_by limits ending t r) (plain_by limits ending t r)
-alike_by limits ending t (Err stop) = record { book = refl; syllables = refl; fault = refl }
-alike_by limits ending t (Ok heads) =
-    let xs = placed_characters_after (heads_text t) (after_heads t) in
-    let s = body_alike limits (bytes_len (canonical_heads heads.book)) heads.findings (place_after t) ending xs (body_events (nabc_lines_of heads.book) (macros_of heads.book) xs) in
-    record { book = refl; syllables = s.syllables; fault = s.fault }
+alike_by limits ending t r = grind (arith, body_alike)
 
 pub alike : (limits : Limits) (ending : InputEnding) (t : List ℕ) → ScoresAlike (score_of limits ending t) (plain_of limits ending t)
 alike limits ending t = alike_by limits ending t (heads_of limits t)

@@ -1,5 +1,5 @@
 -- What a score emits says what the score says.
-use Rattle.std.proofs.Common.{◌≡◌, ℕ, ◌+◌, ◌||◌, Bool, true, false, cond, List, [], ◌∷◌, ◌++◌, map, Option, Some, None, Result, Ok, Err, option_map, refl, sym, ap, ◌∙◌, ◌⊎◌, inl, inr, append-nil, take-append-drop}
+use Rattle.std.proofs.Common.{◌≡◌, ℕ, ◌+◌, ◌||◌, Bool, false, cond, List, [], ◌∷◌, ◌++◌, map, Option, Some, None, Result, Ok, Err, refl, sym, ap, ◌∙◌, ◌⊎◌, inl, inr, append-nil, take-append-drop, arith}
 use Rattle.gabc_places.specs.StageLaw.{concat_of}
 use Rattle.gabc_places.proofs.PlacesOfAText.{placed_after, after_joined}
 use Rattle.gabc_places.specs.Place.{next_place, place_after, place_past, placed_characters_from, placed_characters_after}
@@ -22,12 +22,12 @@ use Rattle.gabc_score.specs.declared.body_result.BodyResult.{BodyResult}
 use Rattle.gabc_score.specs.declared.ending.InputEnding.{InputEnding}
 use Rattle.gabc_score.specs.declared.ending.InputEnding.TheVariants.{Whole}
 use Rattle.gabc_score.specs.declared.score.Score.{Score}
-use Rattle.gabc_score.specs.Body.{fault_at, code_by, events_to_stop, events_onto, result_by_fault, result_by}
+use Rattle.gabc_score.specs.Body.{code_by, events_to_stop, result_by}
 use Rattle.gabc_score.specs.Events.{Texts, InComment, events_from, texts_by_definition, body_events}
 use Rattle.gabc_score.specs.NoteBeforeClef.{with_first_each, score_events}
 use Rattle.gabc_score.specs.Score.{heads_text, after_heads, head_fault_by, score_by, score_of}
 use Rattle.gabc_score.specs.SyllablesOfUnits.{body_characters}
-use Rattle.gabc_score.specs.ScoreEvents.{ScoreOutput, Found, Stop, characters_in, body_outputs, first_place, score_outputs, ending_events, stop_events, head_events_by, outputs_of_text, findings_in, syllables_in, fault_in, has_end, is_whole}
+use Rattle.gabc_score.specs.ScoreEvents.{ScoreOutput, Found, characters_in, body_outputs, first_place, score_outputs, ending_events, stop_events, head_events_by, outputs_of_text, findings_in, syllables_in, fault_in, has_end, is_whole}
 use Rattle.gabc_score.proofs.building.EndOfBody.{none_longer}
 use Rattle.gabc_score.proofs.building.OneListEachCharacter.{events_each}
 use Rattle.gabc_score.proofs.score_events.BodyOutputs.{Says, end_place, body_says, no_end}
@@ -69,11 +69,7 @@ module _ (limits : Limits) (head lines macros : ℕ) (found : List Finding) wher
 
   -- of a body without a character it is no matter where its end is
   anywhere : (ending : InputEnding) (at other : Place) → result_to ending [] at ≡ result_to ending [] other
-  anywhere Whole at other = to at ∙ sym (to other)
-    where
-      to : (p : Place) → result_to Whole [] p ≡ record { syllables = []; findings = found ++ []; fault = None }
-      to p = ap (λ c. result_by_fault found p [] (events_onto (concat_of (score_events lines macros [])) []) (option_map (fault_at p) c)) none_passed
-  anywhere _ at other = refl
+  anywhere ending at other = grind (arith, none_passed)
 
   pub at_the_end : (ending : InputEnding) (prefix cs : List ℕ) (xs : List Char) → xs ≡ placed_characters_after prefix cs → (at : Place)
       → result_to ending xs (end_place at xs) ≡ result_to ending xs (place_after (prefix ++ cs))
@@ -119,26 +115,16 @@ module _ (limits : Limits) (ending : InputEnding) (t : List ℕ) (h : Heads) whe
       by : {w : BodyResult} → Says (h.findings ++ []) [] ending (body_from xs) w
           → said_before h.findings [] (said_by (body_from xs)) ≡ said_of_body ending w
       by {w = w} s =
-          ap (said_before h.findings []) s.result_is
-          ∙ ap (λ ss. record { findings = h.findings ++ s.findings; syllables = ss; fault = w.fault; ended = is_whole ending w.fault }) (sym s.syllables)
-          ∙ ap (λ fs. record { findings = fs; syllables = w.syllables; fault = w.fault; ended = is_whole ending w.fault })
-          (sym (s.all_findings ∙ ap (λ fs. fs ++ s.findings) (append-nil h.findings)))
+          ap (said_before h.findings []) s.result_is ∙ rw (s.syllables, s.all_findings, append-nil) refl
 
 -- what stops the headers
 stopped_says : (limits : Limits) (ending : InputEnding) (fs : List Finding) (o : Option Fault) → is_whole ending o ≡ false
     → said_by (concat_of (score_outputs texts_by_definition limits (map (λ f. head_event.Found f) fs ++ stop_events o))) ≡ record { findings = fs; syllables = []; fault = o; ended = is_whole ending o }
-stopped_says limits ending fs None e =
-    ap said_by (found_heads texts_by_definition limits fs []) ∙ found_first fs []
-    ∙ ap (λ gs. record { findings = gs; syllables = []; fault = None; ended = false }) (append-nil fs) ∙ ap (λ b. record { findings = fs; syllables = []; fault = None; ended = b }) (sym e)
-stopped_says limits ending fs (Some fault) e =
-    ap said_by (found_heads texts_by_definition limits fs (head_event.Stop fault ∷ [])) ∙ found_first fs (Stop fault ∷ [])
-    ∙ ap (λ gs. record { findings = gs; syllables = []; fault = Some fault; ended = false }) (append-nil fs) ∙ ap (λ b. record { findings = fs; syllables = []; fault = Some fault; ended = b }) (sym e)
+stopped_says limits ending fs o e = grind (arith, found_heads, found_first, append-nil)
 
 -- headers that are stopped at the end are not whole
 not_whole : (ending : InputEnding) (at_end : Bool) (fault : Fault) → is_whole ending (head_fault_by ending at_end fault) ≡ false
-not_whole ending false fault = no_end ending fault
-not_whole Whole true fault = refl
-not_whole _ true fault = refl
+not_whole ending at_end fault = grind (arith, no_end)
 
 module _ (limits : Limits) (ending : InputEnding) (t : List ℕ) where
   score_says : said_by (outputs_of_text limits ending t) ≡ said_of_score ending (score_of limits ending t)

@@ -1,11 +1,11 @@
 -- The kept texts that were gathered are texts of an input, if each character is one of it.
-use Rattle.std.proofs.Common.{◌≡◌, ◌⊎◌, inl, inr, ℕ, zero, suc, ◌+◌, ◌-◌, ◌≤◌, ◌<◌, nat_lt, Bool, true, false, cond, List, [], ◌∷◌, ◌++◌, take, drop, length, encode_utf8, refl, sym, ap, subst, ◌∙◌, arith, append-nil}
+use Rattle.std.proofs.Common.{◌≡◌, ℕ, zero, suc, ◌+◌, ◌-◌, ◌≤◌, ◌<◌, nat_lt, Bool, true, false, List, [], ◌∷◌, ◌++◌, take, drop, length, encode_utf8, refl, sym, ap, subst, ◌∙◌, arith, append-nil}
 use Rattle.std.proofs.lemmas.Bool.Decides.{nat_tests}
 use Rattle.std.specs.Char.{IsScalar}
 use Rattle.std.specs.List.{All}
 use Rattle.std.specs.Str.{IsUtf8, IsCharBoundary, chars}
-use Rattle.std.proofs.lemmas.List.{take-append-drop}
-use Rattle.std.proofs.lemmas.List.Elements.{All-nil, All-cons, All-head, All-tail, All-append, All-drop}
+use Rattle.std.proofs.lemmas.List.{take-append-drop, take_all, take_at}
+use Rattle.std.proofs.lemmas.List.Elements.{All-nil, All-cons, All-head, All-tail, All-append, All-drop, All-push, All-take}
 use Rattle.std.proofs.lemmas.Str.{IsUtf8-nil, IsUtf8-append, IsUtf8-encode, IsUtf8-take, chars-append, chars-nil, chars_past_char}
 use Rattle.gabc_text.specs.declared.text_event.TextEnd.TheVariants as text_end
 use Rattle.gabc_text.specs.declared.text_event.TextEvent.TheVariants as text
@@ -21,6 +21,7 @@ use Rattle.gabc_score.specs.machine.Gatherer.{Gathered, with_event, with_snippet
 use Rattle.gabc_score.specs.machine.PartOnly.{HasText, HoldsTexts, IsKeptOf, kept_codes}
 use Rattle.gabc_score.specs.machine.ScoreStage.{with_held}
 use Rattle.gabc_score.specs.machine.SyllableBuilder.{made_from}
+use Rattle.std.proofs.lemmas.Bool.{cond_both}
 
 -- ---- bytes of a text
 
@@ -43,71 +44,49 @@ seam_boundary [] (suc n) l h = absurd (omega (arith, l))
 seam_boundary (b ∷ bytes) zero l h = (omega arith, λ x y. grind (arith, nat_tests, h, y))
 seam_boundary (b ∷ bytes) (suc n) l h = let k = seam_boundary bytes n (omega (arith, l)) h in (l, λ x y. k.1 (omega (arith, x)) y)
 
-first_part : (xs ys : List ℕ) → All IsPlain (xs ++ ys) → All IsPlain xs
-first_part [] ys h = All-nil IsPlain
-first_part (x ∷ xs) ys h = All-cons IsPlain x xs (All-head IsPlain x (xs ++ ys) h) (first_part xs ys (All-tail IsPlain x (xs ++ ys) h))
-
-long_take : (n : ℕ) (bytes : List ℕ) → length bytes < n → take n bytes ≡ bytes
-long_take zero bytes l = absurd (omega (arith, l))
-long_take (suc n) [] l = refl
-long_take (suc n) (b ∷ bytes) l = ap (λ (t : List ℕ). b ∷ t) (long_take n bytes (omega (arith, l)))
-
 pub plain_take : (n : ℕ) (bytes : List ℕ) → is_seam (drop n bytes) ≡ true → IsText bytes → IsText (take n bytes)
 plain_take n bytes seam h = by (nat_lt (length bytes) n) refl
   where
     by : (b : Bool) → nat_lt (length bytes) n ≡ b → IsText (take n bytes)
-    by true e = subst IsText (sym (long_take n bytes (grind (arith, nat_tests, e)))) h
+    by true e = subst IsText (sym (take_all n bytes (grind (arith, nat_tests, e)))) h
     by false e =
         let u : IsUtf8 (take n bytes) = IsUtf8-take bytes n h.utf8 (seam_boundary bytes n (grind (arith, nat_tests, e)) seam) in
         record {
           utf8 = u;
-          plain = first_part (chars (take n bytes)) (chars (drop n bytes))
-              (subst (All IsPlain) (ap chars (sym (take-append-drop n bytes)) ∙ chars-append (take n bytes) (drop n bytes) u) h.plain);
+          plain = subst (All IsPlain) (take_at (chars (take n bytes)) (chars (drop n bytes)) _ refl)
+              (All-take IsPlain (length (chars (take n bytes))) _ (subst (All IsPlain) (ap chars (sym (take-append-drop n bytes)) ∙ chars-append (take n bytes) (drop n bytes) u) h.plain));
         }
 
 pub plain_prefix : (n : ℕ) (bytes : List ℕ) → IsText bytes → IsText (prefix_of n bytes)
-plain_prefix n bytes h = by (is_seam (drop n bytes)) refl
-  where
-    by : (b : Bool) → is_seam (drop n bytes) ≡ b → IsText (cond b (take n bytes) bytes)
-    by true e = plain_take n bytes e h
-    by false e = h
+plain_prefix n bytes h = cond_both (is_seam (drop n bytes)) (take n bytes) bytes IsText (λ e. plain_take n bytes e h) (λ e. h)
 
 -- ---- what was gathered
 
 ascii : (c : ℕ) → 32 ≤ c → c < 127 → IsTextCharacter c
 ascii c l h = record { scalar = grind (arith, nat_tests, l, h); plain = (λ e. absurd (omega (arith, e, l)), λ e. absurd (omega (arith, e, h))) }
 
-pub plain_all : (g : Gathered) (now : List BodyEvent) → All IsTextCharacter (kept_codes now) → HoldsTexts g → HoldsTexts (with_all g now)
-plain_all g [] e h = h
-plain_all g (event.Text (text.Kept c) ∷ now) e h =
-    plain_all (with_event g (event.Text (text.Kept c))) now (All-tail IsTextCharacter c.c (kept_codes now) e) (plain_more g.builder.kept c.c (All-head IsTextCharacter c.c (kept_codes now) e) h.0, h.1)
-plain_all g (event.Text (text.Part part.WordStart) ∷ now) e h = plain_all (with_event g (event.Text (text.Part part.WordStart))) now e h
-plain_all g (event.Text (text.Part (part.Piece p)) ∷ now) e h = plain_all (with_event g (event.Text (text.Part (part.Piece p)))) now e h
-plain_all g (event.Text (text.Part (part.Centre x)) ∷ now) e h = plain_all (with_event g (event.Text (text.Part (part.Centre x)))) now e h
-plain_all g (event.Text (text.Part (part.Translation x)) ∷ now) e h = plain_all (with_event g (event.Text (text.Part (part.Translation x)))) now e h
-plain_all g (event.Text (text.Ended text_end.Notes) ∷ now) e h = plain_all (with_event g (event.Text (text.Ended text_end.Notes))) now e (plain_more g.builder.kept 40 (ascii 40 (omega arith) (omega arith)) h.0, h.1)
-plain_all g (event.Text (text.Ended (text_end.Cut p)) ∷ now) e h = plain_all (with_event g (event.Text (text.Ended (text_end.Cut p)))) now e h
-plain_all g (event.Notes line (note.Kept c) ∷ now) e h =
-    plain_all (with_event g (event.Notes line (note.Kept c))) now (All-tail IsTextCharacter c.c (kept_codes now) e) (plain_more g.builder.kept c.c (All-head IsTextCharacter c.c (kept_codes now) e) h.0, h.1)
-plain_all g (event.Notes line (note.Ended note_end.Next n) ∷ now) e h =
-    plain_all (with_event g (event.Notes line (note.Ended note_end.Next n))) now e
-    (plain_more (prefix_of (g.builder.from + n) g.builder.kept) 124 (ascii 124 (omega arith) (omega arith)) (plain_prefix (g.builder.from + n) g.builder.kept h.0), h.1)
-plain_all g (event.Notes line (note.Ended note_end.Close n) ∷ now) e h =
+-- an event more
+plain_one : (g : Gathered) (t : BodyEvent) (now : List BodyEvent) → All IsTextCharacter (kept_codes (t ∷ now)) → HoldsTexts g → HoldsTexts (with_event g t) × All IsTextCharacter (kept_codes now)
+plain_one g (event.Text (text.Kept c)) now e h = ((plain_more g.builder.kept c.c (All-head IsTextCharacter c.c (kept_codes now) e) h.0, h.1), All-tail IsTextCharacter c.c (kept_codes now) e)
+plain_one g (event.Text (text.Part part.WordStart)) now e h = (h, e)
+plain_one g (event.Text (text.Ended text_end.Notes)) now e h = ((plain_more g.builder.kept 40 (ascii 40 (omega arith) (omega arith)) h.0, h.1), e)
+plain_one g (event.Notes line (note.Kept c)) now e h = ((plain_more g.builder.kept c.c (All-head IsTextCharacter c.c (kept_codes now) e) h.0, h.1), All-tail IsTextCharacter c.c (kept_codes now) e)
+plain_one g (event.Notes line (note.Ended note_end.Next n)) now e h =
+    ((plain_more (prefix_of (g.builder.from + n) g.builder.kept) 124 (ascii 124 (omega arith) (omega arith)) (plain_prefix (g.builder.from + n) g.builder.kept h.0), h.1), e)
+plain_one g (event.Notes line (note.Ended note_end.Close n)) now e h =
     let u = with_snippet g line n 41 in
     let kept : IsText u.builder.kept = plain_more (prefix_of (g.builder.from + n) g.builder.kept) 41 (ascii 41 (omega arith) (omega arith)) (plain_prefix (g.builder.from + n) g.builder.kept h.0) in
-    plain_all (with_event g (event.Notes line (note.Ended note_end.Close n))) now e
-    (nothing_plain, All-append HasText g.made (made_from u.builder u.eu u.nlba ∷ []) h.1 (All-cons HasText (made_from u.builder u.eu u.nlba) [] kept (All-nil HasText)))
-plain_all g (event.Notes line (note.Ended (note_end.Cut p) n) ∷ now) e h = plain_all (with_event g (event.Notes line (note.Ended (note_end.Cut p) n))) now e h
-plain_all g (_ ∷ now) e h = plain_all g now e h
+    ((nothing_plain, All-push HasText g.made (made_from u.builder u.eu u.nlba) h.1 kept), e)
+plain_one g _ now e h = (h, e)
+
+pub plain_all : (g : Gathered) (now : List BodyEvent) → All IsTextCharacter (kept_codes now) → HoldsTexts g → HoldsTexts (with_all g now)
+plain_all g [] e h = h
+plain_all g (t ∷ now) e h = let one = plain_one g t now e h in plain_all (with_event g t) now one.1 one.0
 
 -- what is kept of a character of a text is one
 pub of_character : (c : ℕ) (ds : List ℕ) → IsTextCharacter c → All (IsKeptOf c) ds → All IsTextCharacter ds
 of_character c [] is h = All-nil IsTextCharacter
-of_character c (d ∷ ds) is h = All-cons IsTextCharacter d ds (by (All-head (IsKeptOf c) d ds h)) (of_character c ds is (All-tail (IsKeptOf c) d ds h))
-  where
-    by : (d ≡ c) ⊎ (d ≡ 32) → IsTextCharacter d
-    by (inl e) = subst IsTextCharacter (sym e) is
-    by (inr e) = subst IsTextCharacter (sym e) (ascii 32 (omega arith) (omega arith))
+of_character c (d ∷ ds) is h = grind (arith, of_character c ds is (All-tail (IsKeptOf c) d ds h), All-cons, All-head, All-tail, ascii)
 
 pub plain_held : (h : Gathered) → HoldsTexts h → HoldsTexts (with_held h)
 plain_held h t = (t.0, All-drop HasText (length h.made - 1) h.made t.1)

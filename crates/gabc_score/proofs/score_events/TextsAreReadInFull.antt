@@ -1,5 +1,5 @@
 -- Of what a stage of headers gives of a text no count reaches its last value, and its texts are read as their definition says.
-use Rattle.std.proofs.Common.{◌≡◌, ℕ, ◌+◌, ◌<◌, ◌≤◌, ◌^◌, List, [], ◌∷◌, ◌++◌, length, map, Option, Some, None, Result, Ok, Err, refl, sym, ap, subst, ◌∙◌, arith}
+use Rattle.std.proofs.Common.{◌≡◌, ℕ, ◌+◌, ◌<◌, ◌≤◌, ◌^◌, List, [], ◌∷◌, ◌++◌, length, map, Option, Result, Ok, refl, ap, subst, arith}
 use lib.Utf8.{encodes}
 use Rattle.gabc_places.proofs.PlacesOfAText.{placed_after}
 use Rattle.gabc_places.specs.Place.{place_after, placed_characters_from}
@@ -11,7 +11,6 @@ use Rattle.gabc_headers.specs.declared.heads.Heads.{Heads}
 use Rattle.gabc_headers.specs.declared.heads.HeadFault.{HeadFault}
 use Rattle.gabc_headers.specs.declared.head_event.HeadEvent.{HeadEvent}
 use Rattle.gabc_headers.specs.declared.head_event.HeadEvent.TheVariants as head_event
-use Rattle.gabc_headers.specs.Book.{nabc_lines_of, macros_of}
 use Rattle.gabc_headers.specs.Canonical.{header_lines, canonical_heads}
 use Rattle.gabc_headers.specs.HeadEvents.{event_of_book}
 use Rattle.gabc_headers.specs.Heads.{heads_of}
@@ -20,12 +19,10 @@ use Rattle.gabc_text.specs.Events.{CountsFit, events_by_point}
 use Rattle.gabc_text.specs.witness.EventsLeft.{events_left}
 use Rattle.gabc_text.specs.TextStage.{fresh_stage}
 use Rattle.gabc_score.specs.declared.ending.InputEnding.{InputEnding}
-use Rattle.gabc_score.specs.declared.events.BodyEvent.{BodyEvent}
 use Rattle.gabc_score.specs.witness.BodyStage.{texts_by_stage}
 use Rattle.gabc_score.specs.Events.{Texts, InComment, events_from, texts_by_definition}
-use Rattle.gabc_score.specs.NoteBeforeClef.{with_first_each}
-use Rattle.gabc_score.specs.Score.{heads_text, after_heads, head_fault_by}
-use Rattle.gabc_score.specs.ScoreEvents.{ScoreOutput, Found, characters_in, body_outputs, first_place, score_outputs, stop_events, head_events_by, head_events}
+use Rattle.gabc_score.specs.Score.{heads_text, after_heads}
+use Rattle.gabc_score.specs.ScoreEvents.{ScoreOutput, Found, score_outputs, stop_events, head_events_by, head_events}
 use Rattle.gabc_score.specs.ScoreStage.{AreCountsBelow}
 use Rattle.gabc_score.specs.SyllablesOfUnits.{body_characters}
 use Rattle.gabc_score.specs.machine.Collected.{to_come}
@@ -43,8 +40,7 @@ found_below [] xs h = h
 found_below (f ∷ fs) xs h = found_below fs xs h
 
 stop_below : (o : Option Fault) → AreCountsBelow (stop_events o)
-stop_below None = tt
-stop_below (Some fault) = tt
+stop_below o = grind arith
 
 -- two ways to read texts give the same of events that are found
 found_alike : (one other : Texts) (limits : Limits) (fs : List Finding) (xs : List HeadEvent) → score_outputs one limits xs ≡ score_outputs other limits xs
@@ -53,8 +49,7 @@ found_alike one other limits [] xs e = e
 found_alike one other limits (f ∷ fs) xs e = ap (λ (lists : List (List ScoreOutput)). (Found f ∷ []) ∷ lists) (found_alike one other limits fs xs e)
 
 stop_alike : (one other : Texts) (limits : Limits) (o : Option Fault) → score_outputs one limits (stop_events o) ≡ score_outputs other limits (stop_events o)
-stop_alike one other limits None = refl
-stop_alike one other limits (Some fault) = refl
+stop_alike one other limits o = grind arith
 
 -- ---- the body
 
@@ -70,10 +65,7 @@ module _ (limits : Limits) (ending : InputEnding) (t : List ℕ) (few : length (
 
   below_by : (short : (heads : Heads) → heads_of limits t ≡ Ok heads → bytes_len (canonical_heads heads.book) + 1 ≤ limits.input) (r : Result Heads HeadFault) → heads_of limits t ≡ r
       → AreCountsBelow (head_events_by ending t r)
-  below_by short (Ok heads) e =
-      let most = limits.in_range.input_most in
-      found_below heads.findings (event_of_book heads.book ∷ to_come ending (body_characters t)) (omega (arith, short heads e, most), body_below)
-  below_by short (Err stop) e = found_below stop.findings (stop_events (head_fault_by ending stop.at_end stop.fault)) (stop_below (head_fault_by ending stop.at_end stop.fault))
+  below_by short r e = grind (arith, found_below, body_below, stop_below)
 
   pub text_below : ((limits : Limits) (t : List ℕ) (heads : Heads) → heads_of limits t ≡ Ok heads → (bytes_len (header_lines heads.book) ≤ limits.header) × (bytes_len (canonical_heads heads.book) + 1 ≤ limits.input))
       → AreCountsBelow (head_events limits ending t)
@@ -86,18 +78,10 @@ module _ (limits : Limits) (ending : InputEnding) (t : List ℕ) (few : length (
         (same_emitted step lines macros (place_after (heads_text t)) (after_heads t) InComment fits)
 
     heads_alike : (book : List (List ℕ × List ℕ)) → let xs = event_of_book book ∷ to_come ending (body_characters t) in score_outputs texts_by_stage limits xs ≡ score_outputs texts_by_definition limits xs
-    heads_alike book =
-        let xs = to_come ending (body_characters t) in
-        let head = bytes_len (canonical_heads book) in
-        let all : characters_in xs ≡ body_characters t = characters_are ending (body_characters t) in
-        ap (λ (lists : List (List BodyEvent)). [] ∷ body_outputs limits head first_place [] (with_first_each [] (characters_in xs) lists) xs)
-        (ap (events_from texts_by_stage (nabc_lines_of book) (macros_of book) InComment) all
-        ∙ (body_alike (nabc_lines_of book) (macros_of book)
-        ∙ sym (ap (events_from texts_by_definition (nabc_lines_of book) (macros_of book) InComment) all)))
+    heads_alike book = grind (arith, characters_are, body_alike)
 
     alike_by : (r : Result Heads HeadFault) → score_outputs texts_by_stage limits (head_events_by ending t r) ≡ score_outputs texts_by_definition limits (head_events_by ending t r)
-    alike_by (Ok heads) = found_alike texts_by_stage texts_by_definition limits heads.findings (event_of_book heads.book ∷ to_come ending (body_characters t)) (heads_alike heads.book)
-    alike_by (Err stop) = found_alike texts_by_stage texts_by_definition limits stop.findings _ (stop_alike texts_by_stage texts_by_definition limits (head_fault_by ending stop.at_end stop.fault))
+    alike_by r = grind (arith, found_alike, heads_alike, stop_alike)
 
     pub text_alike : score_outputs texts_by_stage limits (head_events limits ending t) ≡ score_outputs texts_by_definition limits (head_events limits ending t)
     text_alike = alike_by (heads_of limits t)

@@ -1,10 +1,9 @@
 -- What a machine reports in the body is within its limits.
-use Rattle.std.proofs.Common.{◌≡◌, ℕ, ◌+◌, ◌-◌, ◌≤◌, ◌<◌, ◌^◌, ◌||◌, ◌==◌, nat_lt, min, Bool, true, false, Option, Some, None, is_some, List, [], ◌∷◌, ◌++◌, cond, length, codes, option_to_list, refl, sym, ◌∙◌, subst, arith, length-append}
+use Rattle.std.proofs.Common.{◌≡◌, ℕ, ◌+◌, ◌-◌, ◌≤◌, ◌<◌, ◌^◌, nat_lt, min, Bool, true, false, Option, None, is_some, List, [], ◌∷◌, length, option_to_list, refl, sym, ◌∙◌, subst, arith, length-append}
 use Rattle.std.specs.Prelude.{IfSome}
 use Rattle.std.proofs.lemmas.Bool.Decides.{nat_tests}
 use Rattle.gabc_places.specs.declared.limits.Limits.{Limits}
 use Rattle.gabc_places.specs.declared.place.Place.{Place}
-use Rattle.gabc_text.specs.Canonical.{canonical_text}
 use Rattle.gabc_text.specs.StageReports as text_tells
 use Rattle.gabc_text.specs.declared.stage.TextStage.{TextStage}
 use Rattle.gabc_text.specs.witness.Keeps as text
@@ -18,9 +17,8 @@ use Rattle.gabc_score.specs.declared.before.Preceding.{Preceding}
 use Rattle.gabc_score.specs.declared.score_machine.ScoreMachine.{ScoreMachine}
 use Rattle.gabc_score.specs.declared.score_machine.ScorePart.{ScorePart}
 use Rattle.gabc_score.specs.declared.score_machine.ScorePart.TheVariants as score_part
-use Rattle.gabc_score.specs.Before.{with_each}
-use Rattle.gabc_score.specs.Canonical.{canonical, translation_text, with_bars}
-use Rattle.gabc_score.specs.ScoreReports.{held_in_body, reading_in_body}
+use Rattle.gabc_score.specs.Canonical.{canonical}
+use Rattle.gabc_score.specs.ScoreReports.{held_in_body}
 use Rattle.gabc_score.specs.Syllable.{UnplacedSyllable}
 use Rattle.gabc_score.specs.ReportedWithin.{HasNoCommentInside, IsHeldWithin, ReportsWithin}
 use Rattle.gabc_score.specs.machine.Gatherer.{Gathered}
@@ -31,15 +29,7 @@ use Rattle.gabc_score.specs.machine.ScoreMachine.{shown, IsInBody}
 
 -- a canonical text has its brackets
 pub canonical_some : (starts : Bool) (m : UnplacedSyllable) → 2 ≤ length (canonical starts m)
-canonical_some starts m =
-    let bars = with_bars m.kept m.snippets in
-    let translation = translation_text m.kept m.text.translation in
-    let text = canonical_text m.text m.kept in
-    let a = length-append (cond starts (10 ∷ []) []) (text ++ (translation ++ (codes "(" ++ (bars ++ codes ")")))) in
-    let b = length-append text (translation ++ (codes "(" ++ (bars ++ codes ")"))) in
-    let c = length-append translation (codes "(" ++ (bars ++ codes ")")) in
-    let d = length-append bars (codes ")") in
-    omega (arith, a, b, c, d)
+canonical_some starts m = simp length-append (omega arith)
 
 -- a sum that is below the limit has not saturated
 sum_below : (a n total input : ℕ) → total ≡ min (a + min n (2 ^ 64 - 1)) (2 ^ 64 - 1) → total < input → input ≤ 4294967295 → a + n < input
@@ -48,19 +38,11 @@ sum_below a n total input e h k = grind (arith, nat_tests)
 module _ (limits : Limits) (p : Preceding) (g : Gathered) (preceded : IsPreceded p g) (within : HoldsWithin limits p g) (few : length g.made ≤ 1) where
   held_by : (ms : List UnplacedSyllable) → g.made ≡ ms → IfSome (held_in_body score_part.Body ms) (IsHeldWithin limits p)
   held_by [] is = tt
-  held_by (m ∷ []) is =
-      let w = subst (λ (ms : List UnplacedSyllable). HoldsWithin limits p (record g { made = ms })) is (record { written = within.written; file = within.file; outset = within.outset }) in
-      record {
-        some = canonical_some ((p.syllables == 0) || m.text.word_start) m;
-        short = w.written.0;
-        file = sum_below p.canonical (length (canonical ((p.syllables == 0) || m.text.word_start) m)) g.total limits.input
-            (subst (λ (ms : List UnplacedSyllable). g.total ≡ (with_each p ms).canonical) is preceded.total) (w.file refl) limits.in_range.input_most;
-      }
+  held_by (m ∷ []) is = grind (arith, canonical_some, sum_below)
   held_by (m ∷ n ∷ ms) is = absurd (subst (λ (ms : List UnplacedSyllable). length ms ≤ 1 → ⊥) (sym is) (λ l. omega (arith, l)) few)
 
 is_none : (o : Option Place) → is_some o ≡ false → o ≡ None
-is_none None e = refl
-is_none (Some p) e = absurd (cc e)
+is_none o e = grind arith
 
 -- No comment is open inside an inner opener: in a text, where one is open, nothing else is, and a snippet of GABC has an opener only inside raw.
 pub no_comment_inside : ((s : TextStage) (k : List ℕ) → text.Keeps s k → is_some (text_tells.opener_of s) ≡ text.is_open_after_text k)
@@ -77,18 +59,8 @@ no_comment_inside text_opener text_comment text_apart opener comment lines macro
 no_comment_inside text_opener text_comment text_apart opener comment lines macros _ parts h open_is = refl
 
 pub tells_in_body : (m : ScoreMachine) → m.part ≡ score_part.Body → IsInBody m → length m.pair.gathered.made ≤ 1 → HasNoCommentInside m.body.part → ReportsWithin (shown m)
-tells_in_body m body h few comment = record {
-  reading = subst (λ (k : ScorePart). length (reading_in_body k m.pair.gathered.builder.kept) ≤ m.limits.syllable) (sym body) h.kept;
-  held = subst (λ (k : ScorePart). IfSome (held_in_body k m.pair.gathered.made) (IsHeldWithin m.limits m.bounds.before)) (sym body) (held_by m.limits m.bounds.before m.pair.gathered h.preceded h.within few m.pair.gathered.made refl);
-  outset = h.within.outset;
-  comment = comment;
-}
+tells_in_body m body h few comment = grind (arith, held_by)
 
 -- those that were made are the one that is held
 pub held_made : (p : ScorePart) (made : List UnplacedSyllable) → p ≡ score_part.Body → length made ≤ 1 → length made ≡ length (option_to_list (held_in_body p made))
-held_made p made body few = subst (λ (k : ScorePart). length made ≡ length (option_to_list (held_in_body k made))) (sym body) (by made few)
-  where
-    by : (ms : List UnplacedSyllable) → length ms ≤ 1 → length ms ≡ length (option_to_list (held_in_body score_part.Body ms))
-    by [] h = refl
-    by (m ∷ []) h = refl
-    by (m ∷ n ∷ ms) h = absurd (omega (arith, h))
+held_made p made body few = grind arith

@@ -41,7 +41,7 @@ use Rattle.gabc_score.specs.machine.BodyBuilder.{with_all}
 use Rattle.gabc_score.specs.machine.Gatherer.{Gathered}
 use Rattle.gabc_score.specs.machine.PartKeeps.{IsReading}
 use Rattle.gabc_score.specs.machine.PartMakes.{PartLaws, FollowEach, HoldUnits, PartMakes, characters_of}
-use Rattle.gabc_score.specs.machine.ScoreMachine.{IsShort, IsScoreAt}
+use Rattle.gabc_score.specs.machine.ScoreMachine.{IsScoreAt}
 use Rattle.gabc_score.specs.machine.ScoreStage.{placed_after, with_held}
 use Rattle.gabc_score.proofs.holding.SnippetsAreHeld.{bytes_are_size}
 use Rattle.gabc_score.proofs.score_events.FewAndShortAreLent.{short_within}
@@ -61,10 +61,7 @@ pub units_past : (lines macros l : ℕ) (before : BodyPart) (p passed : Precedin
     → g ≡ with_all was now → turned ≡ with_held g → l ≡ lines → spans ≡ (with_each p was.made).spans → passed ≡ with_placed p (take (length g.made - 1) (placed_after has_lent g.made))
     → PartMakes lines macros before now → IsReading lines macros before spans was → HoldUnits lines p was.made → HoldUnits l passed turned.made
 unfolding PartMakes HoldUnits
-units_past lines macros l before p passed spans has_lent was g turned now fits is turn same after given makes r h =
-    subst (λ (k : Gathered). HoldUnits l passed k.made) (sym turn)
-    (subst (λ (k : ℕ). HoldUnits k passed (with_held g).made) (sym same)
-    (subst (λ (k : Preceding). HoldUnits lines k (with_held g).made) (sym given) held))
+units_past lines macros l before p passed spans has_lent was g turned now fits is turn same after given makes r h = rw (turn, same, given) held
   where
     all : HoldUnits lines p g.made
     all = subst (λ (k : Gathered). HoldUnits lines p k.made) (sym is) (makes p was fits (subst (λ (k : Spans). IsReading lines macros before k was) after r) h)
@@ -75,34 +72,25 @@ units_past lines macros l before p passed spans has_lent was g turned now fits i
       follow = follow_dropped (length g.made - 1) (not has_lent) p g.made (all laws).follow;
     }
 
+-- what holds of those that were made holds of the one that is held
+held_one : (P : UnplacedSyllable → Type 0) (made : List UnplacedSyllable) → All P made → IfSome (held_in_body score_part.Body made) P
+held_one P [] a = tt
+held_one P (s ∷ made) a = All-head P s made a
+
 -- so of what a machine shows as held
 pub held_unit : (m : ScoreMachine) (p : ScorePart) → IsScoreAt p m → PartLaws → IfSome (held_in_body p m.pair.gathered.made) (HoldsSomeUnit m.body.nabc_lines)
 unfolding HoldUnits
-held_unit m score_part.Body h laws = by m.pair.gathered.made (h.units laws).units
-  where
-    by : (made : List UnplacedSyllable) → All (HoldsSomeUnit m.body.nabc_lines) made → IfSome (held_in_body score_part.Body made) (HoldsSomeUnit m.body.nabc_lines)
-    by [] a = tt
-    by (s ∷ made) a = All-head (HoldsSomeUnit m.body.nabc_lines) s made a
+held_unit m score_part.Body h laws = held_one (HoldsSomeUnit m.body.nabc_lines) m.pair.gathered.made (h.units laws).units
 held_unit m _ h laws = tt
 
 -- its spans follow from those before it
 pub held_follows : (m : ScoreMachine) (p : ScorePart) → IsScoreAt p m → PartLaws → IfSome (held_in_body p m.pair.gathered.made) (FollowsSpans m.bounds.before.spans)
 unfolding HoldUnits FollowEach
-held_follows m score_part.Body h laws = by m.pair.gathered.made (h.units laws).follow
-  where
-    by : (made : List UnplacedSyllable) → FollowEach m.bounds.before made → IfSome (held_in_body score_part.Body made) (FollowsSpans m.bounds.before.spans)
-    by [] f = tt
-    by (s ∷ made) f = f.0
-held_follows m _ h laws = tt
+held_follows m p h laws = grind arith
 
 -- and it is within the limits
 pub held_within : (m : ScoreMachine) (p : ScorePart) → IsScoreAt p m → IfSome (held_in_body p m.pair.gathered.made) (IsWithinAnywhere m.limits)
-held_within m score_part.Body h = by m.pair.gathered.made h.rests.short
-  where
-    by : (made : List UnplacedSyllable) → All (IsShort m.limits.syllable) made → IfSome (held_in_body score_part.Body made) (IsWithinAnywhere m.limits)
-    by [] a = tt
-    by (s ∷ made) a = λ position. short_within m.limits position s (All-head (IsShort m.limits.syllable) s made a)
-held_within m _ h = tt
+held_within m p h = grind (arith, short_within, All-head)
 
 -- ---- the laws
 

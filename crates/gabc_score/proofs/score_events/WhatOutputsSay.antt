@@ -1,5 +1,5 @@
 -- What outputs say, one after the other.
-use Rattle.std.proofs.Common.{◌≡◌, List, [], ◌∷◌, ◌++◌, Bool, map, Option, refl, ap, ◌∙◌, append_assoc}
+use Rattle.std.proofs.Common.{◌≡◌, List, [], ◌∷◌, ◌++◌, Bool, map, Option, refl, ap, ◌∙◌, append_assoc, append-nil}
 use Rattle.gabc_places.specs.declared.code.Fault.{Fault}
 use Rattle.gabc_places.specs.declared.code.Finding.{Finding}
 use Rattle.gabc_score.specs.Syllable.{PlacedSyllable}
@@ -29,7 +29,10 @@ found_first (f ∷ fs) outputs = ap (λ (s : Said). record s { findings = f ∷ 
 
 -- findings and syllables come before what is said later
 pub said_of : (fs : List Finding) (ss : List PlacedSyllable) (outputs : List ScoreOutput) → said_by (outputs_of fs ss ++ outputs) ≡ said_before fs ss (said_by outputs)
-said_of fs ss outputs = by (append_assoc (map (λ f. Found f) fs) (map (λ s. Syllable s) ss) outputs)
-  where
-    by : outputs_of fs ss ++ outputs ≡ map (λ f. Found f) fs ++ (map (λ s. Syllable s) ss ++ outputs) → said_by (outputs_of fs ss ++ outputs) ≡ said_before fs ss (said_by outputs)
-    by e = ap said_by e ∙ found_first fs (map (λ s. Syllable s) ss ++ outputs) ∙ ap (said_before fs []) (said_given ss outputs)
+said_of fs ss outputs =
+    ap said_by (append_assoc (map (λ f. Found f) fs) (map (λ s. Syllable s) ss) outputs)
+    ∙ found_first fs (map (λ s. Syllable s) ss ++ outputs) ∙ ap (said_before fs []) (said_given ss outputs)
+
+-- all that are given, where none is given later
+pub given_syllables : (fs : List Finding) (ss : List PlacedSyllable) (tail : List ScoreOutput) → syllables_in tail ≡ [] → syllables_in (outputs_of fs ss ++ tail) ≡ ss
+given_syllables fs ss tail none = ap (λ (s : Said). s.syllables) (said_of fs ss tail) ∙ rw none (append-nil ss)

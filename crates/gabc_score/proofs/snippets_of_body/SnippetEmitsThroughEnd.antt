@@ -1,5 +1,5 @@
 -- What a snippet of either grammar emits through its end.
-use Rattle.std.proofs.Common.{reverse, append-nil, ◌≡◌, ℕ, zero, suc, ◌+◌, ◌-◌, ◌<◌, ◌≤◌, ◌^◌, min, nat_lt, Bool, if◌then◌else◌, List, [], ◌∷◌, ◌++◌, map, refl, sym, ap, subst, ◌∙◌, arith}
+use Rattle.std.proofs.Common.{reverse, append-nil, ◌≡◌, ℕ, zero, suc, ◌-◌, ◌<◌, ◌≤◌, ◌^◌, min, nat_lt, Bool, List, [], ◌∷◌, ◌++◌, map, refl, sym, ap, subst, ◌∙◌, arith, true}
 use Rattle.gabc_places.proofs.NumbersByTests.{suc_eqb}
 use Rattle.gabc_places.specs.StageLaw.{concat_of}
 use Rattle.gabc_places.specs.declared.place.Place.{Place}
@@ -8,6 +8,7 @@ use Rattle.gabc_patterns.specs.LongestItems.{Table, IsSnippet}
 use Rattle.gabc_patterns.specs.Function.{trim}
 use Rattle.gabc_patterns.proofs.FunctionsMeetRelations.{trim_trims}
 use Rattle.gabc_text.specs.Events.{codes_of}
+use Rattle.gabc_notes.specs.Ends.{IsMarkOf}
 use Rattle.gabc_notes.specs.Table.{gabc}
 use Rattle.gabc_notes.specs.declared.stage.NoteEnd.{NoteEnd}
 use Rattle.gabc_notes.specs.declared.stage.NoteEvent.{NoteEvent}
@@ -15,14 +16,14 @@ use Rattle.gabc_notes.specs.declared.stage.NoteEvent.TheVariants as note
 use Rattle.gabc_notes.specs.SnippetRead.{kept_of, ends_of}
 use Rattle.gabc_notes.specs.Events.{kept as gabc_kept, bytes_of, note_events}
 use Rattle.gabc_nabc.specs.Table.{nabc}
-use Rattle.gabc_nabc.specs.Events.{kept_of as nabc_kept, bytes_in, nabc_events as nabc_emitted}
+use Rattle.gabc_nabc.specs.Events.{kept_of as nabc_kept, bytes_in}
 use Rattle.gabc_score.specs.declared.events.BodyEvent.{BodyEvent}
 use Rattle.gabc_score.specs.declared.events.BodyEvent.TheVariants.{Notes}
 use Rattle.gabc_score.specs.Events.{InNotes, note_event, snippet_from}
 use Rattle.gabc_score.specs.Units.{Mark, events_through, Endless, EndsAfter}
 use Rattle.gabc_score.specs.Holding.{IsSnippetOf, kept_on_line}
 use Rattle.gabc_score.proofs.texts_of_body.SeamsOfCharacters.{size, size_append, size_is_sum}
-use Rattle.gabc_score.proofs.snippets_of_body.SnippetsEndAlike.{IsMark, run, Grammar, Marks, EndEmitted, CutEmitted, lists, ended, endless}
+use Rattle.gabc_score.proofs.snippets_of_body.SnippetsEndAlike.{IsMark, is_mark_so, run, Grammar, Marks, EndEmitted, CutEmitted, lists, ended, endless}
 use Rattle.gabc_score.proofs.snippets_of_body.GabcEmitsThroughEnd.{run_gabc, gabc_grammar, emits_lists}
 use Rattle.gabc_score.proofs.snippets_of_body.NabcEmitsThroughEnd.{run_nabc, nabc_grammar, events_lists}
 
@@ -52,9 +53,7 @@ nabc_count : (t : List ℕ) → size t < 2 ^ 63 → bytes_in t ≡ size t
 nabc_count t h = count_exact (size t) (size t) (omega arith) h
 
 prefix_fits : (whole prefix rest : List ℕ) (most : ℕ) → whole ≡ prefix ++ rest → size whole ≤ most → most < 2 ^ 63 → size prefix < 2 ^ 63
-prefix_fits whole prefix rest most h k l =
-    let all : size whole ≡ size prefix + size rest = ap size h ∙ size_append prefix rest in
-    omega arith
+prefix_fits whole prefix rest most h k l = grind (arith, size_append)
 
 module _ {K : Type 0} (table : Table K) (lines line : ℕ) (opened : Place) {S : Type 0} (g : Grammar S) (s : S) where
   -- by the trimmed text
@@ -79,7 +78,7 @@ module _ {K : Type 0} (table : Table K) (lines line : ℕ) (opened : Place) {S :
         few = e.few;
         from = ap (trim table) (sym (ap (λ ks. ks ++ all) none) ∙ e.kept_is) ∙ keeps;
         is_snippet = is (trim table all) t.2;
-        is_mark = e.is_mark;
+        is_mark = is_mark_so g.splits e.how end.c e.is_mark;
         marks = e.marks;
       }
 
@@ -88,6 +87,11 @@ gabc_trims t = let r = trim_trims gabc refl t in (r.rest, r.cut, r.longest.has)
 
 nabc_trims : (t : List ℕ) → (rest : List ℕ) × (t ≡ trim nabc t ++ rest) × IsSnippet nabc (trim nabc t)
 nabc_trims t = let r = trim_trims nabc refl t in (r.rest, r.cut, r.longest.has)
+
+-- where a `|` ends a snippet of a line
+abbrev pub splits_on : ℕ → ℕ → Bool
+splits_on lines zero = nat_lt 0 lines
+splits_on lines (suc line) = true
 
 module _ (lines macros : ℕ) (opened : Place) where
   abbrev split : Bool
@@ -101,9 +105,17 @@ module _ (lines macros : ℕ) (opened : Place) where
   gabc_keeps prefix = ap (λ back. trim gabc (gabc_kept back)) (run_gabc split macros [] prefix ∙ append-nil (reverse prefix))
 
   nabc_part : (line : ℕ) (xs : List Char) → snippet_from lines macros (suc line) opened xs ≡ InNotes (suc line) opened (lists nabc_grammar [] xs)
-  nabc_part line xs =
-      ap (λ b. InNotes (suc line) opened (if b then note_events split macros xs else nabc_emitted xs)) (suc_eqb line)
-      ∙ ap (InNotes (suc line) opened) (events_lists [] xs)
+  nabc_part line xs = grind (arith, suc_eqb, events_lists)
+
+  -- the mark at which a snippet ends
+  pub line_marked : (line : ℕ) (prefix : List Char) (end : Char) (rest : List Char) (mark : Mark) → EndsAfter lines (snippet_from lines macros line opened (prefix ++ end ∷ rest)) prefix mark
+      → (how : NoteEnd) × IsMarkOf (splits_on lines line) how end.c × Marks lines line opened how mark
+  line_marked zero prefix end rest mark h =
+      let e = ended lines 0 opened (gabc_grammar split macros) [] prefix end rest mark refl (subst (λ ls. EndsAfter lines (InNotes 0 opened ls) prefix mark) (emits_are (prefix ++ end ∷ rest)) h) in
+      (e.how, e.is_mark, e.marks)
+  line_marked (suc line) prefix end rest mark h =
+      let e = ended lines (suc line) opened nabc_grammar [] prefix end rest mark refl (subst (λ part. EndsAfter lines part prefix mark) (nabc_part line (prefix ++ end ∷ rest)) h) in
+      (e.how, e.is_mark, e.marks)
 
   -- a snippet that ends at a mark
   pub line_emitted : (line : ℕ) (prefix : List Char) (end : Char) (rest : List Char) (mark : Mark) → size (codes_of prefix) < 2 ^ 63
@@ -123,9 +135,5 @@ module _ (lines macros : ℕ) (opened : Place) where
   -- a snippet that the end of the input cuts
   pub line_cut : (line : ℕ) (last : List Char) → Endless lines (snippet_from lines macros line opened last) last
       → CutEmitted line opened (concat_of (events_through (snippet_from lines macros line opened last) last))
-  line_cut zero last h =
-      subst (λ ls. CutEmitted 0 opened (concat_of (events_through (InNotes 0 opened ls) last))) (sym (emits_are last))
-      (endless lines 0 opened (gabc_grammar split macros) [] last refl (subst (λ ls. Endless lines (InNotes 0 opened ls) last) (emits_are last) h))
-  line_cut (suc line) last h =
-      subst (λ part. CutEmitted (suc line) opened (concat_of (events_through part last))) (sym (nabc_part line last))
-      (endless lines (suc line) opened nabc_grammar [] last refl (subst (λ part. Endless lines part last) (nabc_part line last) h))
+  line_cut zero last h = grind (arith, emits_are, endless)
+  line_cut (suc line) last h = grind (arith, nabc_part, endless)

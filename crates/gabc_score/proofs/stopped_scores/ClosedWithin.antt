@@ -1,18 +1,17 @@
 -- As many syllables are made within some characters as units end within them.
-use Rattle.std.proofs.Common.{◌≡◌, ℕ, zero, suc, ◌+◌, ◌-◌, ◌<◌, ◌≤◌, ◌^◌, nat_lt, Bool, true, false, cond, if◌then◌else◌, Some, None, List, [], ◌∷◌, ◌++◌, length, map, take, sum_by, refl, sym, ap, subst, ◌∙◌, arith, length-append}
+use Rattle.std.proofs.Common.{◌≡◌, ℕ, zero, suc, ◌+◌, ◌-◌, ◌<◌, ◌≤◌, ◌^◌, nat_lt, Bool, false, cond, if◌then◌else◌, Some, None, List, [], ◌∷◌, ◌++◌, length, map, take, sum_by, refl, ap, ◌∙◌, arith, length-append, inl, inr}
 use Rattle.std.specs.List.{list_any}
-use Rattle.std.proofs.lemmas.Bool.{ltb-true, ltb-false}
+use Rattle.std.proofs.lemmas.Bool.{cases_Bool, ltb-true, ltb-false}
+use Rattle.std.proofs.lemmas.Bool.Decides.{nat_tests}
 use Rattle.std.proofs.lemmas.List.{take-append-le}
 use Rattle.std.proofs.lemmas.List.Sums.{sum_by-append, sum_by-cons}
 use Rattle.std.proofs.Math.Seq.{take-append-add}
-use Rattle.gabc_text.proofs.tokens.PrefixBeforeTag.{no_more}
 use Rattle.gabc_places.proofs.PushesAreOne.{joined-append}
 use Rattle.gabc_places.specs.StageLaw.{concat_of}
 use Rattle.gabc_places.specs.declared.place.Place.{Place}
 use Rattle.gabc_places.specs.declared.place.Char.{Char}
 use Rattle.gabc_text.specs.declared.text_event.TextEvent.{TextEvent}
 use Rattle.gabc_text.specs.Events.{codes_of}
-use Rattle.gabc_notes.specs.SnippetRead.{ends_of}
 use Rattle.gabc_notes.specs.declared.stage.NoteEnd.TheVariants as note_end
 use Rattle.gabc_notes.specs.declared.stage.NoteEvent.{NoteEvent}
 use Rattle.gabc_notes.specs.declared.stage.NoteEvent.TheVariants as note
@@ -29,6 +28,7 @@ use Rattle.gabc_score.proofs.snippets_of_body.SnippetEmitsThroughEnd.{LineEmitte
 use Rattle.gabc_score.proofs.units.BodyHasOneCutting.{text_mark}
 use Rattle.gabc_score.proofs.stopped_scores.PrefixesAreReadAlike.{through_length}
 use Rattle.gabc_score.proofs.holding.SyllablesHoldParts.{fits_prefix, fits_back}
+use Rattle.gabc_score.proofs.building.SnippetsTakeCharacters.{none_close}
 
 -- ---- how many syllables are ended
 
@@ -41,31 +41,23 @@ close_count ts = sum_by close_of ts
 count_append : (ts us : List BodyEvent) → close_count (ts ++ us) ≡ close_count ts + close_count us
 count_append ts us = sum_by-append close_of ts us
 
+both_none : (ts us : List BodyEvent) → close_count ts ≡ 0 → close_count us ≡ 0 → close_count (ts ++ us) ≡ 0
+both_none ts us h k = let all : close_count (ts ++ us) ≡ close_count ts + close_count us = count_append ts us in omega arith
+
 pub count_one : (t : BodyEvent) (ts : List BodyEvent) → close_count (t ∷ ts) ≡ close_of t + close_count ts
 count_one t ts = sum_by-cons close_of t ts
 
 -- what ends no syllable, before others
 none_more : (t : BodyEvent) (ts : List BodyEvent) → closes t ≡ false → close_count ts ≡ 0 → close_count (t ∷ ts) ≡ 0
-none_more t ts h k =
-    let here : close_of t ≡ 0 = ap (λ b. cond b 1 0) h in
-    let all : close_count (t ∷ ts) ≡ close_of t + close_count ts = count_one t ts in
-    omega arith
+none_more t ts h k = grind (arith, count_one)
 
 made_one : (t : BodyEvent) (before : List BodyEvent) → length (all_syllables (t ∷ before)) ≡ length (all_syllables before) + close_of t
-made_one t before = by (closes t)
-  where
-    by : (b : Bool) → length (cond b (all_syllables before ++ syllable_by (t ∷ since_close before) (is_eu before) (is_nlba before) ∷ []) (all_syllables before)) ≡ length (all_syllables before) + cond b 1 0
-    by true = length-append (all_syllables before) (syllable_by (t ∷ since_close before) (is_eu before) (is_nlba before) ∷ [])
-    by false = omega arith
+made_one t before = grind (arith, length-append (all_syllables before) (syllable_by (t ∷ since_close before) (is_eu before) (is_nlba before) ∷ []))
 
 -- each `)` makes one more
 pub made_count : (ts before : List BodyEvent) → length (all_syllables (events_onto ts before)) ≡ length (all_syllables before) + close_count ts
 made_count [] before = omega arith
-made_count (t ∷ ts) before =
-    let on : length (all_syllables (events_onto ts (t ∷ before))) ≡ length (all_syllables (t ∷ before)) + close_count ts = made_count ts (t ∷ before) in
-    let one : length (all_syllables (t ∷ before)) ≡ length (all_syllables before) + close_of t = made_one t before in
-    let all : close_count (t ∷ ts) ≡ close_of t + close_count ts = count_one t ts in
-    omega arith
+made_count (t ∷ ts) before = omega (arith, made_count ts (t ∷ before), made_one t before, count_one t ts)
 
 -- ---- of a part
 
@@ -75,22 +67,11 @@ text_count (o ∷ emitted) = none_more (Text o) (map (λ (p : TextEvent). Text p
 
 notes_count : (line : ℕ) (opened : Place) (emitted : List NoteEvent) → list_any is_close emitted ≡ false → close_count (map (note_event line opened) emitted) ≡ 0
 notes_count line opened [] h = refl
-notes_count line opened (note.Kept x ∷ emitted) h = none_more (Notes line (note.Kept x)) (map (note_event line opened) emitted) refl (notes_count line opened emitted h)
-notes_count line opened (note.Found f ∷ emitted) h = none_more (Notes line (note.Found f)) (map (note_event line opened) emitted) refl (notes_count line opened emitted h)
-notes_count line opened (note.Ended note_end.Next n ∷ emitted) h = none_more (Notes line (note.Ended note_end.Next n)) (map (note_event line opened) emitted) refl (notes_count line opened emitted h)
 notes_count line opened (note.Ended note_end.Close n ∷ emitted) h = absurd (cc)
-notes_count line opened (note.Ended (note_end.Cut place) n ∷ emitted) h = none_more (note_event line opened (note.Ended (note_end.Cut place) n)) (map (note_event line opened) emitted) refl (notes_count line opened emitted h)
-
-silent_count : (line : ℕ) (opened : Place) (emitted : List NoteEvent) → ends_of emitted ≡ [] → close_count (map (note_event line opened) emitted) ≡ 0
-silent_count line opened [] h = refl
-silent_count line opened (note.Kept x ∷ emitted) h = none_more (Notes line (note.Kept x)) (map (note_event line opened) emitted) refl (silent_count line opened emitted h)
-silent_count line opened (note.Found f ∷ emitted) h = none_more (Notes line (note.Found f)) (map (note_event line opened) emitted) refl (silent_count line opened emitted h)
-silent_count line opened (note.Ended how n ∷ emitted) h = absurd (cc)
+notes_count line opened (o ∷ emitted) h = none_more (note_event line opened o) (map (note_event line opened) emitted) refl (notes_count line opened emitted h)
 
 none_closes : (a b : Bool) (l : ℕ) (o : Place) → (if a then Some (Next l o) else if b then Some Closes else None) ≡ None → b ≡ false
-none_closes true b l o e = absurd (cc)
-none_closes false true l o e = absurd (cc)
-none_closes false false l o e = refl
+none_closes a b l o e = grind arith
 
 abbrev pub mark_count : Mark → ℕ
 mark_count Closes = 1
@@ -105,10 +86,7 @@ module _ (lines : ℕ) where
       notes_count line opened (first_list lists) (none_closes (list_any is_next (first_list lists)) (list_any is_close (first_list lists)) (next_line lines line) opened h)
 
   more_count : (part : PartAhead) (n : ℕ) (lists : List (List BodyEvent)) → mark_in lines part ≡ None → close_count (concat_of (take n lists)) ≡ 0 → close_count (concat_of (take (suc n) (events_in part ∷ lists))) ≡ 0
-  more_count part n lists h k =
-      let all : close_count (concat_of (take (suc n) (events_in part ∷ lists))) ≡ close_count (events_in part) + close_count (concat_of (take n lists)) = count_append (events_in part) (concat_of (take n lists)) in
-      let here : close_count (events_in part) ≡ 0 = point_count part h in
-      omega arith
+  more_count part n lists h k = both_none (events_in part) (concat_of (take n lists)) (point_count part h) k
 
   -- before its end no syllable ends
   before_end : (part : PartAhead) (prefix : List Char) (mark : Mark) → EndsAfter lines part prefix mark → (n : ℕ) → n ≤ length prefix → close_count (concat_of (take n (events_through part prefix))) ≡ 0
@@ -122,16 +100,10 @@ module _ (lines : ℕ) where
   never_ends part (x ∷ last) h (suc n) k = more_count part n (events_through (part_onward part) last) h.0 (never_ends (part_onward part) last h.1 n (omega (arith, k)))
 
   text_through : (lists : List (List TextEvent)) (prefix : List Char) → close_count (concat_of (events_through (InText lists) prefix)) ≡ 0
-  text_through lists [] =
-      let all : close_count (concat_of (events_through (InText lists) [])) ≡ close_count (map (λ (o : TextEvent). Text o) (first_list lists)) + 0 = count_append (map (λ (o : TextEvent). Text o) (first_list lists)) [] in
-      let here : close_count (map (λ (o : TextEvent). Text o) (first_list lists)) ≡ 0 = text_count (first_list lists) in
-      omega arith
+  text_through lists [] = both_none (map (λ (o : TextEvent). Text o) (first_list lists)) [] (text_count (first_list lists)) refl
   text_through lists (x ∷ prefix) =
       let later = events_through (part_onward (InText lists)) prefix in
-      let all : close_count (concat_of (events_through (InText lists) (x ∷ prefix))) ≡ close_count (map (λ (o : TextEvent). Text o) (first_list lists)) + close_count (concat_of later) = count_append (map (λ (o : TextEvent). Text o) (first_list lists)) (concat_of later) in
-      let here : close_count (map (λ (o : TextEvent). Text o) (first_list lists)) ≡ 0 = text_count (first_list lists) in
-      let on : close_count (concat_of later) ≡ 0 = text_through _ prefix in
-      omega arith
+      both_none (map (λ (o : TextEvent). Text o) (first_list lists)) (concat_of later) (text_count (first_list lists)) (text_through _ prefix)
 
 -- ---- of parts
 
@@ -147,10 +119,7 @@ line_count lines line opened prefix end mark events l =
     let mids = map (note_event line opened) l.mids in
     let last = Notes line (note.Ended l.how (size l.kept)) in
     let all : close_count events ≡ close_count mids + close_count (last ∷ []) = ap close_count l.emitted_are ∙ count_append mids (last ∷ []) in
-    let silent : close_count mids ≡ 0 = silent_count line opened l.mids l.silent in
-    let one : close_count (last ∷ []) ≡ close_of last + close_count [] = count_one last [] in
-    let ends : close_of last ≡ mark_count mark = by mark l.marks in
-    omega arith
+    omega (arith, notes_count line opened l.mids (none_close l.mids 0 0 l.silent), count_one last [], by mark l.marks)
   where
     by : (m : Mark) → Marks lines line opened l.how m → close_of (Notes line (note.Ended l.how (size l.kept))) ≡ mark_count m
     by Opens h = absurd h
@@ -165,19 +134,11 @@ module _ (lines macros : ℕ) where
   IsBegun (InNotes line opened lists) xs = InNotes line opened lists ≡ snippet_from lines macros line opened xs
 
   follows_begun : (mark : Mark) (x : Char) (xs : List Char) → IsBegun (part_following texts_by_definition lines macros mark x xs) xs
-  follows_begun Opens x xs = refl
-  follows_begun (Next line opened) x xs = refl
-  follows_begun Closes x xs = tt
+  follows_begun mark x xs = grind arith
 
   part_count : (part : PartAhead) (prefix : List Char) (end : Char) (rest : List Char) (mark : Mark) → IsBegun part (prefix ++ end ∷ rest) → size (codes_of prefix) < 2 ^ 63
       → EndsAfter lines part prefix mark → close_count (concat_of (events_through part prefix)) ≡ mark_count mark
-  part_count InComment prefix end rest mark b fits h = absurd b
-  part_count (InText lists) prefix end rest Opens b fits h = text_through lines lists prefix
-  part_count (InText lists) prefix end rest (Next k o) b fits h = absurd (text_mark texts_by_definition lines macros lists prefix (Next k o) h)
-  part_count (InText lists) prefix end rest Closes b fits h = absurd (text_mark texts_by_definition lines macros lists prefix Closes h)
-  part_count (InNotes line opened lists) prefix end rest mark b fits h =
-      ap (λ part. close_count (concat_of (events_through part prefix))) b
-      ∙ line_count lines line opened prefix end mark _ (line_emitted lines macros opened line prefix end rest mark fits (subst (λ part. EndsAfter lines part prefix mark) b h))
+  part_count part prefix end rest mark b fits h = grind (arith, text_through, text_mark, line_count, line_emitted)
 
   abbrev lists_of : PartAhead → List CutPart → List Char → List (List BodyEvent)
   lists_of part pieces last = events_of_cutting texts_by_definition lines macros part pieces last
@@ -190,107 +151,44 @@ module _ (lines macros : ℕ) where
       let rest = whole pieces last in
       let next = part_following texts_by_definition lines macros p.mark p.end rest in
       let first = events_through part p.characters in
-      let a = length p.characters in
-      let size_is : length first ≡ suc a = through_length part p.characters in
-      let all : length (p.characters ++ p.end ∷ rest) ≡ a + suc (length rest) = length-append p.characters (p.end ∷ rest) in
+      let more = lists_of next pieces last in
+      let m = n - suc (length p.characters) in
+      let size_is : length first ≡ suc (length p.characters) = through_length part p.characters in
+      let all : length (p.characters ++ p.end ∷ rest) ≡ length p.characters + suc (length rest) = length-append p.characters (p.end ∷ rest) in
       let one = part_count part p.characters p.end rest p.mark b (fits_prefix p.characters (p.end ∷ rest) fits) h.0 in
-      let on = λ (m : ℕ) (few : m ≤ length rest). pieces_count next pieces last (follows_begun p.mark p.end rest) (fits_back (p.end ∷ []) rest (fits_back p.characters (p.end ∷ rest) fits)) h.1 m few in
-      by (nat_lt a n) refl size_is all one on
-    where
-      by : (b : Bool) → nat_lt (length p.characters) n ≡ b → length (events_through part p.characters) ≡ suc (length p.characters)
-          → length (p.characters ++ p.end ∷ whole pieces last) ≡ length p.characters + suc (length (whole pieces last))
-          → close_count (concat_of (events_through part p.characters)) ≡ mark_count p.mark
-          → ((m : ℕ) → m ≤ length (whole pieces last) → close_count (concat_of (take m (lists_of (part_following texts_by_definition lines macros p.mark p.end (whole pieces last)) pieces last))) ≡ pieces_within m pieces)
-          → close_count (concat_of (take n (lists_of part (p ∷ pieces) last))) ≡ (if b then mark_count p.mark + pieces_within (n - suc (length p.characters)) pieces else 0)
-      by true e s all one on =
-          let first = events_through part p.characters in
-          let more = lists_of (part_following texts_by_definition lines macros p.mark p.end (whole pieces last)) pieces last in
-          let less : length p.characters < n = ltb-true (length p.characters) n e in
-          let m = n - suc (length p.characters) in
-          let split : n ≡ length first + m = omega arith in
-          let few : m ≤ length (whole pieces last) = omega arith in
-          let lists : concat_of (take n (first ++ more)) ≡ concat_of first ++ concat_of (take m more) =
-          ap (λ i. concat_of (take i (first ++ more))) split ∙ ap concat_of (take-append-add first more m) ∙ joined-append first (take m more) in
-          ap close_count lists ∙ count_append (concat_of first) (concat_of (take m more)) ∙ ap (λ i. i + close_count (concat_of (take m more))) one ∙ ap (λ i. mark_count p.mark + i) (on m few)
-      by false e s all one on =
-          let first = events_through part p.characters in
-          let more = lists_of (part_following texts_by_definition lines macros p.mark p.end (whole pieces last)) pieces last in
-          let few : n ≤ length p.characters = omega (arith, ltb-false (length p.characters) n e) in
-          let within : n ≤ length first = omega arith in
-          ap (λ ls. close_count (concat_of ls)) (take-append-le n first more within) ∙ before_end lines part p.characters p.mark h.0 n few
+      elim (cases_Bool (nat_lt (length p.characters) n)) [
+        | inl e ↦ (let less : length p.characters < n = ltb-true (length p.characters) n e in
+            let split : n ≡ length first + m = omega arith in
+            let lists : concat_of (take n (first ++ more)) ≡ concat_of first ++ concat_of (take m more) =
+            ap (λ i. concat_of (take i (first ++ more))) split ∙ ap concat_of (take-append-add first more m) ∙ joined-append first (take m more) in
+            let on = pieces_count next pieces last (follows_begun p.mark p.end rest) (fits_back (p.end ∷ []) rest (fits_back p.characters (p.end ∷ rest) fits)) h.1 m (omega arith) in
+            rw e (ap close_count lists ∙ count_append (concat_of first) (concat_of (take m more)) ∙ ap (λ i. i + close_count (concat_of (take m more))) one ∙ ap (λ i. mark_count p.mark + i) on))
+        | inr e ↦ (let few : n ≤ length p.characters = omega (arith, ltb-false (length p.characters) n e) in
+            rw e (ap (λ ls. close_count (concat_of ls)) (take-append-le n first more (omega arith)) ∙ before_end lines part p.characters p.mark h.0 n few))
+      ]
 
 -- ---- of units
-
-step : (a w n : ℕ) (f : ℕ → ℕ) → (if nat_lt a n then (if nat_lt (n - suc a) w then 0 else f ((n - suc a) - w)) else 0) ≡ (if nat_lt n (a + suc w) then 0 else f (n - (a + suc w)))
-step a w n f = by (nat_lt a n) refl (nat_lt (n - suc a) w) refl (nat_lt n (a + suc w)) refl
-  where
-    by : (x : Bool) → nat_lt a n ≡ x → (y : Bool) → nat_lt (n - suc a) w ≡ y → (z : Bool) → nat_lt n (a + suc w) ≡ z
-        → (if x then (if y then 0 else f ((n - suc a) - w)) else 0) ≡ (if z then 0 else f (n - (a + suc w)))
-    by false e y g true k = refl
-    by false e y g false k = absurd (omega (arith, ltb-false a n e, ltb-false n (a + suc w) k))
-    by true e true g true k = refl
-    by true e true g false k = absurd (omega (arith, ltb-true a n e, ltb-true (n - suc a) w g, ltb-false n (a + suc w) k))
-    by true e false g true k = absurd (omega (arith, ltb-true a n e, ltb-false (n - suc a) w g, ltb-true n (a + suc w) k))
-    by true e false g false k = ap f (let e : (n - suc a) - w ≡ n - (a + suc w) = omega arith in e)
-
-last_step : (a n : ℕ) (f : ℕ → ℕ) → (if nat_lt a n then f (n - suc a) else 0) ≡ (if nat_lt n (a + 1) then 0 else f (n - (a + 1)))
-last_step a n f = by (nat_lt a n) refl (nat_lt n (a + 1)) refl
-  where
-    by : (x : Bool) → nat_lt a n ≡ x → (z : Bool) → nat_lt n (a + 1) ≡ z → (if x then f (n - suc a) else 0) ≡ (if z then 0 else f (n - (a + 1)))
-    by false e true k = refl
-    by false e false k = absurd (omega (arith, ltb-false a n e, ltb-false n (a + 1) k))
-    by true e true k = absurd (omega (arith, ltb-true a n e, ltb-true n (a + 1) k))
-    by true e false k = ap f (let e : n - suc a ≡ n - (a + 1) = omega arith in e)
-
-one_more : (m : ℕ) → 1 + m ≡ suc m
-one_more m = omega arith
 
 module _ (lines : ℕ) where
   snippets_within : (line : ℕ) (opened : Place) (nexts : List EndedPart) (final : EndedPart) (more : List CutPart) (n : ℕ)
       → (let size = length (with_ends (nexts ++ final ∷ [])) in
       pieces_within n (snippets_with lines line opened nexts (cut_part final Closes ∷ more)) ≡ (if nat_lt n size then 0 else suc (pieces_within (n - size) more)))
-  snippets_within line opened [] final more n =
-      let a = length final.characters in
-      let size : length (final.characters ++ final.end ∷ []) ≡ a + 1 = length-append final.characters (final.end ∷ []) in
-      ap (λ m. if nat_lt a n then m else 0) (one_more (pieces_within (n - suc a) more))
-      ∙ last_step a n (λ m. suc (pieces_within m more))
-      ∙ ap (λ w. if nat_lt n w then 0 else suc (pieces_within (n - w) more)) (sym size)
+  snippets_within line opened [] final more n = grind (arith, nat_tests, length-append final.characters (final.end ∷ []))
   snippets_within line opened (e ∷ nexts) final more n =
-      let a = length e.characters in
-      let w = length (with_ends (nexts ++ final ∷ [])) in
-      let rest = snippets_with lines (next_line lines line) opened nexts (cut_part final Closes ∷ more) in
-      let size : length (e.characters ++ e.end ∷ with_ends (nexts ++ final ∷ [])) ≡ a + suc w = length-append e.characters (e.end ∷ with_ends (nexts ++ final ∷ [])) in
-      ap (λ m. if nat_lt a n then m else 0) (no_more (pieces_within (n - suc a) rest) ∙ snippets_within (next_line lines line) opened nexts final more (n - suc a))
-      ∙ step a w n (λ m. suc (pieces_within m more))
-      ∙ ap (λ v. if nat_lt n v then 0 else suc (pieces_within (n - v) more)) (sym size)
-
-  if_none : (b : Bool) → (if◌then◌else◌ {A = ℕ} b 0 0) ≡ 0
-  if_none true = refl
-  if_none false = refl
+      let on = snippets_within (next_line lines line) opened nexts final more (n - suc (length e.characters)) in
+      grind (arith, nat_tests, on, length-append e.characters (e.end ∷ with_ends (nexts ++ final ∷ [])))
 
   open_within : (line : ℕ) (opened : Place) (nexts : List EndedPart) (n : ℕ) → pieces_within n (snippets_with lines line opened nexts []) ≡ 0
   open_within line opened [] n = refl
-  open_within line opened (e ∷ nexts) n =
-      let a = length e.characters in
-      ap (λ m. if nat_lt a n then m else 0) (no_more (pieces_within (n - suc a) (snippets_with lines (next_line lines line) opened nexts [])) ∙ open_within (next_line lines line) opened nexts (n - suc a))
-      ∙ if_none (nat_lt a n)
+  open_within line opened (e ∷ nexts) n = grind (arith, open_within (next_line lines line) opened nexts (n - suc (length e.characters)))
 
   last_within : (last : LastUnit) (n : ℕ) → pieces_within n (last_pieces lines last) ≡ 0
   last_within (JustText xs) n = refl
-  last_within (OpenNotes text nexts xs) n =
-      let a = length text.characters in
-      ap (λ m. if nat_lt a n then m else 0) (no_more (pieces_within (n - suc a) (snippets_with lines 0 text.end.place nexts [])) ∙ open_within 0 text.end.place nexts (n - suc a))
-      ∙ if_none (nat_lt a n)
+  last_within (OpenNotes text nexts xs) n = grind (arith, open_within 0 text.end.place nexts (n - suc (length text.characters)))
 
   pub units_within_are : (units : List BodyUnit) (last : LastUnit) (n : ℕ) → pieces_within n (units_pieces lines units last) ≡ count_within n units
   units_within_are [] last n = last_within last n
   units_within_are (u ∷ units) last n =
-      let a = length u.text.characters in
-      let w = length (with_ends (u.nexts ++ u.final ∷ [])) in
-      let more = units_pieces lines units last in
-      let rest = snippets_with lines 0 u.text.end.place u.nexts (cut_part u.final Closes ∷ more) in
-      let size : length (characters_in u) ≡ a + suc w = length-append u.text.characters (u.text.end ∷ with_ends (u.nexts ++ u.final ∷ [])) in
-      ap (λ m. if nat_lt a n then m else 0) (no_more (pieces_within (n - suc a) rest) ∙ snippets_within 0 u.text.end.place u.nexts u.final more (n - suc a))
-      ∙ step a w n (λ m. suc (pieces_within m more))
-      ∙ ap (λ v. if nat_lt n v then 0 else suc (pieces_within (n - v) more)) (sym size)
-      ∙ ap (λ m. if nat_lt n (length (characters_in u)) then 0 else suc m) (units_within_are units last (n - length (characters_in u)))
+      let notes = snippets_within 0 u.text.end.place u.nexts u.final (units_pieces lines units last) (n - suc (length u.text.characters)) in
+      let size = length-append u.text.characters (u.text.end ∷ with_ends (u.nexts ++ u.final ∷ [])) in
+      grind (arith, nat_tests, notes, size, units_within_are units last (n - length (characters_in u)))

@@ -1,5 +1,5 @@
 -- What a body emits with its end keeps nothing and ends no syllable.
-use Rattle.std.proofs.Common.{◌≡◌, ℕ, suc, ◌+◌, ◌<◌, ◌==◌, nat_lt, List, [], ◌∷◌, ◌++◌, map, length, drop, Bool, true, false, cond, if◌then◌else◌, Option, Some, None, ◌⊎◌, inl, inr, refl, sym, ap, subst, ◌∙◌, arith, length-append, reverse}
+use Rattle.std.proofs.Common.{◌≡◌, ℕ, suc, ◌+◌, ◌<◌, ◌==◌, nat_lt, List, [], ◌∷◌, ◌++◌, map, length, drop, Bool, true, false, if◌then◌else◌, Option, None, refl, sym, ap, subst, arith, length-append, reverse, zero}
 use Rattle.std.specs.List.{list_any}
 use Rattle.gabc_places.specs.declared.place.Place.{Place}
 use Rattle.gabc_places.specs.declared.place.Span.{Span}
@@ -15,8 +15,8 @@ use Rattle.gabc_text.specs.declared.text_event.TextPart.{TextPart}
 use Rattle.gabc_text.specs.declared.text_event.TextPart.TheVariants as part
 use Rattle.gabc_text.specs.Ends.{EndsOnce}
 use Rattle.gabc_text.specs.Token.{Token, tokens}
-use Rattle.gabc_text.specs.View.{along, effect, late_codes, findings_at_end, is_open_kind, place_of}
-use Rattle.gabc_text.specs.Events.{codes_of, events_by_point, lists_at, owed_events, is_lone, token_events, end_events, end_after, after_tokens, no_events_each, parts_at, finding_events, option_list_of, centre_of}
+use Rattle.gabc_text.specs.View.{along}
+use Rattle.gabc_text.specs.Events.{codes_of, events_by_point, lists_at, owed_events, end_events, end_after, after_tokens, no_events_each, finding_events, option_list_of}
 use Rattle.gabc_notes.specs.declared.stage.NoteEnd.TheVariants as note_end
 use Rattle.gabc_notes.specs.declared.stage.NoteEvent.{NoteEvent}
 use Rattle.gabc_notes.specs.declared.stage.NoteEvent.TheVariants as note
@@ -25,9 +25,9 @@ use Rattle.gabc_nabc.specs.Events as nabc
 use Rattle.gabc_score.specs.declared.events.BodyEvent.{BodyEvent}
 use Rattle.gabc_score.specs.declared.events.BodyEvent.TheVariants as event
 use Rattle.gabc_score.specs.Syllable.{since_close, kept_of, all_syllables}
-use Rattle.gabc_score.specs.Body.{events_onto, events_to_stop, code_by, code_at}
+use Rattle.gabc_score.specs.Body.{events_onto, events_to_stop, code_at}
 use Rattle.gabc_score.specs.Events.{PartAhead, InComment, InText, InNotes, is_text_end, is_next, is_close, note_event, first_list, other_lists, events_at_end, texts_by_definition, text_from, snippet_from, next_line, after_mark, part_at, part_after_character, events_from, body_events}
-use Rattle.gabc_score.specs.Stops.{events_in_points, StopsAt, NeverStops}
+use Rattle.gabc_score.specs.Stops.{events_in_points}
 use Rattle.gabc_score.proofs.building.StopIsFirst.{stop_is_first}
 use Rattle.gabc_score.proofs.building.OneListEachCharacter.{events_each}
 use Rattle.gabc_score.proofs.texts_of_body.TextEmitsThroughEnd.{length_of_codes}
@@ -53,24 +53,11 @@ record Same (before after : List BodyEvent) : Type 0 where
   made : all_syllables after ≡ all_syllables before
 
 one_quiet : (t : BodyEvent) (before : List BodyEvent) → IsQuiet t → Same before (t ∷ before)
-one_quiet (event.Text (text.Kept x)) before h = absurd h
-one_quiet (event.Text (text.Part p)) before h = record { kept = refl; made = refl }
-one_quiet (event.Text (text.Found f)) before h = record { kept = refl; made = refl }
-one_quiet (event.Text (text.Ended text_end.Notes)) before h = absurd h
-one_quiet (event.Text (text.Ended text_end.Finished)) before h = record { kept = refl; made = refl }
-one_quiet (event.Text (text.Ended (text_end.Cut place))) before h = record { kept = refl; made = refl }
-one_quiet (event.Notes line (note.Kept x)) before h = absurd h
-one_quiet (event.Notes line (note.Found f)) before h = record { kept = refl; made = refl }
-one_quiet (event.Notes line (note.Ended note_end.Next n)) before h = absurd h
-one_quiet (event.Notes line (note.Ended note_end.Close n)) before h = absurd h
-one_quiet (event.Notes line (note.Ended (note_end.Cut place) n)) before h = record { kept = refl; made = refl }
+one_quiet t before h = grind arith
 
 all_quiet : (now before : List BodyEvent) → AreQuiet now → Same before (events_onto now before)
 all_quiet [] before h = record { kept = refl; made = refl }
-all_quiet (t ∷ now) before h =
-    let one = one_quiet t before h.0 in
-    let on = all_quiet now (t ∷ before) h.1 in
-    record { kept = on.kept ∙ one.kept; made = on.made ∙ one.made }
+all_quiet (t ∷ now) before h = grind (arith, all_quiet now (t ∷ before) h.1, one_quiet)
 
 quiet_both : (ts us : List BodyEvent) → AreQuiet ts → AreQuiet us → AreQuiet (ts ++ us)
 quiet_both [] us h k = k
@@ -79,8 +66,7 @@ quiet_both (t ∷ ts) us h k = (h.0, quiet_both ts us h.1 k)
 -- ---- the end of a text
 
 abbrev QuietText : List TextEvent → Type 0
-QuietText [] = Unit {0}
-QuietText (o ∷ emitted) = IsQuiet (event.Text o) × QuietText emitted
+QuietText emitted = AreQuiet (map (λ (o : TextEvent). event.Text o) emitted)
 
 -- the list of the end is quiet, which stands after those of the characters
 abbrev TextEndsQuietly : List (List TextEvent) → List Char → Type 0
@@ -96,8 +82,7 @@ parts_quiet [] = tt
 parts_quiet (p ∷ ps) = (tt, parts_quiet ps)
 
 centres_quiet : (o : Option Span) → QuietText (map (λ (s : Span). text.Part (part.Centre s)) (option_list_of o))
-centres_quiet None = tt
-centres_quiet (Some s) = (tt, tt)
+centres_quiet o = grind arith
 
 found_quiet : (fs : List Finding) → QuietText (map text.Found fs)
 found_quiet [] = tt
@@ -108,25 +93,13 @@ codes_quiet at before [] = tt
 codes_quiet at before (c ∷ cs) = (tt, codes_quiet at before cs)
 
 owed_quiet : (at : Place) (before : List Token) → QuietText (owed_events at before)
-owed_quiet at [] = tt
-owed_quiet at (k ∷ before) = by (is_lone k)
-  where
-    by : (b : Bool) → QuietText (cond b (token_events at before k) [])
-    by true = text_both (map (λ (p : TextPart). text.Part p) (parts_at before k)) _ (parts_quiet (parts_at before k)) (codes_quiet at before (late_codes before k.kind (effect k)))
-    by false = tt
+owed_quiet at before = grind (arith, text_both, parts_quiet, codes_quiet)
 
 end_quiet : (at : Place) (before : List Token) → IsQuiet (event.Text (text.Ended (end_after at before [])))
-end_quiet at [] = tt
-end_quiet at (k ∷ before) = by (is_open_kind k.kind)
-  where
-    by : (b : Bool) → IsQuiet (event.Text (text.Ended (cond b (text_end.Cut (place_of at before)) text_end.Finished)))
-    by true = tt
-    by false = tt
+end_quiet at before = grind arith
 
 events_end_quiet : (at : Place) (before : List Token) → QuietText (end_events at before [])
-events_end_quiet at before =
-    text_both (map text.Found (findings_at_end at before)) _ (found_quiet (findings_at_end at before))
-    (text_both (map (λ (s : Span). text.Part (part.Centre s)) (option_list_of (centre_of before))) _ (centres_quiet (centre_of before)) (end_quiet at before, tt))
+events_end_quiet at before = grind (arith, text_both, found_quiet, centres_quiet, end_quiet)
 
 nothing_quiet : (rest : List ℕ) (xs : List Char) → TextEndsQuietly (no_events_each rest) xs
 nothing_quiet [] [] = tt
@@ -148,13 +121,7 @@ nothing_count (c ∷ rest) = ap (λ n. suc n) (nothing_count rest)
 
 -- a text has a list for each character, and one for the end
 lists_count : (at : Place) (t : List ℕ) → EndsOnce at t → length (events_by_point at t) ≡ length t + 1
-lists_count at t e =
-    let all : length (events_by_point at t) ≡ length (e.before ++ (e.last ++ text.Ended e.how ∷ []) ∷ no_events_each e.rest) = ap length e.events_are in
-    let parts : length (e.before ++ (e.last ++ text.Ended e.how ∷ []) ∷ no_events_each e.rest) ≡ length e.before + suc (length (no_events_each e.rest)) = length-append e.before _ in
-    let nothing : length (no_events_each e.rest) ≡ length e.rest = nothing_count e.rest in
-    let text : length t ≡ length e.prefix + length e.rest = ap length e.text_is ∙ length-append e.prefix e.rest in
-    let one : length e.before ≡ length e.prefix = e.one_each in
-    omega arith
+lists_count at t e = grind (arith, length-append, nothing_count)
 
 text_ends_quietly : (at : Place) (xs : List Char) → EndsOnce at (codes_of xs) → TextEndsQuietly (events_by_point at (codes_of xs)) xs
 text_ends_quietly at xs e =
@@ -172,52 +139,37 @@ text_ends_quietly at xs e =
 
 -- ---- the end of a snippet
 
-abbrev QuietNotes : List NoteEvent → Type 0
-QuietNotes [] = Unit {0}
-QuietNotes (note.Kept x ∷ emitted) = ⊥
-QuietNotes (note.Found f ∷ emitted) = QuietNotes emitted
-QuietNotes (note.Ended (note_end.Cut place) n ∷ emitted) = QuietNotes emitted
-QuietNotes (note.Ended _ n ∷ emitted) = ⊥
+module _ (line : ℕ) (opened : Place) where
+  abbrev QuietNotes : List NoteEvent → Type 0
+  QuietNotes emitted = AreQuiet (map (note_event line opened) emitted)
 
-abbrev NotesEndQuietly : List (List NoteEvent) → List Char → Type 0
-NotesEndQuietly lists [] = QuietNotes (first_list lists)
-NotesEndQuietly lists (x ∷ xs) = NotesEndQuietly (other_lists lists) xs
+  abbrev NotesEndQuietly : List (List NoteEvent) → List Char → Type 0
+  NotesEndQuietly lists [] = QuietNotes (first_list lists)
+  NotesEndQuietly lists (x ∷ xs) = NotesEndQuietly (other_lists lists) xs
 
-notes_if : (b : Bool) (xs ys : List NoteEvent) → QuietNotes xs → QuietNotes ys → QuietNotes (if b then xs else ys)
-notes_if true xs ys h k = h
-notes_if false xs ys h k = k
+  notes_if : (b : Bool) (xs ys : List NoteEvent) → QuietNotes xs → QuietNotes ys → QuietNotes (if b then xs else ys)
+  notes_if true xs ys h k = h
+  notes_if false xs ys h k = k
 
-gabc_ends : (split : Bool) (macros : ℕ) (back xs : List Char) → NotesEndQuietly (notes.note_events_after split macros back xs) xs
-gabc_ends split macros back [] = notes_if (notes.is_over split back) [] _ tt tt
-gabc_ends split macros back (x ∷ xs) = gabc_ends split macros (x ∷ back) xs
+  gabc_ends : (split : Bool) (macros : ℕ) (back xs : List Char) → NotesEndQuietly (notes.note_events_after split macros back xs) xs
+  gabc_ends split macros back [] = notes_if (notes.is_over split back) [] _ tt (tt, tt)
+  gabc_ends split macros back (x ∷ xs) = gabc_ends split macros (x ∷ back) xs
 
-nabc_ends : (t : List ℕ) (xs : List Char) → NotesEndQuietly (nabc.nabc_events_after t xs) xs
-nabc_ends t [] = notes_if (nabc.has_end t) [] _ tt tt
-nabc_ends t (x ∷ xs) = nabc_ends (t ++ x.c ∷ []) xs
+  nabc_ends : (t : List ℕ) (xs : List Char) → NotesEndQuietly (nabc.nabc_events_after t xs) xs
+  nabc_ends t [] = notes_if (nabc.has_end t) [] _ tt (tt, tt)
+  nabc_ends t (x ∷ xs) = nabc_ends (t ++ x.c ∷ []) xs
 
 -- ---- the end of a body
 
 abbrev EndsQuietly : PartAhead → List Char → Type 0
 EndsQuietly InComment xs = Unit {0}
 EndsQuietly (InText lists) xs = TextEndsQuietly lists xs
-EndsQuietly (InNotes line opened lists) xs = NotesEndQuietly lists xs
-
-text_emitted_quiet : (emitted : List TextEvent) → QuietText emitted → AreQuiet (map (λ (o : TextEvent). event.Text o) emitted)
-text_emitted_quiet [] h = tt
-text_emitted_quiet (o ∷ emitted) h = (h.0, text_emitted_quiet emitted h.1)
-
-notes_emitted_quiet : (line : ℕ) (opened : Place) (emitted : List NoteEvent) → QuietNotes emitted → AreQuiet (map (note_event line opened) emitted)
-notes_emitted_quiet line opened [] h = tt
-notes_emitted_quiet line opened (note.Kept x ∷ emitted) h = absurd h
-notes_emitted_quiet line opened (note.Found f ∷ emitted) h = (tt, notes_emitted_quiet line opened emitted h)
-notes_emitted_quiet line opened (note.Ended note_end.Next n ∷ emitted) h = absurd h
-notes_emitted_quiet line opened (note.Ended note_end.Close n ∷ emitted) h = absurd h
-notes_emitted_quiet line opened (note.Ended (note_end.Cut place) n ∷ emitted) h = (tt, notes_emitted_quiet line opened emitted h)
+EndsQuietly (InNotes line opened lists) xs = NotesEndQuietly line opened lists xs
 
 end_emitted_quiet : (part : PartAhead) → EndsQuietly part [] → AreQuiet (events_at_end part)
 end_emitted_quiet InComment h = (tt, tt)
-end_emitted_quiet (InText lists) h = text_emitted_quiet (first_list lists) h
-end_emitted_quiet (InNotes line opened lists) h = notes_emitted_quiet line opened (first_list lists) h
+end_emitted_quiet (InText lists) h = h
+end_emitted_quiet (InNotes line opened lists) h = h
 
 module _ (ends : (at : Place) (t : List ℕ) → EndsOnce at t) (lines macros : ℕ) where
   text_here : (at : Place) (xs : List Char) → EndsQuietly (text_from texts_by_definition at xs) xs
@@ -225,11 +177,7 @@ module _ (ends : (at : Place) (t : List ℕ) → EndsOnce at t) (lines macros : 
 
   snippet_here : (line : ℕ) (opened : Place) (xs : List Char) → EndsQuietly (snippet_from lines macros line opened xs) xs
   unfolding notes.note_events
-  snippet_here line opened xs = by (line == 0)
-    where
-      by : (b : Bool) → NotesEndQuietly (if b then notes.note_events (nat_lt 0 lines) macros xs else nabc.nabc_events xs) xs
-      by true = gabc_ends (nat_lt 0 lines) macros [] xs
-      by false = nabc_ends [] xs
+  snippet_here line opened xs = grind (arith, gabc_ends, nabc_ends)
 
   standing_ends : (part : PartAhead) (x : Char) (xs : List Char) → EndsQuietly part (x ∷ xs) → EndsQuietly (part_at texts_by_definition part x xs) (x ∷ xs)
   standing_ends InComment x xs h = by (x.c == 10)
@@ -262,30 +210,10 @@ module _ (ends : (at : Place) (t : List ℕ) → EndsOnce at t) (lines macros : 
       events_ends (part_after_character texts_by_definition lines macros now x xs) xs (after_ends now x xs (standing_ends part x xs h))
 
   module _ (limits : Limits) (head : ℕ) where
-    pub none_at_first : code_at limits head [] ≡ None
-    none_at_first = by (nat_lt limits.syllable 0) refl
-      where
-        by : (b : Bool) → nat_lt limits.syllable 0 ≡ b → code_at limits head [] ≡ None
-        by true h = absurd (grind arith)
-        by false h = rw h refl
-
-    none_before : (xs : List Char) (lists : List (List BodyEvent)) → ((n : ℕ) → n < length xs → code_at limits head (events_in_points [] lists (suc n)) ≡ None) → code_at limits head (events_in_points [] lists (length xs)) ≡ None
-    none_before [] lists h = none_at_first
-    none_before (x ∷ xs) lists h = h (length xs) (omega arith)
+    pub none_before : (n : ℕ) (lists : List (List BodyEvent)) → ((k : ℕ) → k < n → code_at limits head (events_in_points [] lists (suc k)) ≡ None) → code_at limits head (events_in_points [] lists n) ≡ None
+    none_before zero lists h = let none : nat_lt limits.syllable 0 ≡ false = grind arith in rw none refl
+    none_before (suc n) lists h = h n (omega arith)
 
     -- no limit is passed by what is emitted with the end
     pub none_at_end : (xs : List Char) → (let r = events_to_stop limits head [] xs (body_events lines macros xs) in r.fault ≡ None → code_at limits head (events_onto r.last r.before) ≡ None)
-    none_at_end xs e =
-        by (stop_is_first limits head [] xs (body_events lines macros xs) (events_each texts_by_definition lines macros InComment xs))
-      where
-        by : (let lists = body_events lines macros xs in let r = events_to_stop limits head [] xs lists in
-            NeverStops limits head [] xs lists r ⊎ StopsAt limits head [] xs lists r → code_at limits head (events_onto r.last r.before) ≡ None)
-        by (inr s) = absurd (let k = s.fault in cc)
-        by (inl s) =
-            let lists = body_events lines macros xs in
-            let r = events_to_stop limits head [] xs (body_events lines macros xs) in
-            let same = all_quiet r.last r.before (subst AreQuiet (sym s.last) (events_ends InComment xs tt)) in
-            ap (λ ms. code_by limits head ms (kept_of (since_close (events_onto r.last r.before)))) same.made
-            ∙ ap (code_by limits head (all_syllables r.before)) same.kept
-            ∙ ap (code_at limits head) s.before
-            ∙ none_before xs lists s.none
+    none_at_end xs e = grind (arith, stop_is_first, events_each, all_quiet, events_ends, none_before)

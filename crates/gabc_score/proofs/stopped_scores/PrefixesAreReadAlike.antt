@@ -1,29 +1,26 @@
 -- The units of a prefix of a body are read as those of the whole body.
-use Rattle.std.proofs.Common.{◌≡◌, ℕ, zero, suc, ◌+◌, ◌<◌, ◌^◌, ◌==◌, nat_lt, Bool, true, false, if◌then◌else◌, Option, Some, None, List, [], ◌∷◌, ◌++◌, length, map, take, drop, refl, sym, ap, subst, ◌∙◌, arith, append_assoc, length-append}
-use Rattle.std.specs.List.{list_any}
+use Rattle.std.proofs.Common.{◌≡◌, ℕ, zero, suc, ◌+◌, ◌<◌, ◌^◌, ◌==◌, nat_lt, Bool, true, false, if◌then◌else◌, List, [], ◌∷◌, ◌++◌, length, take, drop, refl, sym, ap, subst, ◌∙◌, arith, append_assoc, length-append}
 use Rattle.std.proofs.Math.Seq.{take-append-add}
 use Rattle.gabc_places.specs.declared.place.Place.{Place}
 use Rattle.gabc_places.specs.declared.place.Char.{Char}
 use Rattle.gabc_places.specs.Place.{next_place, placed_characters_from}
 use Rattle.gabc_places.proofs.PlacesOfAText.{length_placed}
 use Rattle.gabc_text.specs.declared.text_event.TextEnd.TheVariants as text_end
-use Rattle.gabc_text.specs.declared.text_event.TextEvent.{TextEvent}
 use Rattle.gabc_text.specs.declared.text_event.TextEvent.TheVariants as text_out
 use Rattle.gabc_text.specs.Events.{CountsFit, codes_of, events_by_point}
 use Rattle.gabc_text.specs.witness.EventsLeft.{events_left}
 use Rattle.gabc_text.specs.TextStage.{fresh_stage}
 use Rattle.gabc_text.specs.declared.stage.TextStage.{TextStage}
-use Rattle.gabc_notes.specs.declared.stage.NoteEvent.{NoteEvent}
 use Rattle.gabc_notes.specs.Events as notes
 use Rattle.gabc_nabc.specs.Events as nabc
 use Rattle.gabc_score.specs.declared.events.BodyEvent.{BodyEvent}
 use Rattle.gabc_score.specs.declared.events.BodyEvent.TheVariants.{Text}
-use Rattle.gabc_score.specs.Events.{PartAhead, InComment, InText, InNotes, is_text_end, is_next, is_close, note_event, first_list, other_lists, events_in, texts_by_definition, text_from, snippet_from, next_line, after_mark}
+use Rattle.gabc_score.specs.Events.{PartAhead, InText, InNotes, first_list, other_lists, events_in, texts_by_definition, text_from, snippet_from, next_line, after_mark}
 use Rattle.gabc_score.specs.Units.{Mark, Opens, Next, Closes, CutPart, EndedPart, BodyUnit, LastUnit, JustText, cut_part, whole, part_onward, events_through, mark_in, EndsAfter, snippets_with, units_pieces, last_characters, part_following, Cuts, events_of_cutting}
 use Rattle.gabc_score.proofs.texts_of_body.SeamsOfCharacters.{size, size_append}
 use Rattle.gabc_score.proofs.holding.SnippetsAreHeld.{bytes_are_size}
 use Rattle.gabc_score.proofs.holding.SyllablesHoldParts.{fits_back}
-use Rattle.gabc_score.specs.SyllablesOfUnits.{characters_in, characters_from}
+use Rattle.gabc_score.specs.SyllablesOfUnits.{characters_from}
 use Rattle.gabc_score.proofs.syllables_of_units.UnitsGiveSyllables.{units_whole}
 use Rattle.gabc_score.proofs.texts_of_body.TextEmitsThroughEnd.{codes_append, length_of_codes}
 
@@ -36,13 +33,10 @@ Agree n (InNotes line opened ls) (InNotes k o ms) = (line ≡ k) × ((opened ≡
 Agree n _ _ = ⊥
 
 first_of_some : {X : Type 0} (n : ℕ) (ls : List (List X)) → first_list (take (suc n) ls) ≡ first_list ls
-first_of_some n [] = refl
-first_of_some n (l ∷ ls) = refl
+first_of_some n ls = grind arith
 
 others_of_some : {X : Type 0} (n : ℕ) (ls : List (List X)) → other_lists (take (suc n) ls) ≡ take n (other_lists ls)
-others_of_some zero [] = refl
-others_of_some (suc n) [] = refl
-others_of_some n (l ∷ ls) = refl
+others_of_some n ls = grind arith
 
 same_first : {X : Type 0} (n : ℕ) (ls ms : List (List X)) → take (suc n) ls ≡ take (suc n) ms → first_list ls ≡ first_list ms
 same_first n ls ms h = sym (first_of_some n ls) ∙ ap first_list h ∙ first_of_some n ms
@@ -51,37 +45,14 @@ same_others : {X : Type 0} (n : ℕ) (ls ms : List (List X)) → take (suc n) ls
 same_others n ls ms h = sym (others_of_some n ls) ∙ ap other_lists h ∙ others_of_some n ms
 
 agree_onward : (n : ℕ) (part other : PartAhead) → Agree (suc n) part other → Agree n (part_onward part) (part_onward other)
-agree_onward n InComment other h = absurd h
-agree_onward n (InText ls) InComment h = absurd h
-agree_onward n (InText ls) (InText ms) h = same_others n ls ms h
-agree_onward n (InText ls) (InNotes k o ms) h = absurd h
-agree_onward n (InNotes line opened ls) InComment h = absurd h
-agree_onward n (InNotes line opened ls) (InText ms) h = absurd h
-agree_onward n (InNotes line opened ls) (InNotes k o ms) h = (h.0, (h.1.0, same_others n ls ms h.1.1))
+agree_onward n part other h = grind (arith, same_others)
 
 agree_emitted : (n : ℕ) (part other : PartAhead) → Agree (suc n) part other → events_in part ≡ events_in other
-agree_emitted n InComment other h = absurd h
-agree_emitted n (InText ls) InComment h = absurd h
-agree_emitted n (InText ls) (InText ms) h = ap (map (λ (o : TextEvent). Text o)) (same_first n ls ms h)
-agree_emitted n (InText ls) (InNotes k o ms) h = absurd h
-agree_emitted n (InNotes line opened ls) InComment h = absurd h
-agree_emitted n (InNotes line opened ls) (InText ms) h = absurd h
-agree_emitted n (InNotes line opened ls) (InNotes k o ms) h =
-    ap (map (note_event line opened)) (same_first n ls ms h.1.1) ∙ ap (λ l. map (note_event l opened) (first_list ms)) h.0 ∙ ap (λ p. map (note_event k p) (first_list ms)) h.1.0
+agree_emitted n part other h = grind (arith, same_first)
 
 module _ (lines : ℕ) where
-  abbrev mark_of_notes : ℕ → Place → List NoteEvent → Option Mark
-  mark_of_notes line opened os = if list_any is_next os then Some (Next (next_line lines line) opened) else if list_any is_close os then Some Closes else None
-
   agree_mark : (n : ℕ) (part other : PartAhead) → Agree (suc n) part other → mark_in lines part ≡ mark_in lines other
-  agree_mark n InComment other h = absurd h
-  agree_mark n (InText ls) InComment h = absurd h
-  agree_mark n (InText ls) (InText ms) h = ap (λ (os : List TextEvent). if list_any is_text_end os then Some Opens else None) (same_first n ls ms h)
-  agree_mark n (InText ls) (InNotes k o ms) h = absurd h
-  agree_mark n (InNotes line opened ls) InComment h = absurd h
-  agree_mark n (InNotes line opened ls) (InText ms) h = absurd h
-  agree_mark n (InNotes line opened ls) (InNotes k o ms) h =
-      ap (mark_of_notes line opened) (same_first n ls ms h.1.1) ∙ ap (λ l. mark_of_notes l opened (first_list ms)) h.0 ∙ ap (λ p. mark_of_notes k p (first_list ms)) h.1.0
+  agree_mark n part other h = grind (arith, same_first)
 
   pub agree_ends : (part other : PartAhead) (prefix : List Char) (mark : Mark) → Agree (suc (length prefix)) part other → EndsAfter lines part prefix mark → EndsAfter lines other prefix mark
   agree_ends part other [] mark a h = sym (agree_mark 0 part other a) ∙ h
@@ -111,11 +82,7 @@ small_after [] ys h = h
 small_after (x ∷ xs) ys h = small_after xs ys h.1.1
 
 small_place : (p : Place) (c n : ℕ) → p.line + suc n < 2 ^ 64 → p.column + suc n < 2 ^ 64 → ((next_place p c).line + n < 2 ^ 64) × ((next_place p c).column + n < 2 ^ 64)
-small_place p c n h k = by (c == 10)
-  where
-    by : (b : Bool) → (let q : Place = if b then record { line = p.line + 1; column = 1 } else record { line = p.line; column = p.column + 1 } in (q.line + n < 2 ^ 64) × (q.column + n < 2 ^ 64))
-    by true = (omega arith, omega arith)
-    by false = (omega arith, omega arith)
+small_place p c n h k = (grind arith, grind arith)
 
 pub small_placed : (p : Place) (cs : List ℕ) → p.line + length cs < 2 ^ 64 → p.column + length cs < 2 ^ 64 → AllSmall (placed_characters_from p cs)
 small_placed p [] h k = tt
@@ -131,45 +98,34 @@ pub record SmallAt (at : Place) (xs : List Char) : Type 0 where
   pub bytes : size (codes_of xs) < 2 ^ 63
 
 small_fits : (at : Place) (xs : List Char) → SmallAt at xs → CountsFit at (codes_of xs)
-small_fits at xs s =
-    let n : length (codes_of xs) ≡ length xs = length_of_codes xs in
-    let b = bytes_are_size (codes_of xs) in
-    let l = s.line in
-    let c = s.column in
-    let k = s.bytes in
-    record { line = omega arith; column = omega arith; bytes = omega arith }
+small_fits at xs s = grind (arith, length_of_codes, bytes_are_size)
 
 small_prefix : (at : Place) (xs ys : List Char) → SmallAt at (xs ++ ys) → SmallAt at xs
-small_prefix at xs ys s =
-    let n : length (xs ++ ys) ≡ length xs + length ys = length-append xs ys in
-    let b : size (codes_of (xs ++ ys)) ≡ size (codes_of xs) + size (codes_of ys) = ap size (codes_append xs ys) ∙ size_append (codes_of xs) (codes_of ys) in
-    let l = s.line in
-    let c = s.column in
-    let k = s.bytes in
-    record { line = omega arith; column = omega arith; bytes = omega arith }
+small_prefix at xs ys s = grind (arith, length-append, codes_append, size_append)
+
+-- what is emitted of some characters and one more does not hang on those after them
+pub all_agree : {X : Type 0} (events : List Char → List X) → ((xs ys zs : List Char) → take (length xs) (events (xs ++ ys)) ≡ take (length xs) (events (xs ++ zs)))
+    → (prefix : List Char) (end : Char) (rest other : List Char) → take (suc (length prefix)) (events (prefix ++ end ∷ rest)) ≡ take (suc (length prefix)) (events (prefix ++ end ∷ other))
+all_agree events so_far prefix end rest other =
+    let count : suc (length prefix) ≡ length (prefix ++ end ∷ []) = omega (arith, length-append prefix (end ∷ [])) in
+    rw (count, ← append_assoc prefix (end ∷ []) rest, ← append_assoc prefix (end ∷ []) other) (so_far (prefix ++ end ∷ []) rest other)
+
+-- so it is of a text that a stage reads
+pub text_agree : ((s : TextStage) (t u v : List ℕ) → take (length t) (events_left s (t ++ u)) ≡ take (length t) (events_left s (t ++ v)))
+    → (s : TextStage) (prefix : List Char) (end : Char) (rest other : List Char) → take (suc (length prefix)) (events_left s (codes_of (prefix ++ end ∷ rest))) ≡ take (suc (length prefix)) (events_left s (codes_of (prefix ++ end ∷ other)))
+text_agree so_far s =
+    all_agree (λ (xs : List Char). events_left s (codes_of xs))
+    (λ xs ys zs. rw (← length_of_codes xs, codes_append xs ys, codes_append xs zs) (so_far s (codes_of xs) (codes_of ys) (codes_of zs)))
 
 module _ (fresh_is : (at : Place) (t : List ℕ) → CountsFit at t → events_left (fresh_stage at) t ≡ events_by_point at t)
     (so_far : (s : TextStage) (t u v : List ℕ) → take (length t) (events_left s (t ++ u)) ≡ take (length t) (events_left s (t ++ v)))
     (notes_so_far : (split : Bool) (macros : ℕ) (xs ys zs : List Char) → take (length xs) (notes.note_events split macros (xs ++ ys)) ≡ take (length xs) (notes.note_events split macros (xs ++ zs)))
     (nabc_so_far : (xs ys zs : List Char) → take (length xs) (nabc.nabc_events (xs ++ ys)) ≡ take (length xs) (nabc.nabc_events (xs ++ zs))) (lines macros : ℕ) where
-  through_is : (prefix : List Char) (end : Char) (rest : List Char) → (prefix ++ end ∷ []) ++ rest ≡ prefix ++ end ∷ rest
-  through_is prefix end rest = append_assoc prefix (end ∷ []) rest
-
-  through_count : (prefix : List Char) (end : Char) → length (prefix ++ end ∷ []) ≡ suc (length prefix)
-  through_count prefix end = let n : length (prefix ++ end ∷ []) ≡ length prefix + 1 = length-append prefix (end ∷ []) in omega arith
-
   text_agrees : (at : Place) (prefix : List Char) (end : Char) (rest other : List Char) → SmallAt at (prefix ++ end ∷ rest) → SmallAt at (prefix ++ end ∷ other)
       → Agree (suc (length prefix)) (text_from texts_by_definition at (prefix ++ end ∷ rest)) (text_from texts_by_definition at (prefix ++ end ∷ other))
   text_agrees at prefix end rest other h k =
-      let t = codes_of (prefix ++ end ∷ []) in
-      let n : length t ≡ suc (length prefix) = length_of_codes (prefix ++ end ∷ []) ∙ through_count prefix end in
-      let codes = λ (zs : List Char). sym (codes_append (prefix ++ end ∷ []) zs) ∙ ap codes_of (through_is prefix end zs) in
-      let here = λ (zs : List Char) (s : SmallAt at (prefix ++ end ∷ zs)). ap (events_left (fresh_stage at)) (codes zs) ∙ fresh_is at (codes_of (prefix ++ end ∷ zs)) (small_fits at (prefix ++ end ∷ zs) s) in
-      ap (λ ls. take (suc (length prefix)) ls) (sym (here rest h))
-      ∙ ap (λ m. take m (events_left (fresh_stage at) (t ++ codes_of rest))) (sym n)
-      ∙ so_far (fresh_stage at) t (codes_of rest) (codes_of other)
-      ∙ ap (λ m. take m (events_left (fresh_stage at) (t ++ codes_of other))) n
-      ∙ ap (λ ls. take (suc (length prefix)) ls) (here other k)
+      let here = λ (zs : List Char) (s : SmallAt at (prefix ++ end ∷ zs)). fresh_is at (codes_of (prefix ++ end ∷ zs)) (small_fits at (prefix ++ end ∷ zs) s) in
+      rw (← here rest h, ← here other k) (text_agree so_far (fresh_stage at) prefix end rest other)
 
   pub snippet_agrees : (line : ℕ) (opened : Place) (prefix : List Char) (end : Char) (rest other : List Char)
       → Agree (suc (length prefix)) (snippet_from lines macros line opened (prefix ++ end ∷ rest)) (snippet_from lines macros line opened (prefix ++ end ∷ other))
@@ -177,18 +133,8 @@ module _ (fresh_is : (at : Place) (t : List ℕ) → CountsFit at t → events_l
     where
       by : (b : Bool) → take (suc (length prefix)) (if b then notes.note_events (nat_lt 0 lines) macros (prefix ++ end ∷ rest) else nabc.nabc_events (prefix ++ end ∷ rest))
           ≡ take (suc (length prefix)) (if b then notes.note_events (nat_lt 0 lines) macros (prefix ++ end ∷ other) else nabc.nabc_events (prefix ++ end ∷ other))
-      by true =
-          ap (λ xs. take (suc (length prefix)) (notes.note_events (nat_lt 0 lines) macros xs)) (sym (through_is prefix end rest))
-          ∙ ap (λ n. take n (notes.note_events (nat_lt 0 lines) macros ((prefix ++ end ∷ []) ++ rest))) (sym (through_count prefix end))
-          ∙ notes_so_far (nat_lt 0 lines) macros (prefix ++ end ∷ []) rest other
-          ∙ ap (λ n. take n (notes.note_events (nat_lt 0 lines) macros ((prefix ++ end ∷ []) ++ other))) (through_count prefix end)
-          ∙ ap (λ xs. take (suc (length prefix)) (notes.note_events (nat_lt 0 lines) macros xs)) (through_is prefix end other)
-      by false =
-          ap (λ xs. take (suc (length prefix)) (nabc.nabc_events xs)) (sym (through_is prefix end rest))
-          ∙ ap (λ n. take n (nabc.nabc_events ((prefix ++ end ∷ []) ++ rest))) (sym (through_count prefix end))
-          ∙ nabc_so_far (prefix ++ end ∷ []) rest other
-          ∙ ap (λ n. take n (nabc.nabc_events ((prefix ++ end ∷ []) ++ other))) (through_count prefix end)
-          ∙ ap (λ xs. take (suc (length prefix)) (nabc.nabc_events xs)) (through_is prefix end other)
+      by true = all_agree (notes.note_events (nat_lt 0 lines) macros) (notes_so_far (nat_lt 0 lines) macros) prefix end rest other
+      by false = all_agree nabc.nabc_events nabc_so_far prefix end rest other
 
   -- ---- a prefix of units
 
@@ -228,9 +174,6 @@ module _ (fresh_is : (at : Place) (t : List ℕ) → CountsFit at t → events_l
   notes_prefix line opened [] final more others last small h on fits =
       let rest = whole more last in
       let here = small_after final.characters (final.end ∷ rest) small in
-      let n : length (final.end ∷ rest) ≡ suc (length rest) = refl in
-      let l = here.0 in
-      let c = here.1.0 in
       let at : SmallAt (after_mark final.end.place) rest = record { line = omega arith; column = omega arith; bytes = fits_back (final.end ∷ []) rest (fits_back final.characters (final.end ∷ rest) fits) } in
       piece_prefix _ _ (cut_part final Closes) more others last (snippet_agrees line opened final.characters final.end rest (whole others [])) h.0 (on here.1.1 at h.1)
   notes_prefix line opened (e ∷ nexts) final more others last small h on fits =
@@ -246,15 +189,11 @@ module _ (fresh_is : (at : Place) (t : List ℕ) → CountsFit at t → events_l
   first_characters : (k : ℕ) (units : List BodyUnit) (last : LastUnit) → characters_from units last ≡ characters_from (take k units) (JustText []) ++ characters_from (drop k units) last
   first_characters zero units last = refl
   first_characters (suc k) [] last = refl
-  first_characters (suc k) (u ∷ units) last =
-      ap (λ cs. characters_in u ++ cs) (first_characters k units last) ∙ sym (append_assoc (characters_in u) (characters_from (take k units) (JustText [])) (characters_from (drop k units) last))
+  first_characters (suc k) (u ∷ units) last = grind (arith, first_characters k units last, append_assoc)
 
   pub first_whole : (k : ℕ) (units : List BodyUnit) (last : LastUnit) → whole (units_pieces lines units last) (last_characters last)
       ≡ whole (units_pieces lines (take k units) (JustText [])) [] ++ whole (units_pieces lines (drop k units) last) (last_characters last)
-  first_whole k units last =
-      units_whole lines units last ∙ first_characters k units last
-      ∙ ap (λ cs. cs ++ characters_from (drop k units) last) (sym (units_whole lines (take k units) (JustText [])))
-      ∙ ap (λ cs. whole (units_pieces lines (take k units) (JustText [])) [] ++ cs) (sym (units_whole lines (drop k units) last))
+  first_whole k units last = grind (arith, units_whole, first_characters)
 
   pub units_prefix : (k : ℕ) (units : List BodyUnit) (last : LastUnit) (at : Place)
       → (let pieces = units_pieces lines units last in let end = last_characters last in let fronts = units_pieces lines (take k units) (JustText []) in

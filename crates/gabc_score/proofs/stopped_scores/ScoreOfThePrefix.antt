@@ -1,7 +1,6 @@
 -- A stopped score has the book and the syllables of its prefix, which is read without a fault.
-use Rattle.std.proofs.Common.{Bool, false, ◌≡◌, ℕ, suc, ◌+◌, ◌-◌, ◌<◌, ◌≤◌, ◌^◌, Option, Some, None, Result, Ok, Err, inl, inr, List, [], ◌∷◌, ◌++◌, length, take, drop, refl, sym, ap, subst, ◌∙◌, arith, take-append-drop}
+use Rattle.std.proofs.Common.{Bool, false, ◌≡◌, ℕ, suc, ◌+◌, ◌-◌, ◌<◌, ◌≤◌, ◌^◌, Option, Some, None, Result, Ok, Err, List, [], ◌∷◌, ◌++◌, length, take, drop, refl, sym, ap, subst, ◌∙◌, arith, take-append-drop}
 use Rattle.std.proofs.lemmas.List.{length-take-le}
-use Rattle.std.specs.Char.{len_utf8}
 use Rattle.std.proofs.lemmas.Str.{len_utf8_bounds}
 use Rattle.std.proofs.Math.Seq.{take-append_seam, drop-append_seam}
 use Rattle.gabc_places.specs.StageLaw.{concat_of}
@@ -38,7 +37,7 @@ use Rattle.gabc_score.specs.Score.{heads_text, after_heads, with_body}
 use Rattle.gabc_score.specs.Stops.{events_in_points}
 use Rattle.gabc_score.specs.Syllable.{all_syllables}
 use Rattle.gabc_score.specs.Units.{Units, BodyCutting}
-use Rattle.gabc_score.specs.SyllablesOfUnits.{closed_units, count_in, whole_count, through_unit, whole_prefix, units_within, body_characters, IsBodyCut, AreBeforeStop, AreBeforeBodyStop}
+use Rattle.gabc_score.specs.SyllablesOfUnits.{count_in, whole_count, through_unit, whole_prefix, units_within, body_characters, IsBodyCut, AreBeforeStop, AreBeforeBodyStop}
 use Rattle.gabc_score.proofs.score_events.PlainScores.{plain_by, plain_of}
 use Rattle.gabc_score.proofs.texts_of_body.SeamsOfCharacters.{size, size_append, size_of_one}
 use Rattle.gabc_places.proofs.PlacesOfAText.{placed_after, after_joined, placed_append}
@@ -59,18 +58,11 @@ placed_prefix f (c ∷ cs) (x ∷ xs) ys e =
     subst (λ (y : Char). placed_characters_after f (y.c ∷ codes_of xs) ≡ y ∷ xs) first (ap (λ zs. here ∷ zs) (placed_prefix (f ++ c ∷ []) cs xs ys rest))
 
 some_bytes : (c : ℕ) → 1 ≤ size (c ∷ [])
-some_bytes c =
-    let one : size (c ∷ []) ≡ len_utf8 c = size_of_one c in
-    let least : 1 ≤ len_utf8 c = (len_utf8_bounds c).0 in
-    omega arith
+some_bytes c = omega (arith, size_of_one c, (len_utf8_bounds c).0)
 
 few_characters : (t : List ℕ) → length t ≤ size t
 few_characters [] = omega arith
-few_characters (c ∷ t) =
-    let all : size (c ∷ t) ≡ size (c ∷ []) + size t = size_append (c ∷ []) t in
-    let one = some_bytes c in
-    let rest = few_characters t in
-    omega arith
+few_characters (c ∷ t) = omega (arith, size_append (c ∷ []) t, some_bytes c, few_characters t)
 
 body_small : (t : List ℕ) → size t < 2 ^ 63 → AllSmall (body_characters t)
 body_small t short =
@@ -86,16 +78,11 @@ body_small t short =
 -- ---- the score
 
 within_count : (m : ℕ) (o : Option Units) → length (units_within m o) ≡ count_in m o
-within_count m None = refl
-within_count m (Some u) =
-    let all = closed_count u.closed u.last in
-    let few = within_few m u.closed in
-    length-take-le (count_in m (Some u)) (closed_units u.closed u.last) (omega arith)
+within_count m o = grind (arith, closed_count, within_few, length-take-le)
 
 none_before_stop : (limits : Limits) (head : ℕ) (xs : List Char) (lists : List (List BodyEvent)) (n : ℕ) → AreBeforeStop limits head xs lists n
     → (i : ℕ) → i < n → code_at limits head (events_in_points [] lists (suc i)) ≡ None
-none_before_stop limits head xs lists n (inl h) i few = h.0.none i (omega (arith, h.1))
-none_before_stop limits head xs lists n (inr h) i few = h.0.none_earlier i (omega (arith, h.1))
+none_before_stop limits head xs lists n h i few = grind arith
 
 module _ (ends : (at : Place) (t : List ℕ) → EndsOnce at t) (emits : (at : Place) (t : List ℕ) → with_events empty_text (concat_of (events_by_point at t)) ≡ text_built_at at t)
     (spans : (t : List ℕ) → StandsForView (kept t) (view_in t) t) (in_order : (at : Place) (t : List ℕ) → concat_of (events_by_point at t) ≡ events_of at t)

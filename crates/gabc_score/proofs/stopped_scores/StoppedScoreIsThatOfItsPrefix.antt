@@ -1,13 +1,12 @@
 -- The syllables of a stopped score are those of its prefix, read as a whole.
-use Rattle.std.proofs.Common.{◌≡◌, ℕ, zero, suc, ◌+◌, ◌-◌, ◌<◌, ◌≤◌, ◌^◌, nat_lt, Bool, true, false, cond, if◌then◌else◌, Option, option_map, Some, None, ◌⊎◌, inl, inr, List, [], ◌∷◌, ◌++◌, length, map, take, drop, refl, sym, ap, subst, ◌∙◌, arith, append_assoc, append-nil, length-append, take-append-drop}
+use Rattle.std.proofs.Common.{◌≡◌, ℕ, zero, suc, ◌+◌, ◌-◌, ◌<◌, ◌≤◌, ◌^◌, Bool, false, Option, option_map, Some, None, inl, inr, List, [], ◌∷◌, ◌++◌, length, map, take, drop, refl, sym, ap, subst, ◌∙◌, arith, append_assoc, append-nil, length-append, take-append-drop}
 use Rattle.std.specs.List.{flat_map}
-use Rattle.std.proofs.lemmas.Bool.{ltb-false}
+use Rattle.std.proofs.lemmas.Bool.Decides.{nat_tests}
 use Rattle.std.proofs.lemmas.List.{take-append-le, length-take-le, length-map}
 use Rattle.std.proofs.Math.Seq.{take-append-add, take-length, drop-append_seam}
 use Rattle.gabc_places.proofs.PushesAreOne.{joined-append}
 use Rattle.gabc_places.specs.StageLaw.{concat_of}
 use Rattle.gabc_places.specs.declared.code.Finding.{Finding}
-use Rattle.gabc_places.specs.declared.code.Fault.{Fault}
 use Rattle.gabc_places.specs.declared.limits.Limits.{Limits}
 use Rattle.gabc_places.specs.declared.place.Place.{Place}
 use Rattle.gabc_places.specs.declared.place.Char.{Char}
@@ -26,22 +25,21 @@ use Rattle.gabc_notes.specs.Events as notes
 use Rattle.gabc_nabc.specs.Events as nabc
 use Rattle.gabc_score.specs.declared.events.BodyEvent.{BodyEvent}
 use Rattle.gabc_score.specs.declared.events.BodyEvent.TheVariants.{Text}
-use Rattle.gabc_score.specs.declared.body_result.BodyResult.{BodyResult}
 use Rattle.gabc_score.specs.declared.ending.InputEnding.TheVariants.{Whole}
-use Rattle.gabc_score.specs.Body.{events_onto, code_by, code_at, events_to_stop, cut_of, all_units, fault_at, fault_of_end, result_by_fault, result_by, has_last, has_text, last_syllable}
+use Rattle.gabc_score.specs.Body.{events_onto, code_at, events_to_stop, cut_of, fault_of_end, result_by_fault, result_by}
 use Rattle.gabc_score.specs.Canonical.{with_positions}
 use Rattle.gabc_score.specs.Events.{InComment, texts_by_definition, text_from, body_events}
-use Rattle.gabc_score.specs.Stops.{events_in_points, StopsAt, NeverStops}
-use Rattle.gabc_score.specs.Syllable.{all_syllables, since_close, kept_of, view_of}
+use Rattle.gabc_score.specs.Stops.{events_in_points}
+use Rattle.gabc_score.specs.Syllable.{all_syllables, since_close}
 use Rattle.gabc_score.specs.Units.{BodyUnit, JustText, Units, BodyCutting, whole, units_pieces, last_characters, cutting_of, BeginsWithLf, first_text, Cuts, events_of_cutting, IsCutFrom, IsCut}
-use Rattle.gabc_score.specs.SyllablesOfUnits.{with_ends, snippets_in, characters_in, characters_from, closed_units, count_within, count_in, whole_count, through_unit}
+use Rattle.gabc_score.specs.SyllablesOfUnits.{characters_in, characters_from, closed_units, count_within, count_in, whole_count, through_unit}
 use Rattle.gabc_score.proofs.texts_of_body.SeamsOfCharacters.{size}
 use Rattle.gabc_score.proofs.building.EventsOfSyllableParts.{onto_append}
 use Rattle.gabc_score.proofs.building.EventsOfOnePoint.{made_before}
 use Rattle.gabc_score.proofs.building.StopIsFirst.{stop_is_first}
 use Rattle.gabc_score.proofs.building.OneListEachCharacter.{events_each}
 use Rattle.gabc_score.proofs.units.BodyHasOneCutting.{body_emits_all}
-use Rattle.gabc_score.proofs.stopped_scores.NothingIsKeptAtTheEnd.{none_at_first}
+use Rattle.gabc_score.proofs.stopped_scores.NothingIsKeptAtTheEnd.{none_before}
 use Rattle.gabc_score.proofs.holding.SyllablesHoldParts.{nothing_of, fits_back, fits_prefix}
 use Rattle.gabc_score.proofs.syllables_of_units.UnitsGiveSyllables.{units_whole, units_give}
 use Rattle.gabc_score.proofs.syllables_of_units.SyllablesAreThoseOfUnits.{body_all}
@@ -62,17 +60,7 @@ module _ (limits : Limits) (head : ℕ) (found : List Finding) (at : Place) wher
   -- what a reading says that ends at a seam
   seam_read : (before : List BodyEvent) → IsSeam before → code_at limits head before ≡ None
       → (let b = result_by_fault found at before (finished ∷ before) (fault_of_end limits head at (finished ∷ before) (cut_of (finished ∷ before))) in (b.fault ≡ None) × (b.syllables ≡ with_positions (all_syllables before)))
-  seam_read before s none =
-      let all = finished ∷ before in
-      let no_last : has_last all ≡ false = ap (λ e. has_text (view_of (finished ∷ e))) s.since in
-      let units : all_units all ≡ all_syllables before = ap (λ b. cond b (all_syllables before ++ last_syllable all ∷ []) (all_syllables before)) no_last in
-      let kept_is : kept_of (since_close all) ≡ kept_of (since_close before) = ap (λ e. kept_of (finished ∷ e)) s.since ∙ ap kept_of (sym s.since) in
-      let code : code_by limits head (all_units all) (kept_of (since_close all)) ≡ None =
-      ap (λ ms. code_by limits head ms (kept_of (since_close all))) units ∙ ap (code_by limits head (all_syllables before)) kept_is ∙ none in
-      let fault : fault_of_end limits head at all (cut_of all) ≡ None = ap (fault_of_end limits head at all) s.uncut ∙ ap (λ o. option_map (fault_at at) o) code in (
-        ap (λ o. (result_by_fault found at before all o).fault) fault,
-        ap (λ o. (result_by_fault found at before all o).syllables) fault ∙ ap with_positions units,
-      )
+  seam_read before s none = grind arith
 
 -- ---- characters of the prefix
 
@@ -82,26 +70,12 @@ flat_is (u ∷ units) = ap (λ cs. characters_in u ++ cs) (flat_is units)
 
 count_fits : (n : ℕ) (units : List BodyUnit) → length (characters_from (take (count_within n units) units) (JustText [])) ≤ n
 count_fits n [] = omega arith
-count_fits n (u ∷ units) = by (nat_lt n (length (characters_in u))) refl (count_fits (n - length (characters_in u)) units)
-  where
-    by : (b : Bool) → nat_lt n (length (characters_in u)) ≡ b
-        → length (characters_from (take (count_within (n - length (characters_in u)) units) units) (JustText [])) ≤ n - length (characters_in u)
-        → length (characters_from (take (if b then 0 else suc (count_within (n - length (characters_in u)) units)) (u ∷ units)) (JustText [])) ≤ n
-    by true e h = omega arith
-    by false e h =
-        let rest = characters_from (take (count_within (n - length (characters_in u)) units) units) (JustText []) in
-        let all : length (characters_in u ++ rest) ≡ length (characters_in u) + length rest = length-append (characters_in u) rest in
-        let few : length (characters_in u) ≤ n = ltb-false n (length (characters_in u)) e in
-        omega arith
+count_fits n (u ∷ units) =
+    let rest = characters_from (take (count_within (n - length (characters_in u)) units) units) (JustText []) in
+    grind (arith, nat_tests, count_fits (n - length (characters_in u)) units, length-append (characters_in u) rest)
 
 some_characters : (j : ℕ) (units : List BodyUnit) → suc j ≤ length units → 0 < length (characters_from (take (suc j) units) (JustText []))
-some_characters j [] h = absurd (omega (arith, h))
-some_characters j (u ∷ units) h =
-    let text = u.text.characters in
-    let more = characters_from (take j units) (JustText []) in
-    let a : length (characters_in u ++ more) ≡ length (characters_in u) + length more = length-append (characters_in u) more in
-    let b : length (characters_in u) ≡ length text + suc (length (with_ends (snippets_in u))) = length-append text (u.text.end ∷ with_ends (snippets_in u)) in
-    omega arith
+some_characters j units h = grind (arith, length-append)
 
 -- a body and its prefix begin with the same text, at a small place
 record BeginAlike (prefix after : List Char) : Type 0 where
@@ -162,47 +136,31 @@ module _ (ends : (at : Place) (t : List ℕ) → EndsOnce at t) (emits : (at : P
     enough = let f = w.few in let p = points in omega arith
 
     point_is : (i : ℕ) → i ≤ length prefix → events_in_points [] (events_here prefix) i ≡ events_in_points [] (events_here xs) i
-    point_is i h =
-        ap (λ ls. events_onto (concat_of (take i ls)) []) w.events
-        ∙ ap (λ ls. events_onto (concat_of ls) []) (prefix_of_prefix i (length prefix) (events_here xs) ((finished ∷ []) ∷ []) h enough)
+    point_is i h = grind (arith, prefix_of_prefix, enough)
 
-    none_at_seam : (m : ℕ) → m ≡ length prefix → code_at limits head (events_in_points [] (events_here xs) m) ≡ None
-    none_at_seam zero e = none_at_first ends lines macros limits head
-    none_at_seam (suc m) e = let f = w.few in none m (omega arith)
+    none_at_seam : code_at limits head before_end ≡ None
+    none_at_seam = none_before ends lines macros limits head (length prefix) (events_here xs) (λ i h. none i (omega (arith, h, w.few)))
 
     never : (let r = events_to_stop limits head [] prefix (events_here prefix) in (r.fault ≡ None) × ((r.before ≡ before_end) × (r.last ≡ finished ∷ [])))
-    never = by (stop_is_first limits head [] prefix (events_here prefix) (events_each texts_by_definition lines macros InComment prefix))
-      where
-        by : (let r = events_to_stop limits head [] prefix (events_here prefix) in NeverStops limits head [] prefix (events_here prefix) r ⊎ StopsAt limits head [] prefix (events_here prefix) r
-            → (r.fault ≡ None) × ((r.before ≡ before_end) × (r.last ≡ finished ∷ [])))
-        by (inl s) =
-            let m : length (take (length prefix) (events_here xs)) ≡ length prefix = length-take-le (length prefix) (events_here xs) enough in (
-              s.fault,
-              (
-                s.before ∙ point_is (length prefix) (omega arith),
-                s.last ∙ ap (λ ls. concat_of (drop (length prefix) ls)) w.events
-                    ∙ ap (λ i. concat_of (drop i (take (length prefix) (events_here xs) ++ (finished ∷ []) ∷ []))) (sym m)
-                    ∙ ap concat_of (drop-append_seam (take (length prefix) (events_here xs)) ((finished ∷ []) ∷ [])),
-              ),
-            )
-        by (inr s) =
-            let all : length prefix ≡ length s.prefix + suc (length s.rest) = ap length s.all ∙ length-append s.prefix (s.here ∷ s.rest) in
-            let f = w.few in
-            let p = ap (code_at limits head) (sym (point_is (suc (length s.prefix)) (omega arith))) ∙ s.passed in
-            let q = none (length s.prefix) (omega arith) in
-            absurd (let e = sym q ∙ p in cc)
+    never = elim (stop_is_first limits head [] prefix (events_here prefix) (events_each texts_by_definition lines macros InComment prefix)) [
+      | inl s ↦ (let m : length (take (length prefix) (events_here xs)) ≡ length prefix = length-take-le (length prefix) (events_here xs) enough in (
+        s.fault,
+        (
+          s.before ∙ point_is (length prefix) (omega arith),
+          s.last ∙ ap (λ ls. concat_of (drop (length prefix) ls)) w.events
+              ∙ ap (λ i. concat_of (drop i (take (length prefix) (events_here xs) ++ (finished ∷ []) ∷ []))) (sym m)
+              ∙ ap concat_of (drop-append_seam (take (length prefix) (events_here xs)) ((finished ∷ []) ∷ [])),
+        ),
+      ))
+      | inr s ↦ (let all : length prefix ≡ length s.prefix + suc (length s.rest) = ap length s.all ∙ length-append s.prefix (s.here ∷ s.rest) in
+          let p = ap (code_at limits head) (sym (point_is (suc (length s.prefix)) (omega arith))) ∙ s.passed in
+          let q = none (length s.prefix) (omega (arith, all, w.few)) in
+          absurd (cc (sym q ∙ p)))
+    ]
 
     pub prefix_read : (let r = events_to_stop limits head [] prefix (events_here prefix) in let b = result_by limits head found at Whole r.before r.last r.fault in
         (b.fault ≡ None) × (b.syllables ≡ with_positions (all_syllables before_end)))
-    prefix_read =
-        let r = events_to_stop limits head [] prefix (events_here prefix) in
-        let reads : List BodyEvent → List BodyEvent → Option Fault → BodyResult = λ before last fault. result_by limits head found at Whole before last fault in
-        let e : reads r.before r.last r.fault ≡ reads before_end (finished ∷ []) None =
-        ap (λ b. result_by limits head found at Whole b r.last r.fault) never.1.0
-        ∙ ap (λ l. result_by limits head found at Whole before_end l r.fault) never.1.1
-        ∙ ap (λ f. result_by limits head found at Whole before_end (finished ∷ []) f) never.0 in
-        let s = seam_read limits head found at before_end w.seam (none_at_seam (length prefix) refl) in
-        (ap (λ (b : BodyResult). b.fault) e ∙ s.0, ap (λ (b : BodyResult). b.syllables) e ∙ s.1)
+    prefix_read = grind (arith, never, seam_read, none_at_seam)
 
   -- ---- the prefix of a body
 
@@ -212,10 +170,9 @@ module _ (ends : (at : Place) (t : List ℕ) → EndsOnce at t) (emits : (at : P
       let a = events_in_points [] (events_here xs) (length prefix) in
       let b = events_in_points [] (events_here xs) n in
       let p : length (events_here xs) ≡ length xs + 1 = events_each texts_by_definition lines macros InComment xs in
-      let f = w.few in
       let enough : n ≤ length (events_here xs) = omega arith in
       let lists : take (length prefix) (take n (events_here xs)) ≡ take (length prefix) (events_here xs) =
-      ap (take (length prefix)) (sym (append-nil (take n (events_here xs)))) ∙ prefix_of_prefix (length prefix) n (events_here xs) [] f enough in
+      ap (take (length prefix)) (sym (append-nil (take n (events_here xs)))) ∙ prefix_of_prefix (length prefix) n (events_here xs) [] w.few enough in
       let now = concat_of (drop (length prefix) (take n (events_here xs))) in
       let on : events_onto now a ≡ b =
       ap (λ ls. events_onto now (events_onto (concat_of ls) [])) (sym lists)

@@ -1,5 +1,5 @@
 -- A stopped score has the syllables of the units whose `)` stands before its stop.
-use Rattle.std.proofs.Common.{◌⊎◌, inl, inr, refl, Bool, true, false, nat_lt, if◌then◌else◌, ◌≡◌, ℕ, zero, suc, ◌+◌, ◌-◌, ◌<◌, ◌≤◌, ◌^◌, Option, option_map, Some, None, Result, Ok, Err, List, [], ◌∷◌, ◌++◌, length, map, take, drop, sym, ap, subst, ◌∙◌, arith, length-append, take-append-drop}
+use Rattle.std.proofs.Common.{inl, inr, refl, Bool, false, ◌≡◌, ℕ, zero, suc, ◌+◌, ◌-◌, ◌<◌, ◌≤◌, ◌^◌, Option, option_map, Some, None, Result, Ok, Err, List, [], ◌∷◌, ◌++◌, length, map, take, drop, sym, ap, subst, ◌∙◌, arith, length-append, take-append-drop}
 use Rattle.std.proofs.lemmas.List.{take-append-le}
 use Rattle.gabc_places.proofs.PushesAreOne.{joined-append}
 use Rattle.gabc_places.specs.StageLaw.{concat_of}
@@ -23,11 +23,11 @@ use Rattle.gabc_text.specs.View.{kept}
 use Rattle.gabc_text.specs.TextRead.{view_in}
 use Rattle.gabc_score.specs.declared.events.BodyEvent.{BodyEvent}
 use Rattle.gabc_score.specs.declared.ending.InputEnding.{InputEnding}
-use Rattle.gabc_score.specs.declared.ending.InputEnding.TheVariants.{Whole, Broken, At}
-use Rattle.gabc_score.specs.Body.{events_onto, events_to_stop, cut_of, fault_of_end, result_by_fault, result_by}
+use Rattle.gabc_score.specs.declared.ending.InputEnding.TheVariants.{Whole}
+use Rattle.gabc_score.specs.Body.{events_onto, events_to_stop, result_by}
 use Rattle.gabc_score.specs.Canonical.{with_positions}
 use Rattle.gabc_score.specs.Events.{InComment, body_events, text_from, texts_by_definition}
-use Rattle.gabc_score.specs.Stops.{events_in_points, StopsAt, NeverStops}
+use Rattle.gabc_score.specs.Stops.{events_in_points}
 use Rattle.gabc_score.specs.Syllable.{UnplacedSyllable, all_syllables}
 use Rattle.gabc_score.specs.Units.{BodyUnit, LastUnit, Units, BodyCutting, whole, last_pieces, units_pieces, last_characters, events_of_cutting, cutting_of, Cuts, IsCutFrom, IsCut, events_of_parts}
 use Rattle.gabc_score.specs.SyllablesOfUnits.{characters_in, ScoreUnit, closed_units, count_within, units_within, AreSyllablesOf, body_characters, IsBodyCut, AreBeforeStop, AreBeforeBodyStop}
@@ -50,14 +50,7 @@ use Rattle.gabc_score.proofs.units.UnitsEndAtMarks.{first_is}
 module _ (limits : Limits) (head : ℕ) (found : List Finding) (at : Place) where
   pub stopped_read : (ending : InputEnding) (before last : List BodyEvent) (fault : Option Fault) → ¬ ((ending ≡ Whole) × ((result_by limits head found at ending before last fault).fault ≡ None))
       → (result_by limits head found at ending before last fault).syllables ≡ with_positions (all_syllables before)
-  stopped_read ending before last (Some fault) h = refl
-  stopped_read Broken before last None h = refl
-  stopped_read (At fault) before last None h = refl
-  stopped_read Whole before last None h = by (fault_of_end limits head at (events_onto last before) (cut_of (events_onto last before))) h
-    where
-      by : (o : Option Fault) → ¬ ((Whole ≡ Whole) × ((result_by_fault found at before (events_onto last before) o).fault ≡ None)) → (result_by_fault found at before (events_onto last before) o).syllables ≡ with_positions (all_syllables before)
-      by (Some fault) k = refl
-      by None k = absurd (k (refl, refl))
+  stopped_read ending before last fault h = grind arith
 
 -- ---- the first of the syllables
 
@@ -65,15 +58,13 @@ module _ (lines : ℕ) where
   first_made : (k : ℕ) (eu nlba : Bool) (us : List ScoreUnit) (ms : List UnplacedSyllable) → AreMade lines eu nlba us ms → AreMade lines eu nlba (take k us) (take k ms)
   first_made zero eu nlba us ms h = tt
   first_made (suc k) eu nlba [] [] h = tt
-  first_made (suc k) eu nlba [] (m ∷ ms) h = absurd h
-  first_made (suc k) eu nlba (u ∷ us) [] h = absurd h
   first_made (suc k) eu nlba (u ∷ us) (m ∷ ms) h = (h.0, first_made k (eu_after eu (span_tags u.text)) (nlba_after nlba (span_tags u.text)) us ms h.1)
+  first_made (suc k) eu nlba _ _ h = absurd h
 
   pub as_many : (eu nlba : Bool) (us : List ScoreUnit) (ms : List UnplacedSyllable) → AreMade lines eu nlba us ms → length ms ≡ length us
   as_many eu nlba [] [] h = refl
-  as_many eu nlba [] (m ∷ ms) h = absurd h
-  as_many eu nlba (u ∷ us) [] h = absurd h
   as_many eu nlba (u ∷ us) (m ∷ ms) h = ap (λ n. suc n) (as_many (eu_after eu (span_tags u.text)) (nlba_after nlba (span_tags u.text)) us ms h.1)
+  as_many eu nlba _ _ h = absurd h
 
 pub closed_count : (units : List BodyUnit) (last : LastUnit) → length (closed_units units last) ≡ length units
 closed_count [] last = refl
@@ -81,11 +72,7 @@ closed_count (u ∷ units) last = ap (λ n. suc n) (closed_count units last)
 
 pub within_few : (n : ℕ) (units : List BodyUnit) → count_within n units ≤ length units
 within_few n [] = omega arith
-within_few n (u ∷ units) = by (nat_lt n (length (characters_in u))) (within_few (n - length (characters_in u)) units)
-  where
-    by : (b : Bool) → count_within (n - length (characters_in u)) units ≤ length units → (if b then 0 else suc (count_within (n - length (characters_in u)) units)) ≤ suc (length units)
-    by true h = omega arith
-    by false h = omega arith
+within_few n (u ∷ units) = grind (arith, within_few (n - length (characters_in u)) units)
 
 pub take_comment : (n : ℕ) (comment : List Char) (lists : List (List BodyEvent)) → concat_of (take n (map nothing_of comment ++ lists)) ≡ concat_of (take (n - length comment) lists)
 take_comment n [] lists = ap (λ m. concat_of (take m lists)) (let e : n ≡ n - 0 = omega arith in e)
@@ -169,11 +156,7 @@ module _ (ends : (at : Place) (t : List ℕ) → EndsOnce at t) (emits : (at : P
 
 pub stop_reached : (limits : Limits) (head : ℕ) (xs : List Char) (lists : List (List BodyEvent)) (n : ℕ) → AreBeforeStop limits head xs lists n
     → (n ≤ length xs) × ((events_to_stop limits head [] xs lists).before ≡ events_in_points [] lists n)
-stop_reached limits head xs lists n (inl h) = (omega (arith, h.1), h.0.before ∙ ap (events_in_points [] lists) (sym h.1))
-stop_reached limits head xs lists n (inr h) =
-    let s = h.0 in
-    let all : length xs ≡ length s.prefix + suc (length s.rest) = ap length s.all ∙ length-append s.prefix (s.here ∷ s.rest) in
-    (omega (arith, h.1), s.before ∙ ap (events_in_points [] lists) (sym h.1))
+stop_reached limits head xs lists n h = grind (arith, length-append)
 
 module _ (ends : (at : Place) (t : List ℕ) → EndsOnce at t) (emits : (at : Place) (t : List ℕ) → with_events empty_text (concat_of (events_by_point at t)) ≡ text_built_at at t)
     (spans : (t : List ℕ) → StandsForView (kept t) (view_in t) t) (in_order : (at : Place) (t : List ℕ) → concat_of (events_by_point at t) ≡ events_of at t)
@@ -206,9 +189,7 @@ stop_stands limits book t =
     let xs = body_characters t in
     let lines = nabc_lines_of book in
     let macros = macros_of book in
-    by (stop_is_first limits (bytes_len (canonical_heads book)) [] xs (body_events lines macros xs) (events_each texts_by_definition lines macros InComment xs))
-  where
-    by : (let xs = body_characters t in let lists = body_events (nabc_lines_of book) (macros_of book) xs in let head = bytes_len (canonical_heads book) in let r = events_to_stop limits head [] xs lists in
-        NeverStops limits head [] xs lists r ⊎ StopsAt limits head [] xs lists r → (n : ℕ) × AreBeforeStop limits head xs lists n)
-    by (inl s) = (length (body_characters t), inl (s, refl))
-    by (inr s) = (length s.prefix, inr (s, refl))
+    elim (stop_is_first limits (bytes_len (canonical_heads book)) [] xs (body_events lines macros xs) (events_each texts_by_definition lines macros InComment xs)) [
+      | inl s ↦ (length xs, inl (s, refl))
+      | inr s ↦ (length s.prefix, inr (s, refl))
+    ]

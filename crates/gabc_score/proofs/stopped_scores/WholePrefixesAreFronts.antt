@@ -1,5 +1,5 @@
 -- The prefix of a text through a whole unit of its body is one of its fronts.
-use Rattle.std.proofs.Common.{◌≡◌, ℕ, zero, suc, List, [], ◌∷◌, ◌++◌, length, take, Option, Some, None, refl, sym, ap, ◌∙◌, append-nil, append_assoc}
+use Rattle.std.proofs.Common.{◌≡◌, ℕ, zero, suc, List, [], ◌∷◌, ◌++◌, length, take, Option, Some, None, refl, sym, ap, ◌∙◌, append-nil, append_assoc, arith}
 use Rattle.std.specs.List.{flat_map}
 use Rattle.std.proofs.lemmas.List.{take-append-drop}
 use Rattle.std.proofs.Math.Seq.{take-append_seam}
@@ -14,10 +14,7 @@ use Rattle.gabc_score.proofs.texts_of_body.TextEmitsThroughEnd.{codes_append}
 units_first : (n : ℕ) (units : List BodyUnit) (last : LastUnit) → (after : List Char) × (characters_from units last ≡ flat_map characters_in (take n units) ++ after)
 units_first zero units last = (characters_from units last, refl)
 units_first (suc n) [] last = (characters_from [] last, refl)
-units_first (suc n) (u ∷ units) last =
-    let rest = units_first n units last in
-    let first = flat_map characters_in (take n units) in
-    (rest.0, ap (λ (l : List Char). characters_in u ++ l) rest.1 ∙ sym (append_assoc (characters_in u) first rest.0))
+units_first (suc n) (u ∷ units) last = grind (arith, units_first n units last, append_assoc)
 
 through_first : (k : ℕ) (comment : List Char) (units : Option Units)
     → (after : List Char) × (comment ++ unit_characters units ≡ through_unit k (record { comment = comment; units = units }) ++ after)

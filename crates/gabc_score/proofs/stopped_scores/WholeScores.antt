@@ -1,8 +1,7 @@
 -- A whole score has the syllables of the units of its body.
-use Rattle.std.proofs.Common.{◌≡◌, ℕ, ◌<◌, ◌^◌, Option, option_map, Some, None, Result, Ok, Err, List, [], refl, sym, ap, subst, ◌∙◌}
+use Rattle.std.proofs.Common.{◌≡◌, ℕ, ◌<◌, ◌^◌, Option, Some, None, Result, Ok, Err, List, [], sym, ap, subst, ◌∙◌, arith}
 use Rattle.gabc_places.specs.StageLaw.{concat_of}
 use Rattle.gabc_places.specs.Place.{place_after}
-use Rattle.gabc_places.specs.declared.code.Code.{Code}
 use Rattle.gabc_places.specs.declared.code.Finding.{Finding}
 use Rattle.gabc_places.specs.declared.code.Fault.{Fault}
 use Rattle.gabc_places.specs.declared.limits.Limits.{Limits}
@@ -21,10 +20,9 @@ use Rattle.gabc_text.specs.View.{kept}
 use Rattle.gabc_text.specs.TextRead.{view_in}
 use Rattle.gabc_score.specs.declared.events.BodyEvent.{BodyEvent}
 use Rattle.gabc_score.specs.declared.ending.InputEnding.TheVariants.{Whole}
-use Rattle.gabc_score.specs.Body.{events_onto, events_to_stop, code_by, all_units, cut_of, fault_at, fault_of_end, result_by_fault, result_by}
+use Rattle.gabc_score.specs.Body.{events_onto, events_to_stop, all_units, cut_of, result_by}
 use Rattle.gabc_score.specs.Canonical.{with_positions}
 use Rattle.gabc_score.specs.Events.{body_events}
-use Rattle.gabc_score.specs.Syllable.{since_close, kept_of}
 use Rattle.gabc_score.specs.Units.{BodyCutting}
 use Rattle.gabc_score.specs.SyllablesOfUnits.{score_units, AreSyllablesOf, body_characters, IsBodyCut}
 use Rattle.gabc_score.proofs.score_events.PlainScores.{plain_by, plain_of}
@@ -42,22 +40,7 @@ module _ (limits : Limits) (head : ℕ) (found : List Finding) (at : Place) wher
     syllables_are : (result_by limits head found at Whole before last fault).syllables ≡ with_positions (all_units (events_onto last before))
 
   whole_read : (before last : List BodyEvent) (fault : Option Fault) → (result_by limits head found at Whole before last fault).fault ≡ None → IsWholeRead before last fault
-  whole_read before last (Some fault) h = absurd (cc)
-  whole_read before last None h = by (cut_of (events_onto last before)) refl h
-    where
-      code_is : (code : Option Code) → (result_by_fault found at before (events_onto last before) (option_map (fault_at at) code)).fault ≡ None
-          → (result_by_fault found at before (events_onto last before) (option_map (fault_at at) code)).syllables ≡ with_positions (all_units (events_onto last before))
-      code_is None k = refl
-      code_is (Some code) k = absurd (cc)
-
-      by : (o : Option Place) → cut_of (events_onto last before) ≡ o → (result_by_fault found at before (events_onto last before) (fault_of_end limits head at (events_onto last before) o)).fault ≡ None → IsWholeRead before last None
-      by (Some place) e k = absurd (cc)
-      by None e k = record {
-        goes_on = refl;
-        none_cut = e;
-        syllables_are = ap (λ o. (result_by_fault found at before (events_onto last before) (fault_of_end limits head at (events_onto last before) o)).syllables) e
-            ∙ code_is (code_by limits head (all_units (events_onto last before)) (kept_of (since_close (events_onto last before)))) k;
-      }
+  whole_read before last fault h = grind arith
 
 -- ---- the score
 

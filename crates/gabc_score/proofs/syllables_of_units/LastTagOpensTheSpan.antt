@@ -1,13 +1,13 @@
 -- A span is open after texts if the last of its two tags in them opens it.
-use Rattle.std.proofs.Common.{◌≡◌, ℕ, ◌&&◌, not, List, [], ◌∷◌, ◌++◌, map, Bool, true, false, cond, Option, Some, None, ◌⊎◌, inl, inr, refl, sym, ap, subst, ◌∙◌, append_assoc, append-nil, bytes_eq, reverse}
+use Rattle.std.proofs.Common.{◌≡◌, ℕ, ◌&&◌, not, List, [], ◌∷◌, ◌++◌, map, Bool, true, false, cond, Option, Some, None, ◌⊎◌, inl, inr, refl, sym, ap, ◌∙◌, append_assoc, append-nil, bytes_eq, arith}
 use Rattle.std.specs.Prelude.{◌≢◌, IsTrue, ◌↔◌}
 use Rattle.std.specs.List.{All}
-use Rattle.std.proofs.lemmas.Bool.{false≢true}
+use Rattle.std.proofs.lemmas.Bool.{false≢true, cond_both}
 use Rattle.std.proofs.lemmas.List.{map-append}
 use Rattle.std.proofs.lemmas.List.Elements.{All-nil, All-cons, All-head, All-tail}
 use Rattle.std.proofs.lemmas.Slice.Eq.{bytes_eq-Decides}
 use Rattle.std.proofs.lemmas.Str.{encodes-append, encodes_same}
-use lib.Utf8.{encode, encodes}
+use lib.Utf8.{encodes}
 use Rattle.gabc_places.specs.declared.place.Place.{Place}
 use Rattle.gabc_places.specs.declared.place.Span.{Span}
 use Rattle.gabc_places.specs.declared.place.Char.{Char}
@@ -15,7 +15,6 @@ use Rattle.gabc_places.specs.declared.code.Code.{Code}
 use Rattle.gabc_places.specs.declared.code.Finding.{Finding}
 use Rattle.gabc_places.specs.Place.{next_place, placed_characters_from}
 use Rattle.gabc_text.specs.declared.token.TokenKind.{TokenKind}
-use Rattle.gabc_text.specs.declared.token.TokenKind.TheVariants.{Letter, Blank, Comment, Stray, Begin, End, Tag, Raw, Translation, OpenTag, OpenTranslation}
 use Rattle.gabc_text.specs.declared.token.TagEffect.{TagEffect}
 use Rattle.gabc_text.specs.declared.view.PieceKind.{PieceKind}
 use Rattle.gabc_text.specs.declared.view.PieceKind.TheVariants as piece
@@ -24,13 +23,13 @@ use Rattle.gabc_text.specs.declared.text_event.TextPart.{TextPart}
 use Rattle.gabc_text.specs.declared.text_event.TextPart.TheVariants as part
 use Rattle.gabc_text.specs.declared.text_event.TextEvent.{TextEvent}
 use Rattle.gabc_text.specs.declared.text_event.TextEvent.TheVariants as text
-use Rattle.gabc_text.specs.Token.{Token, spelling, tokens}
-use Rattle.gabc_text.specs.View.{PieceFacts, along, effect, piece_kind, kind_of, piece_of, pieces_at, open_styles, is_blank_piece, is_space, is_left_out, follows_space, follows_blank, has_word, starts_word, has_translation, kept_at, place_of, early_codes, late_codes, findings_at_end}
+use Rattle.gabc_text.specs.Token.{Token, spelling}
+use Rattle.gabc_text.specs.View.{PieceFacts, along, effect, piece_kind, kind_of, piece_of, pieces_at, open_styles, is_blank_piece, is_space, is_left_out, follows_space, follows_blank, has_word, starts_word, has_translation, kept_at, place_of, early_codes, late_codes}
 use Rattle.gabc_text.specs.ViewFacts.{but_blank, span_tags, is_mark, tags_among}
-use Rattle.gabc_text.specs.Events.{kept_of as kept_before, piece_at, waiting_by, waiting_blank, is_blank_at, option_list_of, is_whole_translation, translation_at, parts_by, parts_at, chars_at, finding_events, early_events, events_at, end_events, centre_of, end_after, after_tokens, events_of, codes_of}
+use Rattle.gabc_text.specs.Events.{kept_of as kept_before, piece_at, waiting_by, waiting_blank, option_list_of, is_whole_translation, translation_at, parts_by, parts_at, chars_at, finding_events, early_events, events_at, end_events, events_of, codes_of}
 use Rattle.gabc_score.specs.declared.events.BodyEvent.{BodyEvent}
 use Rattle.gabc_score.specs.declared.events.BodyEvent.TheVariants as event
-use Rattle.gabc_score.specs.Syllable.{since_close, kept_of, ended_parts_of, part_of, slice, is_open_after, is_open}
+use Rattle.gabc_score.specs.Syllable.{since_close, kept_of, slice, is_open_after, is_open}
 use Rattle.gabc_score.specs.Body.{events_onto}
 use Rattle.gabc_score.specs.SyllablesOfUnits.{IsLeftOpen}
 use Rattle.gabc_score.specs.machine.PartKeeps.{text_events}
@@ -46,24 +45,12 @@ tags_one : (p : PieceFacts) (ps : List PieceFacts) → tags_among (p ∷ ps) ≡
 tags_one p ps = tags_join (p ∷ []) ps
 
 blank_has_none : (p : PieceFacts) → is_blank_piece p.kind ≡ true → tags_among (p ∷ []) ≡ []
-blank_has_none p h = by p.kind h
-  where
-    by : (kind : PieceKind) → is_blank_piece kind ≡ true → tags_among (record p { kind = kind } ∷ []) ≡ []
-    by piece.Char e = refl
-    by piece.Blank e = refl
-    by piece.Raw e = refl
-    by piece.Tag e = refl
-    by piece.Mark e = absurd (cc)
+blank_has_none p h = grind arith
 
 pub tags_but_blank : (ps : List PieceFacts) → tags_among (but_blank ps) ≡ tags_among ps
 tags_but_blank [] = refl
-tags_but_blank (p ∷ []) = by (is_blank_piece p.kind) refl
-  where
-    by : (b : Bool) → is_blank_piece p.kind ≡ b → tags_among (cond b [] (p ∷ [])) ≡ tags_among (p ∷ [])
-    by true e = sym (blank_has_none p e)
-    by false e = refl
-tags_but_blank (p ∷ q ∷ ps) =
-    tags_one p (but_blank (q ∷ ps)) ∙ ap (λ ts. tags_among (p ∷ []) ++ ts) (tags_but_blank (q ∷ ps)) ∙ sym (tags_one p (q ∷ ps))
+tags_but_blank (p ∷ []) = grind (arith, blank_has_none)
+tags_but_blank (p ∷ q ∷ ps) = grind (arith, tags_but_blank (q ∷ ps), tags_one)
 
 module _ (opening closing : List ℕ) where
   -- a span is open after a tag, and after tags, if it was open or not
@@ -102,30 +89,13 @@ module _ (opening closing : List ℕ) where
 
   chars_keep : (cs : List Char) (ts : List BodyEvent) → Keeps (codes_of cs) ts (events_onto (text_events (map (λ (c : Char). text.Kept c) cs)) ts)
   chars_keep [] ts = record { kept = sym (append-nil (kept_at_point ts)); span = refl }
-  chars_keep (c ∷ cs) ts =
-      let on = chars_keep cs (event.Text (text.Kept c) ∷ ts) in
-      record {
-        kept = on.kept
-            ∙ ap (λ ks. ks ++ encodes (codes_of cs)) (sym (append_assoc (ended_parts_of (since_close ts)) (part_of (since_close ts)) (encode c.c)))
-            ∙ append_assoc (kept_at_point ts) (encode c.c) (encodes (codes_of cs));
-        span = on.span;
-      }
+  chars_keep (c ∷ cs) ts = grind (arith, chars_keep cs (event.Text (text.Kept c) ∷ ts), append_assoc)
 
   -- ---- parts
 
   mark_kept : (kind : TokenKind) (s : TagEffect) (bs : List Token) (spelled : List ℕ) → piece_kind kind s ≡ Some piece.Mark
       → cond (is_left_out bs kind) [] (cond (is_space kind) (cond (follows_space bs) [] (32 ∷ [])) spelled) ≡ spelled
-  mark_kept Tag s bs spelled h = refl
-  mark_kept Letter s bs spelled h = absurd (cc)
-  mark_kept Raw s bs spelled h = absurd (cc)
-  mark_kept Blank s bs spelled h = absurd (cc)
-  mark_kept Comment s bs spelled h = absurd (cc)
-  mark_kept Stray s bs spelled h = absurd (cc)
-  mark_kept Begin s bs spelled h = absurd (cc)
-  mark_kept End s bs spelled h = absurd (cc)
-  mark_kept Translation s bs spelled h = absurd (cc)
-  mark_kept OpenTag s bs spelled h = absurd (cc)
-  mark_kept OpenTranslation s bs spelled h = absurd (cc)
+  mark_kept kind s bs spelled h = grind arith
 
   -- a blank that waits for the next piece is no tag
   abbrev IsNoMark : Option Piece → Type 0
@@ -133,12 +103,7 @@ module _ (opening closing : List ℕ) where
   IsNoMark (Some p) = is_mark p.kind ≡ false
 
   waiting_by_is_none : (bs : List Token) (k : Token) (o : Option PieceKind) (was : Option Piece) → IsNoMark was → IsNoMark (waiting_by bs k o was)
-  waiting_by_is_none bs k (Some kind) was h = tt
-  waiting_by_is_none bs k None was h = by (is_blank_at bs k.kind)
-    where
-      by : (b : Bool) → IsNoMark (cond b (Some (piece_at bs k piece.Blank)) was)
-      by true = refl
-      by false = h
+  waiting_by_is_none bs k o was h = grind arith
 
   waiting_is_none : (bs : List Token) → IsNoMark (waiting_blank bs)
   waiting_is_none [] = tt
@@ -151,8 +116,7 @@ module _ (opening closing : List ℕ) where
   events_append xs ys ts = ap (λ us. events_onto us ts) (map-append (λ (o : TextEvent). event.Text o) xs ys) ∙ onto_append (text_events xs) (text_events ys) ts
 
   waiting_still : (o : Option Piece) (ts : List BodyEvent) → IsNoMark o → Still ts (events_onto (text_events (out_parts (map (λ (p : Piece). part.Piece p) (option_list_of o)))) ts)
-  waiting_still None ts h = record { kept = refl; span = refl }
-  waiting_still (Some p) ts h = record { kept = refl; span = no_mark (open_at ts) p.kind (slice p.span (kept_at_point ts)) h }
+  waiting_still o ts h = grind (arith, no_mark)
 
   -- the bytes of a tag's span are its spelling
   tag_spelled : (bs : List Token) (k : Token) (ts : List BodyEvent) → kind_of k ≡ Some piece.Mark → kept_at_point ts ≡ encodes (kept_before (k ∷ bs))
@@ -170,28 +134,18 @@ module _ (opening closing : List ℕ) where
 
   piece_emitted : (bs : List Token) (k : Token) (ts : List BodyEvent) → kept_at_point ts ≡ encodes (kept_before (k ∷ bs)) → (kind : PieceKind) → kind_of k ≡ Some kind
       → open_at (event.Text (text.Part (part.Piece (piece_at bs k kind))) ∷ ts) ≡ after_tags (open_at ts) (tags_among (piece_of bs k (Some kind)))
-  piece_emitted bs k ts h piece.Char e = refl
-  piece_emitted bs k ts h piece.Blank e = refl
-  piece_emitted bs k ts h piece.Raw e = refl
-  piece_emitted bs k ts h piece.Tag e = refl
-  piece_emitted bs k ts h piece.Mark e =
-      ap (λ spelled. cond (bytes_eq spelled opening) true (cond (bytes_eq spelled closing) false (open_at ts))) (tag_spelled bs k ts e h)
-
-  record PartsStep (bs : List Token) (k : Token) (before after : List BodyEvent) : Type 0 where
-    kept : kept_at_point after ≡ kept_at_point before
-    span : open_at after ≡ after_tags (open_at before) (tags_among (pieces_at bs k))
+  piece_emitted bs k ts h kind e = grind (arith, tag_spelled)
 
   abbrev AfterParts : List Token → Token → List BodyEvent → Option PieceKind → Type 0
   AfterParts bs k ts o =
       let after = events_onto (text_events (out_parts (parts_by bs k o))) ts in
       (kept_at_point after ≡ kept_at_point ts) × (open_at after ≡ after_tags (open_at ts) (tags_among (piece_of bs k o)))
 
-  parts_emit : (bs : List Token) (k : Token) (ts : List BodyEvent) → kept_at_point ts ≡ encodes (kept_before (k ∷ bs)) → PartsStep bs k ts (events_onto (text_events (out_parts (parts_at bs k))) ts)
+  parts_emit : (bs : List Token) (k : Token) (ts : List BodyEvent) → kept_at_point ts ≡ encodes (kept_before (k ∷ bs)) → AfterParts bs k ts (kind_of k)
   parts_emit bs k ts h = by (kind_of k) refl
     where
       blank : (b : Bool) → tags_among (cond b (record { kind = piece.Blank; styles = open_styles bs; text = [] } ∷ []) []) ≡ []
-      blank true = refl
-      blank false = refl
+      blank b = cond_both b _ [] (λ (ps : List PieceFacts). tags_among ps ≡ []) (λ e. refl) (λ e. refl)
 
       others : (a b : Bool) → Still ts (events_onto (text_events (out_parts (cond a (part.WordStart ∷ []) (cond b (part.Translation (translation_at bs k) ∷ []) [])))) ts)
       others true b = record { kept = refl; span = refl }
@@ -215,9 +169,9 @@ module _ (opening closing : List ℕ) where
             ap open_at all ∙ piece_emitted bs k middle (w.kept ∙ h) kind e ∙ ap (λ was. after_tags was (tags_among (piece_of bs k (Some kind)))) w.span,
           )
 
-      by : (o : Option PieceKind) → kind_of k ≡ o → PartsStep bs k ts (events_onto (text_events (out_parts (parts_at bs k))) ts)
-      by None e = let a = subst (AfterParts bs k ts) (sym e) none in record { kept = a.0; span = a.1 }
-      by (Some kind) e = let a = subst (AfterParts bs k ts) (sym e) (some kind e) in record { kept = a.0; span = a.1 }
+      by : (o : Option PieceKind) → kind_of k ≡ o → AfterParts bs k ts o
+      by None e = none
+      by (Some kind) e = some kind e
 
   -- ---- tokens
 
@@ -226,14 +180,7 @@ module _ (opening closing : List ℕ) where
   codes_placed p (c ∷ t) = ap (λ cs. c ∷ cs) (codes_placed (next_place p c) t)
 
   chars_kept : (at : Place) (bs : List Token) (k : Token) → codes_of (chars_at at bs k) ≡ kept_at bs k
-  chars_kept at bs k = by (is_left_out bs k.kind) (is_space k.kind) (follows_space bs)
-    where
-      by : (a b c : Bool) → codes_of (cond a [] (cond b (cond c [] (record { c = 32; place = place_of at bs } ∷ [])) (placed_characters_from (place_of at bs) (spelling k))))
-          ≡ cond a [] (cond b (cond c [] (32 ∷ [])) (spelling k))
-      by true b c = refl
-      by false true true = refl
-      by false true false = refl
-      by false false c = codes_placed (place_of at bs) (spelling k)
+  chars_kept at bs k = grind (arith, codes_placed)
 
   record TokenStep (bs : List Token) (k : Token) (before after : List BodyEvent) : Type 0 where
     kept : kept_at_point after ≡ encodes (kept_before (k ∷ bs))
@@ -258,8 +205,8 @@ module _ (opening closing : List ℕ) where
       let p = parts_emit bs k b here in
       let l = found_still at bs (late_codes bs k.kind (effect k)) c in
       record {
-        kept = ap kept_at_point all ∙ l.kept ∙ p.kept ∙ here;
-        span = ap open_at all ∙ l.span ∙ p.span ∙ ap (λ was. after_tags was (tags_among (pieces_at bs k))) (g.span ∙ f.span);
+        kept = ap kept_at_point all ∙ l.kept ∙ p.0 ∙ here;
+        span = ap open_at all ∙ l.span ∙ p.1 ∙ ap (λ was. after_tags was (tags_among (pieces_at bs k))) (g.span ∙ f.span);
       }
 
   tokens_emitted : (at : Place) (bs ks : List Token) (ts : List BodyEvent) → kept_at_point ts ≡ encodes (kept_before bs)
@@ -267,11 +214,8 @@ module _ (opening closing : List ℕ) where
   tokens_emitted at bs [] ts h = refl
   tokens_emitted at bs (k ∷ ks) ts h =
       let r = token_emits at bs k ts h in
-      ap open_at (events_append (events_at at bs k) (along (events_at at) (k ∷ bs) ks) ts)
-      ∙ tokens_emitted at (k ∷ bs) ks (events_onto (text_events (events_at at bs k)) ts) r.kept
-      ∙ ap (λ was. after_tags was (tags_among (along pieces_at (k ∷ bs) ks))) r.span
-      ∙ sym (after_append (open_at ts) (tags_among (pieces_at bs k)) (tags_among (along pieces_at (k ∷ bs) ks)))
-      ∙ ap (after_tags (open_at ts)) (sym (tags_join (pieces_at bs k) (along pieces_at (k ∷ bs) ks)))
+      rw (events_append (events_at at bs k) (along (events_at at) (k ∷ bs) ks) ts, tokens_emitted at (k ∷ bs) ks (events_onto (text_events (events_at at bs k)) ts) r.kept, r.span, tags_join (pieces_at bs k) (along pieces_at (k ∷ bs) ks))
+      (sym (after_append (open_at ts) (tags_among (pieces_at bs k)) (tags_among (along pieces_at (k ∷ bs) ks))))
 
   -- ---- a text
 
@@ -280,25 +224,14 @@ module _ (opening closing : List ℕ) where
   end_found (f ∷ fs) ts = end_found fs (event.Text (text.Found f) ∷ ts)
 
   end_centre : (o : Option Span) (ts : List BodyEvent) → open_at (events_onto (text_events (map (λ (s : Span). text.Part (part.Centre s)) (option_list_of o))) ts) ≡ open_at ts
-  end_centre None ts = refl
-  end_centre (Some s) ts = refl
+  end_centre o ts = grind arith
 
   end_still : (at : Place) (bs : List Token) (rest : List ℕ) (ts : List BodyEvent) → open_at (events_onto (text_events (end_events at bs rest)) ts) ≡ open_at ts
-  end_still at bs rest ts =
-      let found = map text.Found (findings_at_end at bs) in
-      let centre = map (λ (s : Span). text.Part (part.Centre s)) (option_list_of (centre_of bs)) in
-      let last = text.Ended (end_after at bs rest) ∷ [] in
-      ap open_at (events_append found (centre ++ last) ts ∙ events_append centre last (events_onto (text_events found) ts))
-      ∙ end_centre (centre_of bs) (events_onto (text_events found) ts) ∙ end_found (findings_at_end at bs) ts
+  end_still at bs rest ts = grind (arith, events_append, end_centre, end_found)
 
   -- after a text a span is open by the tags of the text, and by what was before
   pub text_opens_span : (at : Place) (t : List ℕ) (ts : List BodyEvent) → since_close ts ≡ [] → open_at (events_onto (text_events (events_of at t)) ts) ≡ after_tags (open_at ts) (span_tags t)
-  text_opens_span at t ts h =
-      let tokens_events = along (events_at at) [] (tokens t) in
-      ap open_at (events_append tokens_events (end_events at (reverse (tokens t)) (after_tokens t)) ts)
-      ∙ end_still at (reverse (tokens t)) (after_tokens t) (events_onto (text_events tokens_events) ts)
-      ∙ tokens_emitted at [] (tokens t) ts (ap kept_of h)
-      ∙ ap (after_tags (open_at ts)) (sym (tags_but_blank (along pieces_at [] (tokens t))))
+  text_opens_span at t ts h = grind (arith, events_append, end_still, tokens_emitted, tags_but_blank)
 
   -- ---- the last tag
 
@@ -340,13 +273,11 @@ module _ (opening closing : List ℕ) where
         by false false f k = k
 
     opens_at : (was : Bool) (before after : List (List ℕ)) → NoneCloses after → after_tags was (before ++ opening ∷ after) ≡ true
-    opens_at was [] after h =
-        ap (λ b. after_tags (cond b true (cond (bytes_eq (encodes opening) closing) false was)) after) (is_named opening opening same refl) ∙ stays_open after h
+    opens_at was [] after h = grind (arith, is_named, stays_open)
     opens_at was (tag ∷ before) after h = opens_at (after_tag was tag) before after h
 
     pub last_tag_opens : (tags : List (List ℕ)) (b : Bool) → b ≡ after_tags false tags → IsTrue b ↔ IsLeftOpen opening closing tags
-    last_tag_opens tags b e = (λ h. by (opened false tags (sym e ∙ h)), λ l. e ∙ ap (after_tags false) l.tags_are ∙ opens_at false l.before l.after l.none_closes)
-      where
-        by : IsLeftOpen opening closing tags ⊎ ((false ≡ true) × NoneCloses tags) → IsLeftOpen opening closing tags
-        by (inl l) = l
-        by (inr n) = absurd (false≢true n.0)
+    last_tag_opens tags b e = (
+      λ h. elim (opened false tags (sym e ∙ h)) [ inl l ↦ l | inr n ↦ absurd (false≢true n.0) ],
+      λ l. e ∙ ap (after_tags false) l.tags_are ∙ opens_at false l.before l.after l.none_closes,
+    )

@@ -1,5 +1,5 @@
 -- Which spans are open after a syllable follows from those that are open after the one before it.
-use Rattle.std.proofs.Common.{◌≡◌, ℕ, zero, suc, ◌+◌, ◌<◌, Bool, true, false, List, [], ◌∷◌, ◌++◌, length, length-append, append_assoc, refl, sym, ap, ◌∙◌, arith, codes}
+use Rattle.std.proofs.Common.{◌≡◌, ℕ, zero, suc, ◌+◌, ◌<◌, Bool, false, List, [], ◌∷◌, ◌++◌, length, length-append, append_assoc, refl, sym, ap, ◌∙◌, arith, codes}
 use Rattle.std.specs.Prelude.{IsTrue, ◌↔◌}
 use Rattle.std.proofs.lemmas.List.{nil_from_length}
 use lib.Utf8.{encodes}
@@ -8,14 +8,11 @@ use Rattle.gabc_score.specs.Syllable.{UnplacedSyllable, PlacedSyllable}
 use Rattle.gabc_text.specs.ViewFacts.{span_tags}
 use Rattle.gabc_score.specs.SyllablesOfUnits.{ScoreUnit, HoldsUnit, IsLeftOpen, AreSyllablesOf, tags_in}
 use Rattle.gabc_score.proofs.syllables_of_units.LastTagOpensTheSpan.{after_tags, after_append, last_tag_opens}
-use Rattle.gabc_score.proofs.syllables_of_units.SyllablesAreThoseOfUnits.{eu_opened, eu_closed, nlba_opened, nlba_closed, tags_push}
+use Rattle.gabc_score.proofs.syllables_of_units.SyllablesAreThoseOfUnits.{tags_by_bytes, tags_push}
 use Rattle.gabc_score.proofs.syllables_of_units.UnitGivesOneSyllable.{unit_past}
 
 same_bool : (P : Type 0) (a b : Bool) → IsTrue a ↔ P → IsTrue b ↔ P → a ≡ b
-same_bool P true true h k = refl
-same_bool P true false h k = absurd (let e = k.1 (h.0 refl) in cc)
-same_bool P false true h k = absurd (let e = h.1 (k.0 refl) in cc)
-same_bool P false false h k = refl
+same_bool P a b h k = grind arith
 
 module _ (opening closing : List ℕ) (same : encodes opening ≡ opening) (other : encodes closing ≡ closing) (lines : ℕ) where
   -- a span is open by the last tag, or by the tags one after the other
@@ -27,10 +24,7 @@ module _ (opening closing : List ℕ) (same : encodes opening ≡ opening) (othe
       → IsTrue now ↔ IsLeftOpen opening closing (tags_in (us ++ v ∷ [])) → now ≡ open_past opening closing m.kept m.text.pieces was
   one_past us v m was now holds h k =
       by_tags (tags_in (us ++ v ∷ [])) now k
-      ∙ ap (after_tags opening closing false) (tags_push lines us v)
-      ∙ after_append opening closing false (tags_in us) (span_tags v.text)
-      ∙ ap (λ (b : Bool). after_tags opening closing b (span_tags v.text)) (sym h)
-      ∙ sym (unit_past opening closing lines v m was holds)
+      ∙ rw (tags_push lines us v, after_append opening closing false (tags_in us) (span_tags v.text), ← h) (sym (unit_past opening closing lines v m was holds))
 
   pub next_past : (us : List ScoreUnit) (u v : ScoreUnit) (m : UnplacedSyllable) (was now : Bool) → HoldsUnit lines v m → IsTrue was ↔ IsLeftOpen opening closing (tags_in (us ++ u ∷ []))
       → IsTrue now ↔ IsLeftOpen opening closing (tags_in ((us ++ u ∷ []) ++ v ∷ [])) → now ≡ open_past opening closing m.kept m.text.pieces was
@@ -64,8 +58,8 @@ module _ (lines : ℕ) (units : List ScoreUnit) (syllables : List PlacedSyllable
       let p = split 0 units (omega (arith, size, count)) in
       let k = are.each p.before p.after p.one [] after s p.parts e (sym p.count) in
       let none : p.before ≡ [] = nil_from_length p.before p.count in (
-        one_past (codes "<eu>") (codes "</eu>") (eu_opened lines) (eu_closed lines) lines p.before p.one s.made false s.made.eu k.holds (ap (λ us. after_tags (codes "<eu>") (codes "</eu>") false (tags_in us)) (sym none)) k.eu_is,
-        one_past (codes "<nlba>") (codes "</nlba>") (nlba_opened lines) (nlba_closed lines) lines p.before p.one s.made false s.made.nlba k.holds (ap (λ us. after_tags (codes "<nlba>") (codes "</nlba>") false (tags_in us)) (sym none)) k.nlba_is,
+        one_past (codes "<eu>") (codes "</eu>") tags_by_bytes.0 tags_by_bytes.1 lines p.before p.one s.made false s.made.eu k.holds (ap (λ us. after_tags (codes "<eu>") (codes "</eu>") false (tags_in us)) (sym none)) k.eu_is,
+        one_past (codes "<nlba>") (codes "</nlba>") tags_by_bytes.2 tags_by_bytes.3 lines p.before p.one s.made false s.made.nlba k.holds (ap (λ us. after_tags (codes "<nlba>") (codes "</nlba>") false (tags_in us)) (sym none)) k.nlba_is,
       )
 
   pub next_follows : (before after : List PlacedSyllable) (s next : PlacedSyllable) → syllables ≡ before ++ s ∷ next ∷ after → Follows next.made s.made.eu s.made.nlba
@@ -82,6 +76,6 @@ module _ (lines : ℕ) (units : List ScoreUnit) (syllables : List PlacedSyllable
           let k = are.each us (v ∷ vs) u before (next ∷ after) s f e (sym n) in
           let longer : length (before ++ s ∷ []) ≡ length (us ++ u ∷ []) = length-append before (s ∷ []) ∙ ap (λ (i : ℕ). i + 1) (sym n) ∙ sym (length-append us (u ∷ [])) in
           let l = are.each (us ++ u ∷ []) vs v (before ++ s ∷ []) after next (f ∙ sym (append_assoc us (u ∷ []) (v ∷ vs))) (e ∙ sym (append_assoc before (s ∷ []) (next ∷ after))) longer in (
-            next_past (codes "<eu>") (codes "</eu>") (eu_opened lines) (eu_closed lines) lines us u v next.made s.made.eu next.made.eu l.holds k.eu_is l.eu_is,
-            next_past (codes "<nlba>") (codes "</nlba>") (nlba_opened lines) (nlba_closed lines) lines us u v next.made s.made.nlba next.made.nlba l.holds k.nlba_is l.nlba_is,
+            next_past (codes "<eu>") (codes "</eu>") tags_by_bytes.0 tags_by_bytes.1 lines us u v next.made s.made.eu next.made.eu l.holds k.eu_is l.eu_is,
+            next_past (codes "<nlba>") (codes "</nlba>") tags_by_bytes.2 tags_by_bytes.3 lines us u v next.made s.made.nlba next.made.nlba l.holds k.nlba_is l.nlba_is,
           )

@@ -28,6 +28,7 @@ use Rattle.gabc_score.proofs.units.BodyHasOneCutting.{body_emits_all}
 use Rattle.gabc_score.proofs.units.UnitsEndAtMarks.{first_is}
 use Rattle.gabc_score.proofs.holding.SyllableHoldsPartByPart.{IsBack, last_text, last_text_sum, text_sum, cut_is}
 use Rattle.gabc_score.proofs.holding.SyllablesHoldParts.{nothing_of, comment_emits, fits_back}
+use Rattle.gabc_score.proofs.score_events.HeldSyllables.{none_of}
 use Rattle.gabc_score.proofs.syllables_of_units.LastTagOpensTheSpan.{after_append, text_opens_span, last_tag_opens}
 use Rattle.gabc_score.proofs.syllables_of_units.UnitsGiveSyllables.{eu_after, nlba_after, through_more, all_events, AreMade, units_give}
 
@@ -41,30 +42,25 @@ module _ (lines : ℕ) where
   text_emits : (t : List ℕ) (before all : List BodyEvent) → all_syllables all ≡ all_syllables before → sum_of (since_close all) ≡ text_sum t → StandsForView (kept t) (view_in t) t
       → is_eu all ≡ eu_after (is_eu before) (span_tags t) → is_nlba all ≡ nlba_after (is_nlba before) (span_tags t)
       → LastGives (if has_text (view_in t) then record { text = t; notes = []; snippets = [] } ∷ [] else []) before all
-  text_emits t before all made sum stands eu nlba = subst (λ b. Gives b (has_text (view_in t))) (sym (ap has_text view)) (by (has_text (view_in t)))
-    where
-      view : view_of (since_close all) ≡ view_in t
-      view = ap (λ (s : Sum). s.view) sum
-
-      kept_text : kept_of (since_close all) ≡ encodes (kept t)
-      kept_text = ap (λ (s : Sum). s.ended ++ s.part) sum
-
-      holds : HoldsUnit lines (record { text = t; notes = []; snippets = [] }) (last_syllable all)
-      holds = record {
+  text_emits t before all made sum stands eu nlba =
+      let view : view_of (since_close all) ≡ view_in t = ap (λ (s : Sum). s.view) sum in
+      let kept_text : kept_of (since_close all) ≡ encodes (kept t) = ap (λ (s : Sum). s.ended ++ s.part) sum in
+      let holds : HoldsUnit lines (record { text = t; notes = []; snippets = [] }) (last_syllable all) = record {
         whole = kept t;
         kept_is = kept_text;
         view_is = view;
         stands = subst (λ v. StandsForView (kept t) v t) (sym view) stands;
         notes = record { characters_are = refl; whole_is = refl; snippets_are = ap (λ k. empty_snippet k ∷ []) kept_text };
-      }
-
+      } in
+      subst (λ b. Gives b (has_text (view_in t))) (sym (ap has_text view)) (by holds (has_text (view_in t)))
+    where
       Gives : Bool → Bool → Type 0
       Gives b d = (ms : List UnplacedSyllable) × ((cond b (all_syllables all ++ last_syllable all ∷ []) (all_syllables all) ≡ all_syllables before ++ ms)
           × AreMade lines (is_eu before) (is_nlba before) (if d then record { text = t; notes = []; snippets = [] } ∷ [] else []) ms)
 
-      by : (b : Bool) → Gives b b
-      by true = (last_syllable all ∷ [], (ap (λ (ms : List UnplacedSyllable). ms ++ last_syllable all ∷ []) made, ((holds, (eu, nlba)), tt)))
-      by false = ([], (made ∙ sym (append-nil (all_syllables before)), tt))
+      by : HoldsUnit lines (record { text = t; notes = []; snippets = [] }) (last_syllable all) → (b : Bool) → Gives b b
+      by holds true = (last_syllable all ∷ [], (ap (λ (ms : List UnplacedSyllable). ms ++ last_syllable all ∷ []) made, ((holds, (eu, nlba)), tt)))
+      by holds false = ([], (made ∙ sym (append-nil (all_syllables before)), tt))
 
 -- ---- positions
 
@@ -80,6 +76,11 @@ all_append lines eu nlba (u ∷ us) vs (m ∷ ms) ns h k = (
       (subst (λ b. AreMade lines b (nlba_after nlba (tags_in (u ∷ us))) vs ns) (after_append (codes "<eu>") (codes "</eu>") eu (span_tags u.text) (tags_in us)) k)),
 )
 
+-- the tags by bytes
+pub tags_by_bytes : (encodes (codes "<eu>") ≡ codes "<eu>") × (encodes (codes "</eu>") ≡ codes "</eu>") × (encodes (codes "<nlba>") ≡ codes "<nlba>") × (encodes (codes "</nlba>") ≡ codes "</nlba>")
+unfolding encode
+tags_by_bytes = (refl, refl, refl, refl)
+
 module _ (lines : ℕ) where
   abbrev AreFrom : List ScoreUnit → List ScoreUnit → List PlacedSyllable → Type 0
   AreFrom before [] [] = Unit {0}
@@ -94,31 +95,13 @@ module _ (lines : ℕ) where
 
   from_each : (first us : List ScoreUnit) (ss : List PlacedSyllable) → AreFrom first us ss → (before after : List ScoreUnit) (u : ScoreUnit) (earlier later : List PlacedSyllable) (s : PlacedSyllable)
       → us ≡ before ++ u ∷ after → ss ≡ earlier ++ s ∷ later → length earlier ≡ length before → IsSyllableOf lines (first ++ before) u after s
-  from_each first us ss h [] after u [] later s e f n =
-      let k = subst (λ ts. AreFrom first (u ∷ after) ts) f (subst (λ vs. AreFrom first vs ss) e h) in
-      subst (λ b. IsSyllableOf lines b u after s) (sym (append-nil first)) k.0
+  from_each first us ss h [] after u [] later s e f n = grind (arith, append-nil)
   from_each first us ss h (b ∷ before) after u (x ∷ earlier) later s e f n =
       let k = subst (λ ts. AreFrom first (b ∷ (before ++ u ∷ after)) ts) f (subst (λ vs. AreFrom first vs ss) e h) in
       subst (λ c. IsSyllableOf lines c u after s) (append_assoc first (b ∷ []) before)
       (from_each (first ++ b ∷ []) (before ++ u ∷ after) (earlier ++ s ∷ later) k.1 before after u earlier later s refl refl (omega (arith, n)))
   from_each first us ss h [] after u (x ∷ earlier) later s e f n = absurd (omega (arith, n))
   from_each first us ss h (b ∷ before) after u [] later s e f n = absurd (omega (arith, n))
-
-  pub eu_opened : encodes (codes "<eu>") ≡ codes "<eu>"
-  unfolding encode
-  eu_opened = refl
-
-  pub eu_closed : encodes (codes "</eu>") ≡ codes "</eu>"
-  unfolding encode
-  eu_closed = refl
-
-  pub nlba_opened : encodes (codes "<nlba>") ≡ codes "<nlba>"
-  unfolding encode
-  nlba_opened = refl
-
-  pub nlba_closed : encodes (codes "</nlba>") ≡ codes "</nlba>"
-  unfolding encode
-  nlba_closed = refl
 
   pub tags_push : (before : List ScoreUnit) (u : ScoreUnit) → tags_in (before ++ u ∷ []) ≡ tags_in before ++ span_tags u.text
   tags_push before u = flat_map-append (λ (v : ScoreUnit). span_tags v.text) before (u ∷ []) ∙ ap (λ ts. tags_in before ++ ts) (append-nil (span_tags u.text))
@@ -131,12 +114,7 @@ module _ (lines : ℕ) where
   next_is eu nlba (u ∷ us) (m ∷ ms) h = ap (λ (v : ViewContent). v.word_start) h.0.0.view_is
 
   begins_is : (before : List ScoreUnit) (u : ScoreUnit) (m : UnplacedSyllable) → m.text ≡ view_in u.text → (is_none before || m.text.word_start) ≡ begins_word before u
-  begins_is [] u m h = refl
-  begins_is (b ∷ before) u m h = ap (λ (v : ViewContent). v.word_start) h
-
-  some_before : (before : List ScoreUnit) (u : ScoreUnit) → is_none (before ++ u ∷ []) ≡ false
-  some_before [] u = refl
-  some_before (b ∷ before) u = refl
+  begins_is before u m h = grind arith
 
   placed_from : (before us : List ScoreUnit) (ms : List UnplacedSyllable) → AreMade lines (eu_after false (tags_in before)) (nlba_after false (tags_in before)) us ms → AreFrom before us (placed_syllables_by (is_none before) ms)
   placed_from before [] [] h = tt
@@ -149,11 +127,11 @@ module _ (lines : ℕ) where
       ap (nlba_after false) (tags_push before u) ∙ after_append (codes "<nlba>") (codes "</nlba>") false (tags_in before) (span_tags u.text) in (
         record {
           holds = h.0.0;
-          eu_is = last_tag_opens (codes "<eu>") (codes "</eu>") eu_opened eu_closed (tags_in (before ++ u ∷ [])) m.eu (h.0.1.0 ∙ sym eu);
-          nlba_is = last_tag_opens (codes "<nlba>") (codes "</nlba>") nlba_opened nlba_closed (tags_in (before ++ u ∷ [])) m.nlba (h.0.1.1 ∙ sym nlba);
+          eu_is = last_tag_opens (codes "<eu>") (codes "</eu>") tags_by_bytes.0 tags_by_bytes.1 (tags_in (before ++ u ∷ [])) m.eu (h.0.1.0 ∙ sym eu);
+          nlba_is = last_tag_opens (codes "<nlba>") (codes "</nlba>") tags_by_bytes.2 tags_by_bytes.3 (tags_in (before ++ u ∷ [])) m.nlba (h.0.1.1 ∙ sym nlba);
           position_is = ap (λ b. position_by b (next_starts ms)) (begins_is before u m h.0.0.view_is) ∙ ap (position_by (begins_word before u)) (next_is _ _ us ms h.1);
         },
-        subst (λ b. AreFrom (before ++ u ∷ []) us (placed_syllables_by b ms)) (some_before before u)
+        subst (λ b. AreFrom (before ++ u ∷ []) us (placed_syllables_by b ms)) (none_of before u)
             (placed_from (before ++ u ∷ []) us ms (subst (λ b. AreMade lines (eu_after false (tags_in (before ++ u ∷ []))) b us ms) (sym nlba)
             (subst (λ b. AreMade lines b (nlba_after (nlba_after false (tags_in before)) (span_tags u.text)) us ms) (sym eu) h.1))),
       )

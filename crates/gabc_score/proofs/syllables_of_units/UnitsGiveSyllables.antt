@@ -1,5 +1,5 @@
 -- Each unit of a body gives a syllable that holds it.
-use Rattle.std.proofs.Common.{Option, option_map, Some, None, ◌≡◌, ℕ, ◌<◌, ◌^◌, Bool, List, [], ◌∷◌, ◌++◌, map, refl, sym, ap, subst, ◌∙◌, append_assoc, append-nil, codes}
+use Rattle.std.proofs.Common.{◌≡◌, ℕ, ◌<◌, ◌^◌, Bool, List, [], ◌∷◌, ◌++◌, map, refl, sym, ap, subst, ◌∙◌, append_assoc, append-nil, codes, arith}
 use Rattle.std.proofs.lemmas.List.{map-append}
 use Rattle.std.proofs.lemmas.Grind.{flat_map-append}
 use Rattle.gabc_places.specs.StageLaw.{concat_of}
@@ -25,9 +25,9 @@ use Rattle.gabc_score.specs.declared.events.BodyEvent.TheVariants.{Text, Notes}
 use Rattle.gabc_score.specs.Syllable.{UnplacedSyllable, since_close, all_syllables, is_eu, is_nlba, is_open}
 use Rattle.gabc_score.specs.Body.{events_onto, cut_of}
 use Rattle.gabc_score.specs.Events.{Texts, PartAhead, InText, note_event, texts_by_definition, text_from, snippet_from, next_line, after_mark}
-use Rattle.gabc_score.specs.Units.{Mark, Opens, Next, Closes, CutPart, EndedPart, BodyUnit, LastUnit, JustText, OpenNotes, cut_part, whole, events_through, snippets_with, last_pieces, units_pieces, last_characters, EndsAfter, Cuts, events_of_cutting, Units, BodyCutting, cutting_of, IsCutFrom, IsCut}
+use Rattle.gabc_score.specs.Units.{Mark, Opens, Next, Closes, CutPart, EndedPart, BodyUnit, LastUnit, JustText, OpenNotes, cut_part, whole, events_through, snippets_with, last_pieces, units_pieces, last_characters, EndsAfter, Cuts, events_of_cutting, BodyCutting, IsCut}
 use Rattle.gabc_score.specs.Holding.{ReadSnippet, bracket_with}
-use Rattle.gabc_score.specs.SyllablesOfUnits.{with_ends, snippets_in, characters_in, last_in, characters_from, unit_characters, ScoreUnit, score_unit, closed_units, tags_in, HoldsUnit}
+use Rattle.gabc_score.specs.SyllablesOfUnits.{with_ends, characters_in, last_in, characters_from, unit_characters, ScoreUnit, score_unit, closed_units, tags_in, HoldsUnit}
 use Rattle.gabc_score.specs.machine.PartKeeps.{text_events}
 use Rattle.gabc_score.proofs.texts_of_body.SeamsOfCharacters.{size}
 use Rattle.gabc_score.proofs.building.EventsOfSyllableParts.{onto_append}
@@ -48,33 +48,26 @@ nlba_after was tags = after_tags (codes "<nlba>") (codes "</nlba>") was tags
 
 with_ends_append : (xs ys : List EndedPart) → with_ends (xs ++ ys) ≡ with_ends xs ++ with_ends ys
 with_ends_append [] ys = refl
-with_ends_append (e ∷ xs) ys =
-    ap (λ cs. e.characters ++ e.end ∷ cs) (with_ends_append xs ys) ∙ sym (append_assoc e.characters (e.end ∷ with_ends xs) (with_ends ys))
+with_ends_append (e ∷ xs) ys = grind (arith, with_ends_append xs ys, append_assoc)
 
 module _ (lines : ℕ) where
+  nexts_whole : (line : ℕ) (opened_at : Place) (nexts : List EndedPart) (more : List CutPart) (last : List Char) → whole (snippets_with lines line opened_at nexts more) last ≡ with_ends nexts ++ whole more last
+  nexts_whole line opened_at [] more last = refl
+  nexts_whole line opened_at (e ∷ nexts) more last =
+      ap (λ cs. e.characters ++ e.end ∷ cs) (nexts_whole (next_line lines line) opened_at nexts more last) ∙ sym (append_assoc e.characters (e.end ∷ with_ends nexts) (whole more last))
+
   pub snippets_whole : (line : ℕ) (opened_at : Place) (nexts : List EndedPart) (final : EndedPart) (more : List CutPart) (last : List Char)
       → whole (snippets_with lines line opened_at nexts (cut_part final Closes ∷ more)) last ≡ with_ends (nexts ++ final ∷ []) ++ whole more last
-  snippets_whole line opened_at [] final more last = sym (append_assoc final.characters (final.end ∷ []) (whole more last))
-  snippets_whole line opened_at (e ∷ nexts) final more last =
-      ap (λ cs. e.characters ++ e.end ∷ cs) (snippets_whole (next_line lines line) opened_at nexts final more last)
-      ∙ sym (append_assoc e.characters (e.end ∷ with_ends (nexts ++ final ∷ [])) (whole more last))
+  snippets_whole line opened_at nexts final more last = nexts_whole line opened_at nexts (cut_part final Closes ∷ more) last ∙ simp (with_ends_append, append_assoc)
 
   pub unit_whole : (u : BodyUnit) (more : List CutPart) (last : List Char)
       → whole (cut_part u.text Opens ∷ snippets_with lines 0 u.text.end.place u.nexts (cut_part u.final Closes ∷ more)) last ≡ characters_in u ++ whole more last
-  unit_whole u more last =
-      ap (λ cs. u.text.characters ++ u.text.end ∷ cs) (snippets_whole 0 u.text.end.place u.nexts u.final more last)
-      ∙ sym (append_assoc u.text.characters (u.text.end ∷ with_ends (snippets_in u)) (whole more last))
-
-  open_whole : (line : ℕ) (opened_at : Place) (nexts : List EndedPart) (last : List Char) → whole (snippets_with lines line opened_at nexts []) last ≡ with_ends nexts ++ last
-  open_whole line opened_at [] last = refl
-  open_whole line opened_at (e ∷ nexts) last =
-      ap (λ cs. e.characters ++ e.end ∷ cs) (open_whole (next_line lines line) opened_at nexts last)
-      ∙ sym (append_assoc e.characters (e.end ∷ with_ends nexts) last)
+  unit_whole u more last = grind (arith, snippets_whole, append_assoc)
 
   last_whole : (last : LastUnit) → whole (last_pieces lines last) (last_characters last) ≡ last_in last
   last_whole (JustText xs) = refl
   last_whole (OpenNotes text nexts xs) =
-      ap (λ cs. text.characters ++ text.end ∷ cs) (open_whole 0 text.end.place nexts xs)
+      ap (λ cs. text.characters ++ text.end ∷ cs) (nexts_whole 0 text.end.place nexts [] xs)
       ∙ sym (append_assoc text.characters (text.end ∷ with_ends nexts) xs)
 
   pub units_whole : (units : List BodyUnit) (last : LastUnit) → whole (units_pieces lines units last) (last_characters last) ≡ characters_from units last
@@ -83,11 +76,7 @@ module _ (lines : ℕ) where
 
 -- a body is its comment and its units, one after the other
 pub body_is_units : (texts : Texts) (lines macros : ℕ) (xs : List Char) (cut : BodyCutting) → IsCut texts lines macros xs cut → xs ≡ cut.comment ++ unit_characters cut.units
-body_is_units texts lines macros xs cut h = by cut.units h
-  where
-    by : (o : Option Units) → IsCutFrom texts lines macros xs cut.comment (option_map (cutting_of lines) o) → xs ≡ cut.comment ++ unit_characters o
-    by None k = k.0 ∙ sym (append-nil cut.comment)
-    by (Some u) k = k.0 ∙ ap (λ ys. cut.comment ++ ys) (units_whole lines u.closed u.last)
+body_is_units texts lines macros xs cut h = grind (arith, append-nil, units_whole)
 
 -- ---- notes open and close no span
 
@@ -95,48 +84,35 @@ module _ (opening closing : List ℕ) where
   notes_still : (line : ℕ) (opened_at : Place) (os : List NoteEvent) (before : List BodyEvent) → is_open opening closing (events_onto (map (note_event line opened_at) os) before) ≡ is_open opening closing before
   notes_still line opened_at [] before = refl
   notes_still line opened_at (note.Kept x ∷ os) before = notes_still line opened_at os (Notes line (note.Kept x) ∷ before)
-  notes_still line opened_at (note.Found f ∷ os) before = notes_still line opened_at os (Notes line (note.Found f) ∷ before)
-  notes_still line opened_at (note.Ended how n ∷ os) before = notes_still line opened_at os (note_event line opened_at (note.Ended how n) ∷ before)
+  notes_still line opened_at (o ∷ os) before = notes_still line opened_at os (note_event line opened_at o ∷ before)
 
   line_still : (lines line : ℕ) (opened_at : Place) (prefix : List Char) (end : Char) (mark : Mark) (events : List BodyEvent) (l : LineEmitted lines line opened_at prefix end mark events) (before : List BodyEvent)
       → is_open opening closing (events_onto events before) ≡ is_open opening closing before
   line_still lines line opened_at prefix end mark events l before =
-      ap (λ ts. is_open opening closing (events_onto ts before)) l.emitted_are
-      ∙ ap (is_open opening closing) (onto_append (map (note_event line opened_at) l.mids) (Notes line (note.Ended l.how (size l.kept)) ∷ []) before)
-      ∙ notes_still line opened_at l.mids before
+      rw (l.emitted_are, onto_append) (notes_still line opened_at l.mids before)
 
 -- a mark leaves nothing open
 notes_uncut : (line : ℕ) (opened_at : Place) (os : List NoteEvent) (before : List BodyEvent) → ends_of os ≡ [] → cut_of (events_onto (map (note_event line opened_at) os) before) ≡ cut_of before
 notes_uncut line opened_at [] before h = refl
-notes_uncut line opened_at (note.Kept x ∷ os) before h = notes_uncut line opened_at os (Notes line (note.Kept x) ∷ before) h
-notes_uncut line opened_at (note.Found f ∷ os) before h = notes_uncut line opened_at os (Notes line (note.Found f) ∷ before) h
 notes_uncut line opened_at (note.Ended how n ∷ os) before h = absurd (cc)
+notes_uncut line opened_at (o ∷ os) before h = notes_uncut line opened_at os (note_event line opened_at o ∷ before) h
 
 line_uncut : (lines line : ℕ) (opened_at : Place) (prefix : List Char) (end : Char) (mark : Mark) (events : List BodyEvent) (l : LineEmitted lines line opened_at prefix end mark events) (before : List BodyEvent)
     → cut_of (events_onto events before) ≡ cut_of before
 line_uncut lines line opened_at prefix end mark events l before =
-    ap (λ ts. cut_of (events_onto ts before)) l.emitted_are
-    ∙ ap cut_of (onto_append (map (note_event line opened_at) l.mids) (Notes line (note.Ended l.how (size l.kept)) ∷ []) before)
-    ∙ by l.how l.is_mark
-    ∙ notes_uncut line opened_at l.mids before l.silent
+    rw (l.emitted_are, onto_append) (by l.how l.is_mark ∙ notes_uncut line opened_at l.mids before l.silent)
   where
     by : (how : NoteEnd) → IsMark end.c how → cut_of (Notes line (note.Ended how (size l.kept)) ∷ events_onto (map (note_event line opened_at) l.mids) before) ≡ cut_of (events_onto (map (note_event line opened_at) l.mids) before)
-    by note_end.Next h = refl
-    by note_end.Close h = refl
     by (note_end.Cut place) h = absurd h
+    by _ h = refl
 
 text_uncut : (os : List TextEvent) (before : List BodyEvent) → ends_in os ≡ [] → cut_of (events_onto (text_events os) before) ≡ cut_of before
 text_uncut [] before h = refl
-text_uncut (text_out.Kept x ∷ os) before h = text_uncut os (Text (text_out.Kept x) ∷ before) h
-text_uncut (text_out.Part p ∷ os) before h = text_uncut os (Text (text_out.Part p) ∷ before) h
-text_uncut (text_out.Found f ∷ os) before h = text_uncut os (Text (text_out.Found f) ∷ before) h
 text_uncut (text_out.Ended how ∷ os) before h = absurd (cc)
+text_uncut (o ∷ os) before h = text_uncut os (Text o ∷ before) h
 
 opened_uncut : (t : List ℕ) (events : List BodyEvent) (g : TextEmitted t text_end.Notes events) (before : List BodyEvent) → cut_of (events_onto events before) ≡ cut_of before
-opened_uncut t events g before =
-    ap (λ ts. cut_of (events_onto ts before)) g.emitted_are
-    ∙ ap cut_of (onto_append (text_events g.mids) (Text (text_out.Ended text_end.Notes) ∷ []) before)
-    ∙ text_uncut g.mids before g.silent
+opened_uncut t events g before = grind (arith, onto_append, text_uncut)
 
 -- ---- a unit
 
@@ -215,11 +191,8 @@ module _ (ends : (at : Place) (t : List ℕ) → EndsOnce at t) (emits : (at : P
       let l = line_emitted lines macros opened_at line final.characters final.end rest Closes (fits_prefix final.characters (final.end ∷ rest) fits) h.0 in
       let closes : final.end.c ≡ 41 = subst (IsMark final.end.c) l.marks l.is_mark in
       let one = new text lines line opened_at final.characters final.end rest Closes events l before far (spans far.text) in
-      let notes_are : u.notes ≡ bracket_with codes_in far.earlier ++ (codes_of final.characters ++ codes ")") =
-      n ∙ ap (λ cs. codes_of (o ∷ cs)) (with_ends_append done (final ∷ []))
-      ∙ codes_append (o ∷ with_ends done) (final.characters ++ final.end ∷ [])
-      ∙ ap (λ cs. codes_of (o ∷ with_ends done) ++ cs) (codes_append final.characters (final.end ∷ []) ∙ ap (λ c. codes_of final.characters ++ c ∷ []) closes)
-      ∙ ap (λ cs. cs ++ (codes_of final.characters ++ codes ")")) (sym od) in
+      let all : codes_of (o ∷ with_ends (done ++ final ∷ [])) ≡ codes_of (o ∷ with_ends done) ++ (codes_of final.characters ++ codes ")") = simp (with_ends_append, codes_append, closes) in
+      let notes_are : u.notes ≡ bracket_with codes_in far.earlier ++ (codes_of final.characters ++ codes ")") = n ∙ all ∙ ap (λ cs. cs ++ (codes_of final.characters ++ codes ")")) (sym od) in
       let characters_are : map (λ (s : ReadSnippet). s.characters) (far.earlier ++ one ∷ []) ≡ u.snippets =
       map-append (λ (s : ReadSnippet). s.characters) far.earlier (one ∷ []) ∙ ap (λ cs. cs ++ final.characters ∷ []) d
       ∙ sym (map-append (λ (e : EndedPart). e.characters) done (final ∷ [])) ∙ sym s in
@@ -263,9 +236,7 @@ module _ (ends : (at : Place) (t : List ℕ) → EndsOnce at t) (emits : (at : P
       ∙ ap (λ cs. codes "(" ++ cs) (flat_map-append (λ (s : ReadSnippet). codes_in s ++ codes "|") far.earlier (one ∷ []))
       ∙ ap (λ cs. bracket_with codes_in far.earlier ++ cs) (append-nil (codes_of e.characters ++ codes "|"))
       ∙ ap (λ cs. cs ++ (codes_of e.characters ++ codes "|")) od
-      ∙ ap (λ cs. codes_of (o ∷ with_ends done) ++ cs) (sym (codes_append e.characters (e.end ∷ []) ∙ ap (λ c. codes_of e.characters ++ c ∷ []) bar))
-      ∙ sym (codes_append (o ∷ with_ends done) (e.characters ++ e.end ∷ []))
-      ∙ ap (λ cs. codes_of (o ∷ cs)) (sym (with_ends_append done (e ∷ []))) in
+      ∙ simp (with_ends_append, codes_append, bar) in
       let r = notes_give u o text (done ++ e ∷ []) nexts final more last next opened_at after on (t ∙ sym is.0) characters_are opened_is
       (n ∙ ap (λ es. codes_of (o ∷ with_ends es)) regroup) (s ∙ ap characters_of regroup) ys yss some (fits_back (e.end ∷ []) rest (fits_back e.characters (e.end ∷ rest) fits)) h.1 in
       let eu_same = line_still (codes "<eu>") (codes "</eu>") lines line opened_at e.characters e.end mark events l before in
@@ -298,10 +269,7 @@ module _ (ends : (at : Place) (t : List ℕ) → EndsOnce at t) (emits : (at : P
     text_spans : (at : Place) (prefix : List Char) (end : Char) (rest : List Char) (mark : Mark) (before : List BodyEvent) → since_close before ≡ []
         → (let xs = prefix ++ end ∷ rest in let part = InText (texts_by_definition at xs) in EndsAfter lines part prefix mark
         → is_open opening closing (events_onto (concat_of (events_through part prefix)) before) ≡ after_tags opening closing (is_open opening closing before) (span_tags (codes_of xs)))
-    text_spans at prefix end rest mark before since h =
-        let xs = prefix ++ end ∷ rest in
-        ap (λ ts. is_open opening closing (events_onto ts before)) (ended_emits ends emits lines at prefix end rest mark h ∙ ap text_events (in_order at (codes_of xs)))
-        ∙ text_opens_span opening closing at (codes_of xs) before since
+    text_spans at prefix end rest mark before since h = grind (arith, ended_emits, text_opens_span)
 
   -- a unit
   pub unit_emits : (at : Place) (u : BodyUnit) (more : List CutPart) (last : List Char) (before : List BodyEvent) → since_close before ≡ []
@@ -321,7 +289,7 @@ module _ (ends : (at : Place) (t : List ℕ) → EndsOnce at t) (emits : (at : P
       let v = score_unit u (whole more last) in
       let text_is : v.text ≡ codes_of xs = ap codes_of (sym (unit_whole lines u more last)) in
       let e = text_ended ends emits lines at prefix end rest Opens h.0 in
-      let bracket = text_mark ends emits lines at prefix end rest Opens h.0 in
+      let bracket = text_mark ends lines at prefix end rest Opens h.0 in
       let back : IsBack (codes_of xs) (codes_of xs) = ([], refl) in
       let o = text_opens (codes_of xs) lines prefix end rest events back bracket e.0 before since in
       let is = text_opens_is (codes_of xs) lines prefix end rest events back bracket e.0 before since in
@@ -354,13 +322,7 @@ module _ (ends : (at : Place) (t : List ℕ) → EndsOnce at t) (emits : (at : P
       → (let pieces = units_pieces lines units last in let xs = whole pieces (last_characters last) in size (codes_of xs) < 2 ^ 63
       → Cuts texts_by_definition lines macros (text_from texts_by_definition at xs) pieces (last_characters last)
       → GoesOn lines macros (closed_units units last) (text_from texts_by_definition at xs) pieces last before)
-  units_give [] last at before since fits h = record {
-    at = at;
-    mid = before;
-    step = record { made = []; made_is = sym (append-nil (all_syllables before)); are = tt; eu = refl; nlba = refl; uncut = refl; since = since };
-    events_are = refl;
-    cuts = h;
-  }
+  units_give [] last at before since fits h = grind (arith, append-nil)
   units_give (u ∷ units) last at before since fits h =
       let more = units_pieces lines units last in
       let ends_with = last_characters last in

@@ -18,7 +18,7 @@ use Rattle.gabc_score.specs.declared.events.BodyEvent.{BodyEvent}
 use Rattle.gabc_score.specs.declared.ending.InputEnding.{InputEnding}
 use Rattle.gabc_score.specs.Events.{body_events}
 use Rattle.gabc_score.specs.Body.{body_of}
-use Rattle.gabc_score.specs.NoteBeforeClef.{with_first_each, score_events}
+use Rattle.gabc_score.specs.NoteBeforeClef.{with_first_each}
 use Rattle.gabc_score.specs.Score.{heads_text, after_heads, body_in}
 use Rattle.gabc_places.proofs.PlacesOfAText.{placed_after, after_joined}
 
@@ -69,9 +69,4 @@ module _ (limits : Limits) (ending : InputEnding) (t : List ℕ) (heads : Heads)
       ap (λ q. placed_characters_from q after) place ∙ ap (placed_characters_from (place_after (heads_text t))) b ∙ placed_after (heads_text t) (after_heads t) in
       let end : place_past at after ≡ place_after t =
       ap (λ q. place_past q after) place ∙ ap (place_past (place_after (heads_text t))) b ∙ after_joined (heads_text t) (after_heads t) ∙ ap place_after (take-append-drop (head_len t + 2) t) in
-      ap (λ lists. body_of limits head heads.findings (place_past at after) ending (placed_characters_from at after) (with_first_each [] (placed_characters_from at after) lists)) law
-      ∙ ap (λ k. body_of limits k heads.findings (place_past at after) ending (placed_characters_from at after) (score_events lines macros (placed_characters_from at after))) h
-      ∙ ap (λ q. body_of limits (bytes_len (canonical_heads heads.book)) heads.findings q ending (placed_characters_from at after) (score_events lines macros (placed_characters_from at after))) end
-      ∙ ap (λ ys. body_of limits (bytes_len (canonical_heads heads.book)) heads.findings (place_after t) ending ys (score_events lines macros ys)) xs
-      ∙ ap (λ k. body_of limits (bytes_len (canonical_heads heads.book)) heads.findings (place_after t) ending (placed_characters_after (heads_text t) (after_heads t)) (score_events k macros (placed_characters_after (heads_text t) (after_heads t)))) l
-      ∙ ap (λ k. body_of limits (bytes_len (canonical_heads heads.book)) heads.findings (place_after t) ending (placed_characters_after (heads_text t) (after_heads t)) (score_events (nabc_lines_of heads.book) k (placed_characters_after (heads_text t) (after_heads t)))) m
+      rw (law, h, l, m, xs, end) refl

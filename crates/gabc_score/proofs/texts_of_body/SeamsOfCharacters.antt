@@ -1,5 +1,5 @@
 -- The bytes of characters, and where texts are cut.
-use Rattle.std.proofs.Common.{◌≡◌, ℕ, ◌+◌, true, cond, List, [], ◌∷◌, ◌++◌, length, take, sum_by, refl, sym, ap, ◌∙◌, arith, length-append}
+use Rattle.std.proofs.Common.{◌≡◌, ℕ, ◌+◌, true, List, [], ◌∷◌, ◌++◌, length, sum_by, refl, sym, ap, ◌∙◌, arith, length-append}
 use Rattle.std.specs.Char.{len_utf8}
 use Rattle.std.proofs.lemmas.List.{take_at, drop_at}
 use Rattle.std.proofs.lemmas.List.Sums.{sum_by-cons}
@@ -14,11 +14,7 @@ texts_begin (c ∷ t) = first_byte c (encodes t)
 
 -- a text is cut between two characters
 pub cut_between : (prefix back : List ℕ) → prefix_of (length (encodes prefix)) (encodes (prefix ++ back)) ≡ encodes prefix
-cut_between prefix back =
-    ap (prefix_of (length (encodes prefix))) (encodes-append prefix back)
-    ∙ ap (λ d. cond (is_seam d) (take (length (encodes prefix)) (encodes prefix ++ encodes back)) (encodes prefix ++ encodes back)) (drop_at (encodes prefix) (encodes back) (length (encodes prefix)) refl)
-    ∙ ap (λ b. cond b (take (length (encodes prefix)) (encodes prefix ++ encodes back)) (encodes prefix ++ encodes back)) (texts_begin back)
-    ∙ take_at (encodes prefix) (encodes back) (length (encodes prefix)) refl
+cut_between prefix back = grind (arith, encodes-append, drop_at, texts_begin, take_at)
 
 -- ---- how many bytes
 

@@ -1,6 +1,6 @@
 -- Spans of a text, and cut texts.
 use Rattle.std.proofs.Common.{◌≡◌, ℕ, ◌-◌, min, max, List, length, take, drop, sym, ap, ◌∙◌, arith, length-drop}
-use Rattle.std.proofs.lemmas.List.{take_min, drop_min}
+use Rattle.std.proofs.lemmas.List.{take_min}
 use Rattle.gabc_places.specs.declared.place.Span.{Span}
 use Rattle.gabc_score.specs.Syllable.{slice}
 
@@ -11,9 +11,7 @@ take_same xs n m h = sym (take_min n xs) ∙ ap (λ k. take k xs) h ∙ take_min
 -- no bytes past the end are taken
 taken : (bytes : List ℕ) (from to : ℕ)
     → take (max (min to (length bytes)) (min from (length bytes)) - min from (length bytes)) (drop (min from (length bytes)) bytes) ≡ take (to - from) (drop from bytes)
-taken bytes from to =
-    ap (take (max (min to (length bytes)) (min from (length bytes)) - min from (length bytes))) (drop_min from bytes)
-    ∙ take_same (drop from bytes) _ (to - from) (rw length-drop (omega arith))
+taken bytes from to = grind (arith, take_same, length-drop)
 
 pub slice_within : (span : Span) (bytes : List ℕ) (from to : ℕ) → from ≡ min span.from (length bytes) → to ≡ max (min span.to (length bytes)) from
     → take (to - from) (drop from bytes) ≡ slice span bytes

@@ -1,6 +1,5 @@
 -- Texts as their machine reads them and by their definition are the same, where no count of a body reaches its last value.
-use Rattle.std.proofs.Common.{◌≡◌, ℕ, ◌+◌, ◌<◌, ◌^◌, ◌==◌, Bool, true, false, if◌then◌else◌, List, [], ◌∷◌, ◌++◌, length, refl, sym, ap, subst, ◌∙◌, arith, length-append, take-append-drop, IsUtf8, ◌≤◌}
-use Rattle.std.specs.List.{list_any}
+use Rattle.std.proofs.Common.{◌≡◌, ℕ, ◌+◌, ◌<◌, ◌^◌, ◌==◌, if◌then◌else◌, List, [], ◌∷◌, ◌++◌, length, refl, sym, ap, subst, arith, length-append, take-append-drop, IsUtf8, ◌≤◌}
 use Rattle.std.specs.Str.{chars}
 use Rattle.std.proofs.lemmas.Str.{encodes-chars, length-encode, length-le-encodes}
 use lib.Utf8.{encode, encodes}
@@ -15,19 +14,16 @@ use Rattle.gabc_text.specs.Events.{CountsFit, events_by_point}
 use Rattle.gabc_text.specs.View.{bytes_of}
 use Rattle.gabc_text.specs.witness.EventsLeft.{events_left}
 use Rattle.gabc_text.specs.TextStage.{fresh_stage}
-use Rattle.gabc_score.specs.declared.events.BodyEvent.{BodyEvent}
-use Rattle.gabc_score.specs.Events.{PartAhead, InComment, InText, InNotes, is_next, is_close, first_list, other_lists, events_in, snippet_from, next_line, after_mark, part_at, part_after_character, events_from, texts_by_definition}
+use Rattle.gabc_score.specs.Events.{PartAhead, InComment, InText, after_mark, part_at, part_after_character, events_from, texts_by_definition}
 use Rattle.gabc_score.specs.witness.BodyStage.{texts_by_stage}
 use Rattle.gabc_score.specs.Score.{heads_text, after_heads}
+use Rattle.std.proofs.lemmas.Bool.{cond_both}
 
 -- the text after a character fits if the text from it on does
-fits_by : (at : Place) (c : ℕ) (t : List ℕ) (b : Bool) → CountsFit at (c ∷ t)
-    → CountsFit (if b then record { line = at.line + 1; column = 1 } else record { line = at.line; column = at.column + 1 }) t
-fits_by at c t true f = record { line = omega (arith, f.line); column = omega (arith, f.column); bytes = omega (arith, f.bytes) }
-fits_by at c t false f = record { line = omega (arith, f.line); column = omega (arith, f.column); bytes = omega (arith, f.bytes) }
-
 fits_next : (at : Place) (c : ℕ) (t : List ℕ) → CountsFit at (c ∷ t) → CountsFit (next_place at c) t
-fits_next at c t f = fits_by at c t (is_line_feed c) f
+fits_next at c t f =
+    cond_both (is_line_feed c) _ _ (λ (p : Place). CountsFit p t) (λ e. record { line = omega (arith, f.line); column = omega (arith, f.column); bytes = omega (arith, f.bytes) })
+    (λ e. record { line = omega (arith, f.line); column = omega (arith, f.column); bytes = omega (arith, f.bytes) })
 
 fits_after : (at : Place) (c : ℕ) (t : List ℕ) → CountsFit at (c ∷ t) → CountsFit (after_mark at) t
 fits_after at c t f = record { line = omega (arith, f.line); column = omega (arith, f.column); bytes = omega (arith, f.bytes) }
@@ -39,14 +35,7 @@ bytes_encodes (c ∷ t) = rw (bytes_encodes t, length-append (encode c) (encodes
 -- a body fits after a prefix if the bytes of both are few, and the place after the prefix counts no more than the prefix has
 pub fits_after_prefix : (at : Place) (prefix bytes : List ℕ) → IsUtf8 bytes → at.line ≤ 1 + length prefix → at.column ≤ 1 + length prefix
     → length prefix + length bytes < 2 ^ 63 → CountsFit at (chars bytes)
-fits_after_prefix at prefix bytes utf8 line column few =
-    let same : length (encodes (chars bytes)) ≡ length bytes = ap (length {A = ℕ}) (encodes-chars bytes utf8) in
-    let less = length-le-encodes (chars bytes) in
-    record {
-      line = omega (arith, line, few, less, same);
-      column = omega (arith, column, few, less, same);
-      bytes = omega (arith, few, same, bytes_encodes (chars bytes));
-    }
+fits_after_prefix at prefix bytes utf8 line column few = grind (arith, encodes-chars, length-le-encodes, bytes_encodes)
 
 fits_past : (at : Place) (prefix t : List ℕ) → CountsFit at (prefix ++ t) → CountsFit (place_past at prefix) t
 fits_past at [] t f = f
@@ -68,20 +57,12 @@ module _ (step : (at : Place) (t : List ℕ) → CountsFit at t → events_left 
       → part_at texts_by_stage part (record { c = c; place = at }) (placed_characters_from (next_place at c) t)
       ≡ part_at texts_by_definition part (record { c = c; place = at }) (placed_characters_from (next_place at c) t)
   same_standing at c t InComment f = ap (λ (lists : List (List TextEvent)). if c == 10 then InText lists else InComment) (same_texts at at (c ∷ t) f)
-  same_standing at c t (InText lists) f = refl
-  same_standing at c t (InNotes line opened lists) f = refl
+  same_standing at c t _ f = refl
 
   same_after : (at : Place) (c : ℕ) (t : List ℕ) (part : PartAhead) → CountsFit at (c ∷ t)
       → part_after_character texts_by_stage lines macros part (record { c = c; place = at }) (placed_characters_from (next_place at c) t)
       ≡ part_after_character texts_by_definition lines macros part (record { c = c; place = at }) (placed_characters_from (next_place at c) t)
-  same_after at c t InComment f = refl
-  same_after at c t (InText lists) f = refl
-  same_after at c t (InNotes line opened lists) f =
-      ap (λ (text : List (List TextEvent)).
-      if list_any is_next (first_list lists) then snippet_from lines macros (next_line lines line) opened (placed_characters_from (next_place at c) t) else
-      if list_any is_close (first_list lists) then InText text else
-      InNotes line opened (other_lists lists))
-      (same_texts (after_mark at) (next_place at c) t (fits_after at c t f))
+  same_after at c t part f = grind (arith, same_texts, fits_after)
 
   pub same_emitted : (at : Place) (t : List ℕ) (part : PartAhead) → CountsFit at t
       → events_from texts_by_stage lines macros part (placed_characters_from at t) ≡ events_from texts_by_definition lines macros part (placed_characters_from at t)
@@ -90,6 +71,4 @@ module _ (step : (at : Place) (t : List ℕ) → CountsFit at t → events_left 
       let x : Char = record { c = c; place = at } in
       let xs = placed_characters_from (next_place at c) t in
       let here = part_at texts_by_definition part x xs in
-      ap (λ (p : PartAhead). events_in p ∷ events_from texts_by_stage lines macros (part_after_character texts_by_stage lines macros p x xs) xs) (same_standing at c t part f)
-      ∙ ap (λ (p : PartAhead). events_in here ∷ events_from texts_by_stage lines macros p xs) (same_after at c t here f)
-      ∙ ap (λ (lists : List (List BodyEvent)). events_in here ∷ lists) (same_emitted (next_place at c) t (part_after_character texts_by_definition lines macros here x xs) (fits_next at c t f))
+      rw (same_standing at c t part f, same_after at c t here f, same_emitted (next_place at c) t (part_after_character texts_by_definition lines macros here x xs) (fits_next at c t f)) refl

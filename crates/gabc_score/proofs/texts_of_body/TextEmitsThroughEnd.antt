@@ -28,24 +28,18 @@ use Rattle.gabc_score.specs.machine.PartKeeps.{text_events}
 
 pub ends_apart : (xs ys : List TextEvent) → ends_in (xs ++ ys) ≡ [] → (ends_in xs ≡ []) × (ends_in ys ≡ [])
 ends_apart [] ys h = (refl, h)
-ends_apart (text.Kept x ∷ xs) ys h = ends_apart xs ys h
-ends_apart (text.Part p ∷ xs) ys h = ends_apart xs ys h
-ends_apart (text.Found f ∷ xs) ys h = ends_apart xs ys h
 ends_apart (text.Ended how ∷ xs) ys h = cc
+ends_apart (_ ∷ xs) ys h = ends_apart xs ys h
 
 ends_append : (xs ys : List TextEvent) → ends_in xs ≡ [] → ends_in (xs ++ ys) ≡ ends_in ys
 ends_append [] ys h = refl
-ends_append (text.Kept x ∷ xs) ys h = ends_append xs ys h
-ends_append (text.Part p ∷ xs) ys h = ends_append xs ys h
-ends_append (text.Found f ∷ xs) ys h = ends_append xs ys h
 ends_append (text.Ended how ∷ xs) ys h = cc
+ends_append (_ ∷ xs) ys h = ends_append xs ys h
 
 pub any_after : (xs ys : List TextEvent) → ends_in xs ≡ [] → list_any is_text_end (xs ++ ys) ≡ list_any is_text_end ys
 any_after [] ys h = refl
-any_after (text.Kept x ∷ xs) ys h = any_after xs ys h
-any_after (text.Part p ∷ xs) ys h = any_after xs ys h
-any_after (text.Found f ∷ xs) ys h = any_after xs ys h
 any_after (text.Ended how ∷ xs) ys h = cc
+any_after (_ ∷ xs) ys h = any_after xs ys h
 
 pub none_ends : (xs : List TextEvent) → ends_in xs ≡ [] → list_any is_text_end xs ≡ false
 none_ends xs h = ap (list_any is_text_end) (sym (append-nil xs)) ∙ any_after xs [] h
@@ -55,24 +49,23 @@ none_ends xs h = ap (list_any is_text_end) (sym (append-nil xs)) ∙ any_after x
 -- no `(` ends the text
 abbrev pub IsOpenEnd : TextEnd → Type 0
 IsOpenEnd text_end.Notes = ⊥
-IsOpenEnd text_end.Finished = Unit {0}
-IsOpenEnd (text_end.Cut place) = Unit {0}
+IsOpenEnd _ = Unit {0}
 
 module _ (lines : ℕ) where
   abbrev mark_by : Bool → Option Mark
   mark_by b = if b then Some Opens else None
 
   nothing_ends : (rest : List ℕ) (xs : List Char) (mark : Mark) → EndsAfter lines (InText (no_events_each rest)) xs mark → ⊥
-  nothing_ends [] [] mark h = cc
-  nothing_ends (c ∷ rest) [] mark h = cc
   nothing_ends [] (x ∷ xs) mark h = nothing_ends [] xs mark h.1
   nothing_ends (c ∷ rest) (x ∷ xs) mark h = nothing_ends rest xs mark h.1
+  nothing_ends [] [] mark h = cc
+  nothing_ends (c ∷ rest) [] mark h = cc
 
   nothing_through : (rest : List ℕ) (xs : List Char) → concat_of (events_through (InText (no_events_each rest)) xs) ≡ []
-  nothing_through [] [] = refl
-  nothing_through (c ∷ rest) [] = refl
   nothing_through [] (x ∷ xs) = nothing_through [] xs
   nothing_through (c ∷ rest) (x ∷ xs) = nothing_through rest xs
+  nothing_through [] [] = refl
+  nothing_through (c ∷ rest) [] = refl
 
   abbrev all_lists : List (List TextEvent) → List TextEvent → TextEnd → List ℕ → List (List TextEvent)
   all_lists before last how rest = before ++ (last ++ text.Ended how ∷ []) ∷ no_events_each rest
@@ -86,54 +79,35 @@ module _ (lines : ℕ) where
 
   more_through : (b : List TextEvent) (before : List (List TextEvent)) (last : List TextEvent) (how : TextEnd) (later : List BodyEvent) → later ≡ through before last how
       → text_events b ++ later ≡ through (b ∷ before) last how
-  more_through b before last how later h =
-      ap (λ ts. text_events b ++ ts) h
-      ∙ sym (append_assoc (text_events b) (text_events (concat_of before ++ last)) (Text (text.Ended how) ∷ []))
-      ∙ ap (λ ts. ts ++ Text (text.Ended how) ∷ []) (sym (map-append (λ (o : TextEvent). Text o) b (concat_of before ++ last)) ∙ ap text_events (sym (append_assoc b (concat_of before) last)))
+  more_through b before last how later h = grind (arith, append_assoc, map-append)
 
   last_mark : (how : TextEnd) (mark : Mark) → mark_by (list_any is_text_end (text.Ended how ∷ [])) ≡ Some mark → (how ≡ text_end.Notes) × (mark ≡ Opens)
-  last_mark text_end.Notes mark h = (refl, cc)
-  last_mark text_end.Finished mark h = cc
-  last_mark (text_end.Cut place) mark h = cc
+  last_mark how mark h = grind arith
 
   no_last_mark : (how : TextEnd) → mark_by (list_any is_text_end (text.Ended how ∷ [])) ≡ None → IsOpenEnd how
-  no_last_mark text_end.Notes h = cc
-  no_last_mark text_end.Finished h = tt
-  no_last_mark (text_end.Cut place) h = tt
+  no_last_mark how h = grind arith
 
+  -- the end stands where the `(` stands
   pub ends_through : (before : List (List TextEvent)) (last : List TextEvent) (how : TextEnd) (rest : List ℕ) (prefix : List Char) (mark : Mark)
       → ends_in (concat_of before) ≡ [] → ends_in last ≡ [] → EndsAfter lines (InText (all_lists before last how rest)) prefix mark
-      → (concat_of (events_through (InText (all_lists before last how rest)) prefix) ≡ through before last how) × ((how ≡ text_end.Notes) × (mark ≡ Opens))
-  ends_through [] last how rest [] mark n l h = (last_through last how, last_mark how mark (ap mark_by (sym (any_after last (text.Ended how ∷ []) l)) ∙ h))
+      → (concat_of (events_through (InText (all_lists before last how rest)) prefix) ≡ through before last how) × ((how ≡ text_end.Notes) × (mark ≡ Opens)) × (length prefix ≡ length before)
+  ends_through [] last how rest [] mark n l h = (last_through last how, last_mark how mark (ap mark_by (sym (any_after last (text.Ended how ∷ []) l)) ∙ h), refl)
   ends_through [] last how rest (x ∷ xs) mark n l h = absurd (nothing_ends rest xs mark h.1)
   ends_through (b ∷ before) last how rest [] mark n l h = absurd (let e = ap mark_by (none_ends b (ends_apart b (concat_of before) n).0) in cc)
   ends_through (b ∷ before) last how rest (x ∷ xs) mark n l h =
       let on = ends_through before last how rest xs mark (ends_apart b (concat_of before) n).1 l h.1 in
-      (more_through b before last how (concat_of (events_through (InText (all_lists before last how rest)) xs)) on.0, on.1)
-
-  -- the end stands where the `(` stands
-  ends_at : (before : List (List TextEvent)) (last : List TextEvent) (how : TextEnd) (rest : List ℕ) (prefix : List Char) (mark : Mark)
-      → ends_in (concat_of before) ≡ [] → EndsAfter lines (InText (all_lists before last how rest)) prefix mark → length prefix ≡ length before
-  ends_at [] last how rest [] mark n h = refl
-  ends_at [] last how rest (x ∷ xs) mark n h = absurd (nothing_ends rest xs mark h.1)
-  ends_at (b ∷ before) last how rest [] mark n h = absurd (let e = ap mark_by (none_ends b (ends_apart b (concat_of before) n).0) in cc)
-  ends_at (b ∷ before) last how rest (x ∷ xs) mark n h = ap (λ k. suc k) (ends_at before last how rest xs mark (ends_apart b (concat_of before) n).1 h.1)
+      (more_through b before last how (concat_of (events_through (InText (all_lists before last how rest)) xs)) on.0, on.1, ap (λ k. suc k) on.2)
 
   pub endless_through : (before : List (List TextEvent)) (last : List TextEvent) (how : TextEnd) (rest : List ℕ) (xs : List Char)
       → ends_in last ≡ [] → length before ≤ length xs → Endless lines (InText (all_lists before last how rest)) xs
-      → (concat_of (events_through (InText (all_lists before last how rest)) xs) ≡ through before last how)
-  endless_through [] last how rest [] l few h = last_through last how
-  endless_through [] last how rest (x ∷ xs) l few h = ap (λ ts. text_events (last ++ text.Ended how ∷ []) ++ ts) (nothing_through rest xs) ∙ last_through last how
+      → (concat_of (events_through (InText (all_lists before last how rest)) xs) ≡ through before last how) × (length before < length xs → IsOpenEnd how)
+  endless_through [] last how rest [] l few h = (last_through last how, λ less. absurd (omega (arith, less)))
+  endless_through [] last how rest (x ∷ xs) l few h =
+      (ap (λ ts. text_events (last ++ text.Ended how ∷ []) ++ ts) (nothing_through rest xs) ∙ last_through last how, λ less. no_last_mark how (ap mark_by (sym (any_after last (text.Ended how ∷ []) l)) ∙ h.0))
   endless_through (b ∷ before) last how rest [] l few h = absurd (omega arith)
   endless_through (b ∷ before) last how rest (x ∷ xs) l few h =
-      more_through b before last how (concat_of (events_through (InText (all_lists before last how rest)) xs)) (endless_through before last how rest xs l (omega arith) h.1)
-
-  pub endless_open : (before : List (List TextEvent)) (last : List TextEvent) (how : TextEnd) (rest : List ℕ) (xs : List Char)
-      → ends_in last ≡ [] → length before < length xs → Endless lines (InText (all_lists before last how rest)) xs → IsOpenEnd how
-  endless_open [] last how rest [] l few h = absurd (omega arith)
-  endless_open [] last how rest (x ∷ xs) l few h = no_last_mark how (ap mark_by (sym (any_after last (text.Ended how ∷ []) l)) ∙ h.0)
-  endless_open (b ∷ before) last how rest [] l few h = absurd (omega arith)
-  endless_open (b ∷ before) last how rest (x ∷ xs) l few h = endless_open before last how rest xs l (omega arith) h.1
+      let on = endless_through before last how rest xs l (omega arith) h.1 in
+      (more_through b before last how (concat_of (events_through (InText (all_lists before last how rest)) xs)) on.0, λ less. on.1 (omega (arith, less)))
 
 -- ---- a text
 
@@ -145,6 +119,20 @@ pub codes_append : (xs ys : List Char) → codes_of (xs ++ ys) ≡ codes_of xs +
 codes_append [] ys = refl
 codes_append (x ∷ xs) ys = ap (λ cs. x.c ∷ cs) (codes_append xs ys)
 
+-- the character that ends a text is a `(`
+pub text_mark : (ends : (at : Place) (t : List ℕ) → EndsOnce at t) (lines : ℕ) (at : Place) (prefix : List Char) (end : Char) (rest : List Char) (mark : Mark) → EndsAfter lines (InText (texts_by_definition at (prefix ++ end ∷ rest))) prefix mark → end.c ≡ 40
+text_mark ends lines at prefix end rest mark h =
+    let xs = prefix ++ end ∷ rest in
+    let e = ends at (codes_of xs) in
+    let k : EndsAfter lines (InText (all_lists lines e.before e.last e.how e.rest)) prefix mark = subst (λ ls. EndsAfter lines (InText ls) prefix mark) e.events_are h in
+    let ended = ends_through lines e.before e.last e.how e.rest prefix mark e.none_before e.none_in_last k in
+    let left : e.rest ≡ 40 ∷ drop 1 e.rest = subst (λ how. Leaves how e.rest) ended.1.0 e.leaves in
+    let size : length (codes_of prefix) ≡ length e.prefix = length_of_codes prefix ∙ ended.2 ∙ e.one_each in
+    let all : codes_of prefix ++ end.c ∷ codes_of rest ≡ e.prefix ++ e.rest = sym (codes_append prefix (end ∷ rest)) ∙ e.text_is in
+    let after : end.c ∷ codes_of rest ≡ 40 ∷ drop 1 e.rest =
+    sym (drop_at (codes_of prefix) (end.c ∷ codes_of rest) (length e.prefix) size) ∙ ap (drop (length e.prefix)) all ∙ drop_at e.prefix e.rest (length e.prefix) refl ∙ left in
+    cc
+
 -- what a text emits through its end: what is emitted before the end gathers to its kept text and its view
 pub record TextEmitted (t : List ℕ) (how : TextEnd) (events : List BodyEvent) : Type 0 where
   pub mids : List TextEvent
@@ -155,15 +143,10 @@ pub record TextEmitted (t : List ℕ) (how : TextEnd) (events : List BodyEvent) 
 
 module _ (ends : (at : Place) (t : List ℕ) → EndsOnce at t) (emits : (at : Place) (t : List ℕ) → with_events empty_text (concat_of (events_by_point at t)) ≡ text_built_at at t) (lines : ℕ) (at : Place) where
   joined_all : (before : List (List TextEvent)) (last : List TextEvent) (how : TextEnd) (rest : List ℕ) → concat_of (all_lists lines before last how rest) ≡ (concat_of before ++ last) ++ text.Ended how ∷ []
-  joined_all before last how rest =
-      flat_map-append (λ (xs : List TextEvent). xs) before ((last ++ text.Ended how ∷ []) ∷ no_events_each rest)
-      ∙ ap (λ ys. concat_of before ++ ((last ++ text.Ended how ∷ []) ++ ys)) (joined_nothing rest)
-      ∙ ap (λ ys. concat_of before ++ ys) (append-nil (last ++ text.Ended how ∷ []))
-      ∙ sym (append_assoc (concat_of before) last (text.Ended how ∷ []))
+  joined_all before last how rest = grind (arith, flat_map-append, joined_nothing, append-nil, append_assoc)
 
   gathered : (t : List ℕ) → (let e = ends at t in with_events empty_text ((concat_of e.before ++ e.last) ++ text.Ended e.how ∷ []) ≡ text_built_at at t)
-  gathered t = let e = ends at t in
-      ap (with_events empty_text) (sym (joined_all e.before e.last e.how e.rest) ∙ ap concat_of (sym e.events_are)) ∙ emits at t
+  gathered t = grind (arith, joined_all)
 
   with_end : (mids : List TextEvent) (how : TextEnd) → with_events empty_text (mids ++ text.Ended how ∷ []) ≡ with_event (with_events empty_text mids) (text.Ended how)
   with_end mids how = events_append empty_text mids (text.Ended how ∷ [])
@@ -189,36 +172,20 @@ module _ (ends : (at : Place) (t : List ℕ) → EndsOnce at t) (emits : (at : P
         through_is.1.1,
       )
 
-  -- that character is a `(`
-  pub text_mark : (prefix : List Char) (end : Char) (rest : List Char) (mark : Mark) → EndsAfter lines (InText (texts_by_definition at (prefix ++ end ∷ rest))) prefix mark → end.c ≡ 40
-  text_mark prefix end rest mark h =
-      let xs = prefix ++ end ∷ rest in
-      let e = ends at (codes_of xs) in
-      let k : EndsAfter lines (InText (all_lists lines e.before e.last e.how e.rest)) prefix mark = subst (λ ls. EndsAfter lines (InText ls) prefix mark) e.events_are h in
-      let notes : e.how ≡ text_end.Notes = (ends_through lines e.before e.last e.how e.rest prefix mark e.none_before e.none_in_last k).1.0 in
-      let left : e.rest ≡ 40 ∷ drop 1 e.rest = subst (λ how. Leaves how e.rest) notes e.leaves in
-      let size : length (codes_of prefix) ≡ length e.prefix = length_of_codes prefix ∙ ends_at lines e.before e.last e.how e.rest prefix mark e.none_before k ∙ e.one_each in
-      let all : codes_of prefix ++ end.c ∷ codes_of rest ≡ e.prefix ++ e.rest = sym (codes_append prefix (end ∷ rest)) ∙ e.text_is in
-      let after : end.c ∷ codes_of rest ≡ 40 ∷ drop 1 e.rest =
-      sym (drop_at (codes_of prefix) (end.c ∷ codes_of rest) (length e.prefix) size) ∙ ap (drop (length e.prefix)) all ∙ drop_at e.prefix e.rest (length e.prefix) refl ∙ left in
-      cc
-
   lengths : (xs : List Char) → (let e = ends at (codes_of xs) in length xs ≡ length e.before + length e.rest)
-  lengths xs = let e = ends at (codes_of xs) in
-      sym (length_of_codes xs) ∙ ap length e.text_is ∙ length-append e.prefix e.rest ∙ ap (λ n. n + length e.rest) (sym e.one_each)
+  lengths xs = grind (arith, length_of_codes, length-append)
 
   short : (xs : List Char) → length (ends at (codes_of xs)).before ≤ length xs
   short xs = let e = lengths xs in omega arith
 
   open_by : (xs : List Char) → Endless lines (InText (texts_by_definition at xs)) xs → (how : TextEnd) → (ends at (codes_of xs)).how ≡ how → IsOpenEnd how
-  open_by xs h text_end.Finished e = tt
-  open_by xs h (text_end.Cut place) e = tt
   open_by xs h text_end.Notes e =
       let s = ends at (codes_of xs) in
       let all : length xs ≡ length s.before + length s.rest = lengths xs in
       let left : Leaves text_end.Notes s.rest = subst (λ how. Leaves how s.rest) e s.leaves in
       let more : length s.rest ≡ suc (length (drop 1 s.rest)) = ap length left in
-      subst IsOpenEnd e (endless_open lines s.before s.last s.how s.rest xs s.none_in_last (omega arith) (subst (λ ls. Endless lines (InText ls) xs) s.events_are h))
+      subst IsOpenEnd e ((endless_through lines s.before s.last s.how s.rest xs s.none_in_last (short xs) (subst (λ ls. Endless lines (InText ls) xs) s.events_are h)).1 (omega arith))
+  open_by xs h _ e = tt
 
   -- a text that the end of the input ends
   pub text_endless : (xs : List Char) → Endless lines (InText (texts_by_definition at xs)) xs → (how : TextEnd) × IsOpenEnd how × TextEmitted (codes_of xs) how (concat_of (events_through (InText (texts_by_definition at xs)) xs))
@@ -226,14 +193,12 @@ module _ (ends : (at : Place) (t : List ℕ) → EndsOnce at t) (emits : (at : P
     e.how,
     open_by xs h e.how refl,
     text_emitted_by (codes_of xs) (concat_of (events_through (InText (texts_by_definition at xs)) xs))
-        (ap (λ ls. concat_of (events_through (InText ls) xs)) e.events_are ∙ endless_through lines e.before e.last e.how e.rest xs e.none_in_last (short xs) (subst (λ ls. Endless lines (InText ls) xs) e.events_are h)),
+        (ap (λ ls. concat_of (events_through (InText ls) xs)) e.events_are ∙ (endless_through lines e.before e.last e.how e.rest xs e.none_in_last (short xs) (subst (λ ls. Endless lines (InText ls) xs) e.events_are h)).0),
   )
 
   -- what is emitted of a text through its end is what it gives
   events_all : (t : List ℕ) → (let e = ends at t in through lines e.before e.last e.how ≡ text_events (concat_of (events_by_point at t)))
-  events_all t = let e = ends at t in
-      sym (map-append (λ (o : TextEvent). Text o) (concat_of e.before ++ e.last) (text.Ended e.how ∷ []))
-      ∙ ap text_events (sym (joined_all e.before e.last e.how e.rest) ∙ ap concat_of (sym e.events_are))
+  events_all t = grind (arith, map-append, joined_all)
 
   pub ended_emits : (prefix : List Char) (end : Char) (rest : List Char) (mark : Mark) → (let xs = prefix ++ end ∷ rest in
       EndsAfter lines (InText (texts_by_definition at xs)) prefix mark → concat_of (events_through (InText (texts_by_definition at xs)) prefix) ≡ text_events (concat_of (events_by_point at (codes_of xs))))
@@ -248,5 +213,5 @@ module _ (ends : (at : Place) (t : List ℕ) → EndsOnce at t) (emits : (at : P
   endless_emits xs h =
       let e = ends at (codes_of xs) in
       ap (λ ls. concat_of (events_through (InText ls) xs)) e.events_are
-      ∙ endless_through lines e.before e.last e.how e.rest xs e.none_in_last (short xs) (subst (λ ls. Endless lines (InText ls) xs) e.events_are h)
+      ∙ (endless_through lines e.before e.last e.how e.rest xs e.none_in_last (short xs) (subst (λ ls. Endless lines (InText ls) xs) e.events_are h)).0
       ∙ events_all (codes_of xs)

@@ -1,5 +1,5 @@
 -- What stands in a text stands in a longer one.
-use Rattle.std.proofs.Common.{ℕ, Option, Some, None, List, [], ◌∷◌, ◌++◌, ap, ◌∙◌, append_assoc}
+use Rattle.std.proofs.Common.{ℕ, Option, List, [], ◌∷◌, ◌++◌, append_assoc, arith}
 use Rattle.gabc_places.specs.declared.place.Span.{Span}
 use Rattle.gabc_text.specs.declared.view.Piece.{Piece}
 use Rattle.gabc_text.specs.TextView.{ViewContent}
@@ -8,13 +8,7 @@ use Rattle.gabc_text.specs.ViewFacts.{StandsFor, ArePiecesOf, IsTranslation, Sta
 
 module _ (text more : List ℕ) where
   span_more : (span : Span) (part : List ℕ) → StandsFor text span part → StandsFor (text ++ more) span part
-  span_more span part h = record {
-    prefix = h.prefix;
-    back = h.back ++ more;
-    parts = ap (λ t. t ++ more) h.parts ∙ append_assoc h.prefix (part ++ h.back) more ∙ ap (λ t. h.prefix ++ t) (append_assoc part h.back more);
-    from_is = h.from_is;
-    to_is = h.to_is;
-  }
+  span_more span part h = grind (arith, append_assoc)
 
   pieces_more : (ps : List Piece) (qs : List PieceFacts) → ArePiecesOf text ps qs → ArePiecesOf (text ++ more) ps qs
   pieces_more [] [] h = tt
@@ -23,10 +17,7 @@ module _ (text more : List ℕ) where
   pieces_more (p ∷ ps) (q ∷ qs) h = (record { kind_is = h.0.kind_is; styles_are = h.0.styles_are; stands = span_more p.span _ h.0.stands }, pieces_more ps qs h.1)
 
   translation_more : (o : Option Span) (t : Option (List ℕ)) → IsTranslation text o t → IsTranslation (text ++ more) o t
-  translation_more None None h = tt
-  translation_more None (Some t) h = absurd h
-  translation_more (Some s) None h = absurd h
-  translation_more (Some s) (Some t) h = span_more s t h
+  translation_more o t h = grind (arith, span_more)
 
   pub view_more : (v : ViewContent) (t : List ℕ) → StandsForView text v t → StandsForView (text ++ more) v t
   view_more v t h = record { pieces = pieces_more v.pieces _ h.pieces; centre = h.centre; translation = translation_more v.translation _ h.translation }

@@ -1,5 +1,5 @@
 -- Each body has one cutting, and what it emits is what its parts emit.
-use Rattle.std.proofs.Common.{◌≡◌, ℕ, List, [], ◌∷◌, ◌++◌, map, Bool, true, false, ◌==◌, if◌then◌else◌, Option, Some, None, refl, sym, ap, subst, ◌∙◌}
+use Rattle.std.proofs.Common.{◌≡◌, ℕ, List, [], ◌∷◌, ◌++◌, map, Bool, true, false, ◌==◌, if◌then◌else◌, Option, Some, None, refl, sym, ap, ◌∙◌, inl, inr, ◌⊎◌, arith}
 use Rattle.std.specs.List.{list_any}
 use Rattle.std.specs.Option.{option_map}
 use Rattle.gabc_places.specs.declared.place.Place.{Place}
@@ -7,7 +7,7 @@ use Rattle.gabc_text.specs.declared.text_event.TextEvent.{TextEvent}
 use Rattle.gabc_notes.specs.declared.stage.NoteEvent.{NoteEvent}
 use Rattle.gabc_places.specs.declared.place.Char.{Char}
 use Rattle.gabc_score.specs.declared.events.BodyEvent.{BodyEvent}
-use Rattle.gabc_score.specs.Events.{PartAhead, InComment, InText, InNotes, Texts, is_text_end, is_next, is_close, first_list, other_lists, next_line, after_mark, text_from, snippet_from, part_after_character, events_from, events_in, events_at_end}
+use Rattle.gabc_score.specs.Events.{PartAhead, InComment, InText, InNotes, Texts, is_text_end, is_next, is_close, first_list, other_lists, next_line, text_from, part_after_character, events_from, events_in, events_at_end}
 use Rattle.gabc_score.specs.Units.{Mark, Opens, Next, Closes, CutPart, Cutting, EndedPart, BodyUnit, LastUnit, JustText, OpenNotes, Units, BodyCutting, cut_part, snippets_with, units_pieces, last_characters, cutting_of, whole, part_onward, NoLf, BeginsWithLf, events_through, mark_in, Endless, EndsAfter, part_following, Cuts, events_of_cutting, first_text, IsCutFrom, IsCut, events_of_parts, events_of_body_cutting}
 
 -- a body that is cut into parts
@@ -43,12 +43,9 @@ abbrev cut_by : Char → Option Mark → (Mark → Cutting) → Cutting → Cutt
 cut_by x None then_ on = grow x on
 cut_by x (Some mark) then_ on = ended x mark (then_ mark)
 
-grown_whole : (x : Char) (cut : Cutting) → all_of (grow x cut) ≡ x ∷ all_of cut
-grown_whole x cut = by cut.pieces cut.last
-  where
-    by : (pieces : List CutPart) (last : List Char) → all_of (grown x pieces last) ≡ x ∷ whole pieces last
-    by [] last = refl
-    by (p ∷ pieces) last = refl
+grown_whole : (x : Char) (pieces : List CutPart) (last : List Char) → all_of (grown x pieces last) ≡ x ∷ whole pieces last
+grown_whole x [] last = refl
+grown_whole x (p ∷ pieces) last = refl
 
 module _ (texts : Texts) (lines macros : ℕ) where
   abbrev cut : PartAhead → List Char → Cutting
@@ -58,29 +55,23 @@ module _ (texts : Texts) (lines macros : ℕ) where
   -- a cutting is this one
   endless_is : (part : PartAhead) (last : List Char) → Endless lines part last → cut part last ≡ record { pieces = []; last = last }
   endless_is part [] h = refl
-  endless_is part (x ∷ xs) h =
-      ap (λ o. cut_by x o (λ mark. cut (part_following texts lines macros mark x xs) xs) (cut (part_onward part) xs)) h.0
-      ∙ ap (grow x) (endless_is (part_onward part) xs h.1)
+  endless_is part (x ∷ xs) h = grind (arith, endless_is (part_onward part) xs h.1)
 
   ends_is : (part : PartAhead) (prefix : List Char) (mark : Mark) (end : Char) (rest : List Char) → EndsAfter lines part prefix mark
       → cut part (prefix ++ end ∷ rest) ≡ push (record { characters = prefix; end = end; mark = mark }) (cut (part_following texts lines macros mark end rest) rest)
   ends_is part [] mark end rest h = ap (λ o. cut_by end o (λ m. cut (part_following texts lines macros m end rest) rest) (cut (part_onward part) rest)) h
-  ends_is part (x ∷ prefix) mark end rest h =
-      ap (λ o. cut_by x o (λ m. cut (part_following texts lines macros m x (prefix ++ end ∷ rest)) (prefix ++ end ∷ rest)) (cut (part_onward part) (prefix ++ end ∷ rest))) h.0
-      ∙ ap (grow x) (ends_is (part_onward part) prefix mark end rest h.1)
+  ends_is part (x ∷ prefix) mark end rest h = grind (arith, ends_is (part_onward part) prefix mark end rest h.1)
 
   cuts_is : (part : PartAhead) (pieces : List CutPart) (last : List Char) → Cuts texts lines macros part pieces last
       → cut part (whole pieces last) ≡ record { pieces = pieces; last = last }
   cuts_is part [] last h = endless_is part last h
   cuts_is part (p ∷ pieces) last h =
-      ends_is part p.characters p.mark p.end (whole pieces last) h.0
-      ∙ ap (push p) (cuts_is (part_following texts lines macros p.mark p.end (whole pieces last)) pieces last h.1)
+      rw (ends_is part p.characters p.mark p.end (whole pieces last) h.0, cuts_is (part_following texts lines macros p.mark p.end (whole pieces last)) pieces last h.1) refl
 
   -- it is one
   grown_cuts : (part : PartAhead) (x : Char) (pieces : List CutPart) (last : List Char) → mark_in lines part ≡ None → Cuts texts lines macros (part_onward part) pieces last
       → Cuts texts lines macros part (grown x pieces last).pieces (grown x pieces last).last
-  grown_cuts part x [] last none h = (none, h)
-  grown_cuts part x (p ∷ pieces) last none h = ((none, h.0), h.1)
+  grown_cuts part x pieces last none h = grind arith
 
   abbrev IsOf : PartAhead → List Char → Cutting → Type 0
   IsOf part xs c = (all_of c ≡ xs) × Cuts texts lines macros part c.pieces c.last
@@ -89,9 +80,7 @@ module _ (texts : Texts) (lines macros : ℕ) where
       → (then_ : Mark → Cutting) → ((mark : Mark) → IsOf (part_following texts lines macros mark x xs) xs (then_ mark))
       → (on : Cutting) → IsOf (part_onward part) xs on
       → IsOf part (x ∷ xs) (cut_by x o then_ on)
-  is_by part x xs None e then_ ht on ho = (grown_whole x on ∙ ap (λ ys. x ∷ ys) ho.0, grown_cuts part x on.pieces on.last e ho.1)
-  is_by part x xs (Some mark) e then_ ht on ho =
-      (ap (λ ys. x ∷ ys) (ht mark).0, (e, subst (λ ys. Cuts texts lines macros (part_following texts lines macros mark x ys) (then_ mark).pieces (then_ mark).last) (sym (ht mark).0) (ht mark).1))
+  is_by part x xs o e then_ ht on ho = grind (arith, grown_whole, grown_cuts)
 
   pub is_cut : (part : PartAhead) (xs : List Char) → IsOf part xs (cut part xs)
   is_cut part [] = (refl, tt)
@@ -121,25 +110,17 @@ module _ (texts : Texts) (lines macros : ℕ) where
   lf_is (x ∷ xs) ys h k = ap (λ b. body_by b x (xs ++ ys) (body_cut (xs ++ ys))) h.0 ∙ ap (commented x) (lf_is xs ys h.1 k)
 
   body_is : (xs comment : List Char) (parts : Option Cutting) → IsCutFrom texts lines macros xs comment parts → body_cut xs ≡ record { comment = comment; parts = parts }
-  body_is xs comment None h = ap body_cut h.0 ∙ no_lf_is comment h.1
-  body_is xs comment (Some c) h =
-      ap body_cut h.0 ∙ lf_is comment (all_of c) h.1.0 h.1.1.0
-      ∙ ap (λ d. record { comment = comment; parts = Some d }) (cuts_is (first_text texts (all_of c)) c.pieces c.last h.1.1.1)
+  body_is xs comment parts h = grind (arith, no_lf_is, lf_is, cuts_is)
 
   flat_no_other : (xs : List Char) (c d : FlatBody) → IsFlat texts lines macros xs c → IsFlat texts lines macros xs d → c ≡ d
   flat_no_other xs c d h k = sym (body_is xs c.comment c.parts h) ∙ body_is xs d.comment d.parts k
 
   commented_is : (x : Char) (xs : List Char) (c : FlatBody) → (x.c == 10) ≡ false → IsFlat texts lines macros xs c → IsFlat texts lines macros (x ∷ xs) (commented x c)
-  commented_is x xs c e h = by c.parts h
-    where
-      by : (parts : Option Cutting) → IsCutFrom texts lines macros xs c.comment parts → IsCutFrom texts lines macros (x ∷ xs) (x ∷ c.comment) parts
-      by None k = (ap (λ ys. x ∷ ys) k.0, (e, k.1))
-      by (Some d) k = (ap (λ ys. x ∷ ys) k.0, ((e, k.1.0), k.1.1))
+  commented_is x xs c e h = grind arith
 
   first_is : (x : Char) (xs : List Char) (c : Cutting) → (x.c == 10) ≡ true → IsOf (text_from texts x.place (x ∷ xs)) (x ∷ xs) c
       → IsFlat texts lines macros (x ∷ xs) (record { comment = []; parts = Some c })
-  first_is x xs c e h =
-      (sym h.0, (tt, subst (λ ys. BeginsWithLf ys × Cuts texts lines macros (first_text texts ys) c.pieces c.last) (sym h.0) (e, h.1)))
+  first_is x xs c e h = grind arith
 
   body_is_by : (x : Char) (xs : List Char) (b : Bool) → (x.c == 10) ≡ b → (c : FlatBody) → IsFlat texts lines macros xs c → IsFlat texts lines macros (x ∷ xs) (body_by b x xs c)
   body_is_by x xs true e c h = first_is x xs (cut (text_from texts x.place (x ∷ xs)) (x ∷ xs)) e (is_cut (text_from texts x.place (x ∷ xs)) (x ∷ xs))
@@ -157,20 +138,14 @@ IsPastComment (InText lists) = Unit
 IsPastComment (InNotes line opened lists) = Unit
 
 onward_read : (part : PartAhead) → IsPastComment part → IsPastComment (part_onward part)
-onward_read InComment h = h
-onward_read (InText lists) h = tt
-onward_read (InNotes line opened lists) h = tt
+onward_read part h = grind arith
 
 end_emitted : (part : PartAhead) → IsPastComment part → events_at_end part ≡ events_in part
-end_emitted InComment h = elim h [ ]
-end_emitted (InText lists) h = refl
-end_emitted (InNotes line opened lists) h = refl
+end_emitted part h = grind arith
 
 module _ (texts : Texts) (lines macros : ℕ) where
   follows_read : (mark : Mark) (x : Char) (xs : List Char) → IsPastComment (part_following texts lines macros mark x xs)
-  follows_read Opens x xs = tt
-  follows_read (Next line opened) x xs = tt
-  follows_read Closes x xs = tt
+  follows_read mark x xs = grind arith
 
   abbrev after_by : Option Mark → PartAhead → Char → List Char → PartAhead
   after_by None part x xs = part_onward part
@@ -180,27 +155,11 @@ module _ (texts : Texts) (lines macros : ℕ) where
   by_events part x xs o = events_in part ∷ events_from texts lines macros (after_by o part x xs) xs
 
   point_emitted : (part : PartAhead) → IsPastComment part → (x : Char) (xs : List Char) → events_from texts lines macros part (x ∷ xs) ≡ by_events part x xs (mark_in lines part)
-  point_emitted InComment h x xs = elim h [ ]
-  point_emitted (InText lists) h x xs = by (list_any is_text_end (first_list lists))
-    where
-      by : (b : Bool) → events_in (InText lists) ∷ events_from texts lines macros (if b then snippet_from lines macros 0 x.place xs else InText (other_lists lists)) xs
-          ≡ by_events (InText lists) x xs (if b then Some Opens else None)
-      by true = refl
-      by false = refl
-  point_emitted (InNotes line opened lists) h x xs = by (list_any is_next (first_list lists)) (list_any is_close (first_list lists))
-    where
-      by : (b d : Bool) → events_in (InNotes line opened lists) ∷ events_from texts lines macros
-          (if b then snippet_from lines macros (next_line lines line) opened xs else if d then text_from texts (after_mark x.place) xs else InNotes line opened (other_lists lists)) xs
-          ≡ by_events (InNotes line opened lists) x xs (if b then Some (Next (next_line lines line) opened) else if d then Some Closes else None)
-      by true d = refl
-      by false true = refl
-      by false false = refl
+  point_emitted part h x xs = grind arith
 
   endless_emitted : (part : PartAhead) (last : List Char) → IsPastComment part → Endless lines part last → events_from texts lines macros part last ≡ events_through part last
   endless_emitted part [] k h = ap (λ ts. ts ∷ []) (end_emitted part k)
-  endless_emitted part (x ∷ xs) k h =
-      point_emitted part k x xs ∙ ap (by_events part x xs) h.0
-      ∙ ap (λ ls. events_in part ∷ ls) (endless_emitted (part_onward part) xs (onward_read part k) h.1)
+  endless_emitted part (x ∷ xs) k h = grind (arith, endless_emitted (part_onward part) xs (onward_read part k) h.1, point_emitted, onward_read)
 
   pub ends_emitted : (part : PartAhead) (prefix : List Char) (mark : Mark) (end : Char) (rest : List Char) → IsPastComment part → EndsAfter lines part prefix mark
       → events_from texts lines macros part (prefix ++ end ∷ rest) ≡ events_through part prefix ++ events_from texts lines macros (part_following texts lines macros mark end rest) rest
@@ -233,16 +192,11 @@ module _ (texts : Texts) (lines macros : ℕ) where
   lf_emitted (x ∷ xs) ys h k = ap (comment_by x (xs ++ ys)) h.0 ∙ ap (λ ls. [] ∷ ls) (lf_emitted xs ys h.1 k)
 
   first_read : (ys : List Char) → BeginsWithLf ys → IsPastComment (first_text texts ys)
-  first_read [] k = elim k [ ]
-  first_read (x ∷ xs) k = tt
+  first_read ys k = grind arith
 
   body_emits_by : (xs comment : List Char) (parts : Option Cutting) → IsCutFrom texts lines macros xs comment parts
       → events_from texts lines macros InComment xs ≡ map (λ (x : Char). []) comment ++ events_of_parts texts lines macros parts
-  body_emits_by xs comment None k = ap (events_from texts lines macros InComment) k.0 ∙ no_lf_emitted comment k.1
-  body_emits_by xs comment (Some d) k =
-      ap (events_from texts lines macros InComment) k.0 ∙ lf_emitted comment (all_of d) k.1.0 k.1.1.0
-      ∙ ap (λ ls. map (λ (x : Char). []) comment ++ ls)
-      (cuts_emitted (first_text texts (all_of d)) d.pieces d.last (first_read (all_of d) k.1.1.0) k.1.1.1)
+  body_emits_by xs comment parts k = grind (arith, no_lf_emitted, lf_emitted, cuts_emitted, first_read)
 
   pub body_emits_all : (xs : List Char) (c : BodyCutting) → IsCut texts lines macros xs c → events_from texts lines macros InComment xs ≡ events_of_body_cutting texts lines macros c
   body_emits_all xs c h = body_emits_by xs c.comment (option_map (cutting_of lines) c.units) h
@@ -276,46 +230,24 @@ abbrev group : List CutPart → List Char → Grouped
 group [] last = record { as_text = record { closed = []; last = JustText last }; as_notes = Never [] last }
 group (p ∷ pieces) last = group_by p.mark (record { characters = p.characters; end = p.end }) (group pieces last)
 
-abbrev IsOpens : Mark → Type 0
-IsOpens Opens = Unit
-IsOpens (Next line opened) = ⊥
-IsOpens Closes = ⊥
-
-abbrev OfText : Option Mark → Type 0
-OfText None = Unit
-OfText (Some mark) = IsOpens mark
-
 module _ (texts : Texts) (lines macros : ℕ) where
-  abbrev IsOfNotes : ℕ → Place → Mark → Type 0
-  IsOfNotes line opened Opens = ⊥
-  IsOfNotes line opened (Next l o) = (next_line lines line ≡ l) × (opened ≡ o)
-  IsOfNotes line opened Closes = Unit
-
-  abbrev OfNotes : ℕ → Place → Option Mark → Type 0
-  OfNotes line opened None = Unit
-  OfNotes line opened (Some mark) = IsOfNotes line opened mark
-
-  of_text : (lists : List (List TextEvent)) → OfText (mark_in lines (InText lists))
-  of_text lists = by (list_any is_text_end (first_list lists))
+  -- a text ends at its `(`, and a snippet at a `|` or its `)`
+  pub text_mark : (lists : List (List TextEvent)) (prefix : List Char) (mark : Mark) → EndsAfter lines (InText lists) prefix mark → mark ≡ Opens
+  text_mark lists [] mark h = by (list_any is_text_end (first_list lists)) h
     where
-      by : (b : Bool) → OfText (if b then Some Opens else None)
-      by true = tt
-      by false = tt
-
-  of_notes : (line : ℕ) (opened : Place) (lists : List (List NoteEvent)) → OfNotes line opened (mark_in lines (InNotes line opened lists))
-  of_notes line opened lists = by (list_any is_next (first_list lists)) (list_any is_close (first_list lists))
-    where
-      by : (b d : Bool) → OfNotes line opened (if b then Some (Next (next_line lines line) opened) else if d then Some Closes else None)
-      by true d = (refl, refl)
-      by false true = tt
-      by false false = tt
-
-  pub text_mark : (lists : List (List TextEvent)) (prefix : List Char) (mark : Mark) → EndsAfter lines (InText lists) prefix mark → IsOpens mark
-  text_mark lists [] mark h = subst OfText h (of_text lists)
+      by : (b : Bool) → (if b then Some Opens else None) ≡ Some mark → mark ≡ Opens
+      by true e = cc
+      by false e = absurd (cc)
   text_mark lists (x ∷ xs) mark h = text_mark (other_lists lists) xs mark h.1
 
-  notes_mark : (line : ℕ) (opened : Place) (lists : List (List NoteEvent)) (prefix : List Char) (mark : Mark) → EndsAfter lines (InNotes line opened lists) prefix mark → IsOfNotes line opened mark
-  notes_mark line opened lists [] mark h = subst (OfNotes line opened) h (of_notes line opened lists)
+  notes_mark : (line : ℕ) (opened : Place) (lists : List (List NoteEvent)) (prefix : List Char) (mark : Mark) → EndsAfter lines (InNotes line opened lists) prefix mark
+      → (mark ≡ Next (next_line lines line) opened) ⊎ (mark ≡ Closes)
+  notes_mark line opened lists [] mark h = by (list_any is_next (first_list lists)) (list_any is_close (first_list lists)) h
+    where
+      by : (b d : Bool) → (if b then Some (Next (next_line lines line) opened) else if d then Some Closes else None) ≡ Some mark → (mark ≡ Next (next_line lines line) opened) ⊎ (mark ≡ Closes)
+      by true d e = inl (cc)
+      by false true e = inr (cc)
+      by false false e = absurd (cc)
   notes_mark line opened lists (x ∷ xs) mark h = notes_mark line opened (other_lists lists) xs mark h.1
 
   abbrev the_cutting : Units → Cutting
@@ -327,8 +259,7 @@ module _ (texts : Texts) (lines macros : ℕ) where
       record { pieces = snippets_with lines line opened nexts (cut_part final Closes ∷ units_pieces lines u.closed u.last); last = last_characters u.last }
 
   opened_is : (e : EndedPart) (n : Noted) → the_cutting (opened_with e n) ≡ push (cut_part e Opens) (noted 0 e.end.place n)
-  opened_is e (Never nexts xs) = refl
-  opened_is e (Closed nexts final u) = refl
+  opened_is e n = grind arith
 
   next_is : (line : ℕ) (opened : Place) (e : EndedPart) (n : Noted)
       → noted line opened (next_with e n) ≡ push (cut_part e (Next (next_line lines line) opened)) (noted (next_line lines line) opened n)
@@ -342,18 +273,7 @@ module _ (texts : Texts) (lines macros : ℕ) where
 
   regroups_by : (part : PartAhead) (e : EndedPart) (mark : Mark) (xs : List Char) (c : Cutting) (g : Grouped) → EndsAfter lines part e.characters mark
       → Regroups (part_following texts lines macros mark e.end xs) c g → Regroups part (push (cut_part e mark) c) (group_by mark e g)
-  regroups_by InComment e mark xs c g h k = tt
-  regroups_by (InText lists) e Opens xs c g h k = opened_is e g.as_notes ∙ ap (push (cut_part e Opens)) k
-  regroups_by (InText lists) e (Next l o) xs c g h k = elim (text_mark lists e.characters (Next l o) h) [ ]
-  regroups_by (InText lists) e Closes xs c g h k = elim (text_mark lists e.characters Closes h) [ ]
-  regroups_by (InNotes line opened lists) e Opens xs c g h k = elim (notes_mark line opened lists e.characters Opens h) [ ]
-  regroups_by (InNotes line opened lists) e (Next l o) xs c g h k =
-      let is = notes_mark line opened lists e.characters (Next l o) h in
-      next_is line opened e g.as_notes
-      ∙ ap (λ m. push (cut_part e (Next m opened)) (noted m opened g.as_notes)) is.0
-      ∙ ap (λ p. push (cut_part e (Next l p)) (noted l p g.as_notes)) is.1
-      ∙ ap (push (cut_part e (Next l o))) k
-  regroups_by (InNotes line opened lists) e Closes xs c g h k = ap (push (cut_part e Closes)) k
+  regroups_by part e mark xs c g h k = grind (arith, opened_is, text_mark, notes_mark, next_is)
 
   regroups : (part : PartAhead) (pieces : List CutPart) (last : List Char) → Cuts texts lines macros part pieces last
       → Regroups part (record { pieces = pieces; last = last }) (group pieces last)
@@ -386,11 +306,7 @@ module _ (texts : Texts) (lines macros : ℕ) where
       → (group (units_pieces lines units last) (last_characters last)).as_text ≡ record { closed = units; last = last }
   units_group [] (JustText xs) = refl
   units_group [] (OpenNotes text nexts xs) = ap (opened_with text) (snippets_group 0 text.end.place nexts [] xs ∙ never_is nexts xs)
-  units_group (u ∷ units) last =
-      ap (opened_with u.text)
-      (snippets_group 0 u.text.end.place u.nexts (cut_part u.final Closes ∷ units_pieces lines units last) (last_characters last)
-      ∙ ap (λ v. nexts_with u.nexts (Closed [] u.final v)) (units_group units last)
-      ∙ closed_is u.nexts u.final (record { closed = units; last = last }))
+  units_group (u ∷ units) last = grind (arith, units_group units last, snippets_group, closed_is)
 
   abbrev units_of : Cutting → Units
   units_of c = (group c.pieces c.last).as_text
@@ -402,21 +318,14 @@ module _ (texts : Texts) (lines macros : ℕ) where
   in_parts c = record { comment = c.comment; parts = option_map the_cutting c.units }
 
   same_units : (c : BodyCutting) → with_units (in_parts c) ≡ c
-  same_units c = ap (λ o. record { comment = c.comment; units = o }) (by c.units)
-    where
-      by : (units : Option Units) → option_map units_of (option_map the_cutting units) ≡ units
-      by None = refl
-      by (Some u) = ap (λ v. Some v) (units_group u.closed u.last)
+  same_units c = grind (arith, units_group)
 
   same_parts : (ys : List Char) (c : Cutting) → BeginsWithLf ys → Cuts texts lines macros (first_text texts ys) c.pieces c.last → the_cutting (units_of c) ≡ c
-  same_parts [] c k h = elim k [ ]
-  same_parts (x ∷ xs) c k h = regroups (first_text texts (x ∷ xs)) c.pieces c.last h
+  same_parts ys c k h = grind (arith, regroups)
 
   units_cut : (xs comment : List Char) (parts : Option Cutting) → IsCutFrom texts lines macros xs comment parts
       → IsCutFrom texts lines macros xs comment (option_map the_cutting (option_map units_of parts))
-  units_cut xs comment None h = h
-  units_cut xs comment (Some c) h =
-      subst (λ d. IsCutFrom texts lines macros xs comment (Some d)) (sym (same_parts (all_of c) c h.1.1.0 h.1.1.1)) h
+  units_cut xs comment parts h = grind (arith, same_parts)
 
   pub one : (xs : List Char) → (c : BodyCutting) × IsCut texts lines macros xs c
   one xs =

@@ -1,6 +1,6 @@
 -- The canonical text of a syllable that holds a unit is a text of an input, if its kept text is one.
-use Rattle.std.proofs.Common.{◌≡◌, ℕ, ◌+◌, ◌<◌, ◌==◌, ◌&&◌, not, nat_lt, Bool, true, false, cond, List, [], ◌∷◌, ◌++◌, map, codes, reverse, Option, Some, None, encode_utf8, encode_utf8_all, refl, sym, subst, ◌∙◌, arith, append_assoc}
-use Rattle.std.proofs.lemmas.Bool.{and_parts}
+use Rattle.std.proofs.Common.{◌≡◌, ℕ, ◌+◌, ◌<◌, ◌==◌, ◌&&◌, not, nat_lt, Bool, true, cond, List, [], ◌∷◌, ◌++◌, map, codes, reverse, Option, Some, None, encode_utf8, encode_utf8_all, refl, sym, subst, ◌∙◌, arith, append_assoc}
+use Rattle.std.proofs.lemmas.Bool.{and_parts, cond_both}
 use Rattle.std.proofs.lemmas.Bool.Decides.{nat_tests}
 use Rattle.std.specs.List.{All, flat_map, list_all}
 use Rattle.std.specs.Str.{chars}
@@ -22,7 +22,7 @@ use Rattle.gabc_score.specs.declared.snippets.Snippet.{Snippet}
 use Rattle.gabc_score.specs.Canonical.{canonical, translation_text, with_bars}
 use Rattle.gabc_score.specs.Holding.{ReadSnippet}
 use Rattle.gabc_score.specs.Syllable.{UnplacedSyllable, slice}
-use Rattle.gabc_score.specs.SyllablesOfUnits.{HoldsUnit, NotesAre}
+use Rattle.gabc_score.specs.SyllablesOfUnits.{NotesAre}
 use Rattle.gabc_places.specs.TextOfAnInput.{IsPlain, IsText, IsTextCharacter}
 use Rattle.gabc_score.specs.UnitRead.{HoldsSomeUnit}
 use Rattle.gabc_score.proofs.holding.SnippetsAreHeld.{bytes_stand}
@@ -86,13 +86,9 @@ tags_low Ul = (low_text (codes "</ul>") refl, low_text (codes "<ul>") refl)
 
 braces_low : (centre : Option Span) (i : ℕ) → IsText (braces centre i)
 braces_low None i = nothing_plain
-braces_low (Some c) i = by (c.from == i) (c.to == i)
-  where
-    by : (a b : Bool) → IsText (cond a (cond b (codes "{}") (codes "{")) (cond b (codes "}") []))
-    by true true = low_text (codes "{}") refl
-    by true false = low_text (codes "{") refl
-    by false true = low_text (codes "}") refl
-    by false false = nothing_plain
+braces_low (Some c) i =
+    cond_both (c.from == i) _ _ IsText (λ e. cond_both (c.to == i) (codes "{}") (codes "{") IsText (λ f. low_text (codes "{}") refl) (λ f. low_text (codes "{") refl))
+    (λ e. cond_both (c.to == i) (codes "}") [] IsText (λ f. low_text (codes "}") refl) (λ f. nothing_plain))
 
 boundary_plain : (old new : List Style) (middle : List ℕ) → IsText middle → IsText (boundary old new middle)
 boundary_plain old new middle h =
@@ -100,15 +96,12 @@ boundary_plain old new middle h =
     (plain_append middle (flat_map style_opening (after_common old new).1) h (all_plain style_opening (λ s. (tags_low s).1) (after_common old new).1))
 
 dollar_plain : (b : Bool) (t : List ℕ) → IsText t → IsText (cond b (codes "$") [] ++ t)
-dollar_plain true t h = plain_append (codes "$") t (low_text (codes "$") refl) h
-dollar_plain false t h = h
+dollar_plain b t h = plain_append (cond b (codes "$") []) t (cond_both b (codes "$") [] IsText (λ e. low_text (codes "$") refl) (λ e. nothing_plain)) h
 
 piece_plain : (k : PieceKind) (t : List ℕ) → IsText t → IsText (piece_text_by k t)
 piece_plain piece.Char t h = dollar_plain (needs_dollar t) t h
 piece_plain piece.Blank t h = low_text (codes " ") refl
-piece_plain piece.Raw t h = h
-piece_plain piece.Tag t h = h
-piece_plain piece.Mark t h = h
+piece_plain _ t h = h
 
 bars_plain : (kept : List ℕ) (ss : List Snippet) → All (λ (s : Snippet). IsText (slice s.span kept)) ss → IsText (with_bars kept ss)
 bars_plain kept [] h = nothing_plain
@@ -147,37 +140,24 @@ module _ (spanned : (text : List ℕ) (span : Span) (part : List ℕ) → Stands
       (snippets_plain (before ++ x ∷ []) xs (λ a b s e. h a b s (sym (append_assoc before (x ∷ []) xs) ∙ e)))
 
 start_plain : (b : Bool) → IsText (cond b (10 ∷ []) [])
-start_plain true = low_text (10 ∷ []) refl
-start_plain false = nothing_plain
+start_plain b = cond_both b (10 ∷ []) [] IsText (λ e. low_text (10 ∷ []) refl) (λ e. nothing_plain)
 
 pub canonical_is_text : ((text : List ℕ) (span : Span) (part : List ℕ) → StandsFor text span part → span_bytes (encode_utf8_all text) span ≡ encode_utf8_all part)
     → (lines : ℕ) (m : UnplacedSyllable) → HoldsSomeUnit lines m → IsText m.kept → (starts : Bool) → IsText (canonical starts m)
 canonical_is_text spanned lines m h kept starts =
+    let u = h.holds in
+    let text = canonical_text m.text m.kept in
+    let translation = translation_text m.kept m.text.translation in
+    let bars = with_bars m.kept m.snippets in
+    let plain = characters_of u.whole (subst IsText u.kept_is kept) in
+    let snippets = subst (λ (k : List ℕ). All (λ (s : Snippet). IsText (slice s.span k)) m.snippets) (sym u.kept_is) (by plain h.unit.snippets refl u.notes) in
     plain_append (cond starts (10 ∷ []) []) (text ++ (translation ++ (codes "(" ++ (bars ++ codes ")")))) (start_plain starts)
     (plain_append text (translation ++ (codes "(" ++ (bars ++ codes ")"))) (subst (λ (k : List ℕ). IsText (canonical_text m.text k)) (sym u.kept_is) (text_plain spanned u.whole plain m.text.centre 0 [] m.text.pieces _ u.stands.pieces))
     (plain_append translation (codes "(" ++ (bars ++ codes ")")) (subst (λ (k : List ℕ). IsText (translation_text k m.text.translation)) (sym u.kept_is) (translation_plain spanned u.whole plain m.text.translation _ u.stands.translation))
     (plain_append (codes "(") (bars ++ codes ")") (low_text (codes "(") refl) (plain_append bars (codes ")") (bars_plain m.kept m.snippets snippets) (low_text (codes ")") refl)))))
   where
-    u : HoldsUnit lines h.unit m
-    u = h.holds
-
-    text : List ℕ
-    text = canonical_text m.text m.kept
-
-    translation : List ℕ
-    translation = translation_text m.kept m.text.translation
-
-    bars : List ℕ
-    bars = with_bars m.kept m.snippets
-
-    plain : All IsTextCharacter u.whole
-    plain = characters_of u.whole (subst IsText u.kept_is kept)
-
-    by : (xss : List (List Char)) → h.unit.snippets ≡ xss → NotesAre lines h.unit xss u.whole m.snippets → All (λ (s : Snippet). IsText (slice s.span (encode_utf8_all u.whole))) m.snippets
-    by [] e n = absurd (h.noted e)
-    by (xs ∷ xss) e n =
+    by : All IsTextCharacter h.holds.whole → (xss : List (List Char)) → h.unit.snippets ≡ xss → NotesAre lines h.unit xss h.holds.whole m.snippets → All (λ (s : Snippet). IsText (slice s.span (encode_utf8_all h.holds.whole))) m.snippets
+    by plain [] e n = absurd (h.noted e)
+    by plain (xs ∷ xss) e n =
         let k = n.holds in
-        subst (All (λ (s : Snippet). IsText (slice s.span (encode_utf8_all u.whole)))) (sym k.snippets_are) (snippets_plain spanned u.whole plain [] (k.earlier ++ k.last ∷ []) (λ a b s e. (k.each a b s e).stands))
-
-    snippets : All (λ (s : Snippet). IsText (slice s.span m.kept)) m.snippets
-    snippets = subst (λ (k : List ℕ). All (λ (s : Snippet). IsText (slice s.span k)) m.snippets) (sym u.kept_is) (by h.unit.snippets refl u.notes)
+        subst (All (λ (s : Snippet). IsText (slice s.span (encode_utf8_all h.holds.whole)))) (sym k.snippets_are) (snippets_plain spanned h.holds.whole plain [] (k.earlier ++ k.last ∷ []) (λ a b s e. (k.each a b s e).stands))

@@ -1,5 +1,5 @@
 -- Where no limit is passed, the syllables are within the limits, and where they are, none is passed.
-use Rattle.std.proofs.Common.{◌≡◌, ℕ, ◌+◌, ◌≤◌, ◌||◌, ◌&&◌, not, nat_lt, List, [], ◌∷◌, ◌++◌, length, map, take, Bool, true, false, cond, Some, None, sum_by, refl, sym, ap, subst, ◌∙◌, arith, length-append}
+use Rattle.std.proofs.Common.{◌≡◌, ℕ, ◌+◌, ◌≤◌, ◌||◌, ◌&&◌, not, nat_lt, List, [], ◌∷◌, ◌++◌, length, map, Bool, true, false, cond, Some, None, sum_by, refl, sym, ap, subst, ◌∙◌, arith, length-append}
 use Rattle.std.specs.List.{All, list_any, flat_map}
 use Rattle.std.proofs.lemmas.Bool.Decides.{nat_tests}
 use Rattle.std.proofs.lemmas.List.Elements.{All-nil, All-cons, All-head, All-tail, All-map, All-take, All-weaker}
@@ -57,8 +57,6 @@ module _ (limits : Limits) (head : ℕ) (made : List UnplacedSyllable) (kept : L
   by_none h = by (is_over limits.syllable made kept) (is_full limits.input head made) refl refl h
     where
       by : (a b : Bool) → is_over limits.syllable made kept ≡ a → is_full limits.input head made ≡ b → cond a (Some F5) (cond b (Some F7) None) ≡ None → PassNone limits head made kept
-      by true b e f k = absurd (cc)
-      by false true e f k = absurd (cc)
       by false false e f k =
           let rest = (or_parts (is_longer limits.syllable kept) (kept_over || canonical_over) e).1 in
           record {
@@ -69,6 +67,7 @@ module _ (limits : Limits) (head : ℕ) (made : List UnplacedSyllable) (kept : L
                 (short_is limits.syllable) (is_short limits.syllable) (canonicals true made) (or_parts kept_over canonical_over rest).1;
             file = λ some. let g : nat_lt limits.input (head + canonical_bytes made + 1) ≡ false = ap (λ n. not n && nat_lt limits.input (head + canonical_bytes made + 1)) (sym some) ∙ f in grind (arith, nat_tests);
           }
+      by _ _ e f k = absurd (cc)
 
   pub none_by : PassNone limits head made kept → code_by limits head made kept ≡ None
   none_by p =
@@ -77,14 +76,9 @@ module _ (limits : Limits) (head : ℕ) (made : List UnplacedSyllable) (kept : L
       ∙ ap (λ b. b || canonical_over) (none_by_all (λ (m : UnplacedSyllable). length m.kept ≤ limits.syllable) (λ (m : UnplacedSyllable). is_longer limits.syllable m.kept)
       (λ m. short_is limits.syllable m.kept) (λ m. is_short limits.syllable m.kept) made p.kept_texts)
       ∙ none_by_all (λ (t : List ℕ). length t ≤ limits.syllable) (λ t. is_longer limits.syllable t) (short_is limits.syllable) (is_short limits.syllable) (canonicals true made) p.canonical_texts in
+      let full : is_full limits.input head made ≡ false = grind (arith, nat_tests, p.file) in
       ap (λ b. cond b (Some F5) (cond (is_full limits.input head made) (Some F7) None)) over
-      ∙ ap (λ b. cond b (Some F7) None) (full (is_none made) refl)
-    where
-      full : (b : Bool) → is_none made ≡ b → is_full limits.input head made ≡ false
-      full true e = ap (λ n. not n && nat_lt limits.input (head + canonical_bytes made + 1)) e
-      full false e =
-          let k = p.file e in
-          ap (λ n. not n && nat_lt limits.input (head + canonical_bytes made + 1)) e ∙ (let g : nat_lt limits.input (head + canonical_bytes made + 1) ≡ false = grind (arith, nat_tests) in g)
+      ∙ ap (λ b. cond b (Some F7) None) full
 
 -- ---- syllables in their places
 
@@ -127,27 +121,11 @@ bytes_placed first (m ∷ ms) =
 
 -- where no limit is passed, the syllables are within the limits, if the headers are
 pub within_by : (limits : Limits) (head : ℕ) (made : List UnplacedSyllable) (kept : List ℕ) → head + 1 ≤ limits.input → PassNone limits head made kept → AreWithin limits head (with_positions made)
-within_by limits head made kept short p = record {
-  kept_texts = kept_placed limits.syllable true made p.kept_texts;
-  canonical = record {
-    texts = canonical_placed limits.syllable true made p.canonical_texts;
-    file = let size : length (flat_map canonical_in_place (with_positions made)) ≡ canonical_bytes made = bytes_placed true made in
-        (let small : head + canonical_bytes made + 1 ≤ limits.input = file_short made p.file in omega arith);
-  };
-}
-  where
-    file_short : (ms : List UnplacedSyllable) → (is_none ms ≡ false → head + canonical_bytes ms + 1 ≤ limits.input) → head + canonical_bytes ms + 1 ≤ limits.input
-    file_short [] h = omega arith
-    file_short (m ∷ ms) h = h refl
+within_by limits head made kept short p = grind (arith, kept_placed, canonical_placed, bytes_placed)
 
 -- and the other way round, where what is being read is no longer either
 pub by_within : (limits : Limits) (head : ℕ) (made : List UnplacedSyllable) (kept : List ℕ) → length kept ≤ limits.syllable → AllKeptShort limits.syllable made → CanonicalWithin limits head (with_positions made) → PassNone limits head made kept
-by_within limits head made kept now texts w = record {
-  kept_now = now;
-  kept_texts = texts;
-  canonical_texts = placed_canonical limits.syllable true made w.texts;
-  file = λ some. let size : length (flat_map canonical_in_place (with_positions made)) ≡ canonical_bytes made = bytes_placed true made in omega (arith, w.file);
-}
+by_within limits head made kept now texts w = grind (arith, placed_canonical, bytes_placed)
 
 -- ---- a prefix of the syllables
 
@@ -155,10 +133,8 @@ sums_prefix : (first : Bool) (ms more : List UnplacedSyllable) → sum_by (λ (t
 sums_prefix first [] more = omega arith
 sums_prefix first (m ∷ ms) more =
     let starts : Bool = first || m.text.word_start in
-    let h : sum_by (λ (t : List ℕ). length t) (canonicals false ms) ≤ sum_by (λ (t : List ℕ). length t) (canonicals false (ms ++ more)) = sums_prefix false ms more in
-    let a : sum_by (λ (t : List ℕ). length t) (canonicals first (m ∷ ms)) ≡ length (canonical starts m) + sum_by (λ (t : List ℕ). length t) (canonicals false ms) = sum_by-cons (λ (t : List ℕ). length t) (canonical starts m) (canonicals false ms) in
     let b : sum_by (λ (t : List ℕ). length t) (canonicals first (m ∷ (ms ++ more))) ≡ length (canonical starts m) + sum_by (λ (t : List ℕ). length t) (canonicals false (ms ++ more)) = sum_by-cons (λ (t : List ℕ). length t) (canonical starts m) (canonicals false (ms ++ more)) in
-    omega arith
+    omega (arith, sums_prefix false ms more, sum_by-cons (λ (t : List ℕ). length t) (canonical starts m) (canonicals false ms))
 
 canonicals_prefix : (limit : ℕ) (first : Bool) (ms more : List UnplacedSyllable) → AllShort limit (canonicals first (ms ++ more)) → AllShort limit (canonicals first ms)
 canonicals_prefix limit first [] more h = All-nil (λ (t : List ℕ). length t ≤ limit)
@@ -172,8 +148,7 @@ kept_prefix : (limit : ℕ) (ms more : List UnplacedSyllable) → AllKeptShort l
 kept_prefix limit ms more h = subst (AllKeptShort limit) (take-append_seam ms more) (All-take (λ (m : UnplacedSyllable). length m.kept ≤ limit) (length ms) (ms ++ more) h)
 
 some_more : (ms more : List UnplacedSyllable) → is_none ms ≡ false → is_none (ms ++ more) ≡ false
-some_more [] more h = absurd (cc)
-some_more (m ∷ ms) more h = refl
+some_more ms more h = grind arith
 
 pub pass_none_before : (limits : Limits) (head : ℕ) (ms more : List UnplacedSyllable) (kept now : List ℕ) → length now ≤ limits.syllable → PassNone limits head (ms ++ more) kept → PassNone limits head ms now
 pass_none_before limits head ms more kept now short p = record {

@@ -1,5 +1,5 @@
 -- The syllables of a score are within the limits, and so is its canonical file.
-use Rattle.std.proofs.Common.{◌≡◌, ℕ, zero, suc, ◌+◌, ◌≤◌, ◌<◌, List, [], length, Option, Some, None, Result, Ok, Err, ◌⊎◌, inl, inr, refl, ap, subst, ◌∙◌, arith}
+use Rattle.std.proofs.Common.{◌≡◌, ℕ, ◌+◌, ◌≤◌, List, [], length, Option, Some, None, Result, Ok, Err, inl, inr, refl, ap, subst, ◌∙◌}
 use Rattle.gabc_places.specs.Place.{place_after}
 use Rattle.gabc_places.specs.declared.code.Code.{Code}
 use Rattle.gabc_places.specs.declared.code.Finding.{Finding}
@@ -16,11 +16,10 @@ use Rattle.gabc_headers.specs.Heads.{heads_of}
 use Rattle.gabc_text.specs.Ends.{EndsOnce}
 use Rattle.gabc_score.specs.declared.events.BodyEvent.{BodyEvent}
 use Rattle.gabc_score.specs.declared.ending.InputEnding.{InputEnding}
-use Rattle.gabc_score.specs.declared.ending.InputEnding.TheVariants.{Whole, Broken, At}
+use Rattle.gabc_score.specs.declared.ending.InputEnding.TheVariants.{Whole}
 use Rattle.gabc_score.specs.Body.{events_onto, code_by, code_at, events_to_stop, cut_of, all_units, fault_of_end, result_by_fault, result_by}
 use Rattle.gabc_score.specs.Canonical.{with_positions}
 use Rattle.gabc_score.specs.Events.{InComment, texts_by_definition, body_events}
-use Rattle.gabc_score.specs.Stops.{events_in_points, StopsAt, NeverStops}
 use Rattle.gabc_score.specs.Syllable.{all_syllables, since_close, kept_of}
 use Rattle.gabc_score.specs.SyllablesOfUnits.{body_characters}
 use Rattle.gabc_score.specs.WithinLimits.{AreWithin}
@@ -28,7 +27,7 @@ use Rattle.gabc_score.proofs.score_events.PlainScores.{plain_by, plain_of}
 use Rattle.gabc_score.proofs.texts_of_body.SeamsOfCharacters.{size, size_is_sum}
 use Rattle.gabc_score.proofs.building.StopIsFirst.{stop_is_first}
 use Rattle.gabc_score.proofs.building.OneListEachCharacter.{events_each}
-use Rattle.gabc_score.proofs.stopped_scores.NothingIsKeptAtTheEnd.{none_at_first}
+use Rattle.gabc_score.proofs.stopped_scores.NothingIsKeptAtTheEnd.{none_before}
 use Rattle.gabc_score.proofs.within_limits.CodesOfLimits.{by_none, within_by}
 
 module _ (limits : Limits) (head : ℕ) (short : head + 1 ≤ limits.input) where
@@ -40,8 +39,6 @@ module _ (limits : Limits) (head : ℕ) (short : head + 1 ≤ limits.input) wher
   module _ (found : List Finding) (at : Place) (before : List BodyEvent) (none : code_at limits head before ≡ None) where
     end_is_within : (ending : InputEnding) (last : List BodyEvent) (fault : Option Fault) → AreWithin limits head (result_by limits head found at ending before last fault).syllables
     end_is_within ending last (Some fault) = made_are_within before none
-    end_is_within Broken last None = made_are_within before none
-    end_is_within (At fault) last None = made_are_within before none
     end_is_within Whole last None =
         let all = events_onto last before in
         by (cut_of all) (code_by limits head (all_units all) (kept_of (since_close all))) refl
@@ -53,22 +50,18 @@ module _ (limits : Limits) (head : ℕ) (short : head + 1 ≤ limits.input) wher
         by None None e =
             let all = events_onto last before in
             rw e (within_by limits head (all_units all) (kept_of (since_close all)) short (by_none limits head (all_units all) (kept_of (since_close all)) e))
+    end_is_within _ last None = made_are_within before none
 
 -- before a stop no limit is passed
 module _ (ends : (at : Place) (t : List ℕ) → EndsOnce at t) (lines macros : ℕ) (limits : Limits) (head : ℕ) (xs : List Char) where
   abbrev lists : List (List BodyEvent)
   lists = body_events lines macros xs
 
-  none_so_far : (n : ℕ) → ((k : ℕ) → k < n → code_at limits head (events_in_points [] lists (suc k)) ≡ None) → code_at limits head (events_in_points [] lists n) ≡ None
-  none_so_far zero h = none_at_first ends lines macros limits head
-  none_so_far (suc n) h = h n (omega arith)
-
   none_before_stop : code_at limits head (events_to_stop limits head [] xs lists).before ≡ None
-  none_before_stop = by (stop_is_first limits head [] xs lists (events_each texts_by_definition lines macros InComment xs))
-    where
-      by : (let r = events_to_stop limits head [] xs lists in NeverStops limits head [] xs lists r ⊎ StopsAt limits head [] xs lists r) → code_at limits head (events_to_stop limits head [] xs lists).before ≡ None
-      by (inl s) = ap (code_at limits head) s.before ∙ none_so_far (length xs) s.none
-      by (inr s) = ap (code_at limits head) s.before ∙ none_so_far (length s.prefix) s.none_earlier
+  none_before_stop = elim (stop_is_first limits head [] xs lists (events_each texts_by_definition lines macros InComment xs)) [
+    | inl s ↦ ap (code_at limits head) s.before ∙ none_before ends lines macros limits head (length xs) lists s.none
+    | inr s ↦ ap (code_at limits head) s.before ∙ none_before ends lines macros limits head (length s.prefix) lists s.none_earlier
+  ]
 
 module _ (ends : (at : Place) (t : List ℕ) → EndsOnce at t)
     (heads_short : (limits : Limits) (t : List ℕ) (heads : Heads) → heads_of limits t ≡ Ok heads → (bytes_len (header_lines heads.book) ≤ limits.header) × (bytes_len (canonical_heads heads.book) + 1 ≤ limits.input))

@@ -1,8 +1,7 @@
 -- Larger limits change nothing where neither the headers nor a syllable were too long.
-use Rattle.std.proofs.Common.{◌≡◌, ℕ, ◌≤◌, ◌||◌, List, [], ◌∷◌, Bool, true, false, cond, option_map, Option, Some, None, Result, Ok, Err, refl, sym, ap, ◌∙◌, arith}
+use Rattle.std.proofs.Common.{◌≡◌, ℕ, ◌≤◌, ◌||◌, List, [], ◌∷◌, Bool, true, false, option_map, Option, Some, None, Result, Err, refl, ap, ◌∙◌, arith}
 use Rattle.std.specs.List.{list_any}
 use Rattle.gabc_places.specs.declared.code.Code.{Code}
-use Rattle.gabc_places.specs.declared.code.Code.TheVariants.{F5, F7}
 use Rattle.gabc_places.specs.declared.code.Fault.{Fault}
 use Rattle.gabc_places.specs.declared.code.Finding.{Finding}
 use Rattle.gabc_places.specs.declared.limits.Limits.{Limits}
@@ -14,11 +13,9 @@ use Rattle.gabc_headers.specs.declared.heads.HeadFault.{HeadFault}
 use Rattle.gabc_headers.specs.Heads.{heads_of}
 use Rattle.gabc_headers.specs.TooLong.{is_too_long, is_stopped_too_long}
 use Rattle.gabc_score.specs.declared.ending.InputEnding.{InputEnding}
-use Rattle.gabc_score.specs.declared.ending.InputEnding.TheVariants.{Whole, Broken, At}
 use Rattle.gabc_score.specs.declared.events.BodyEvent.{BodyEvent}
-use Rattle.gabc_score.specs.Body.{is_longer, is_over, is_full, code_by, code_at, events_onto, fault_at, stopped_events, events_to_stop, cut_of, all_units, fault_of_end, result_by_fault, result_at_end, result_by, body_of}
-use Rattle.gabc_score.specs.Canonical.{canonicals}
-use Rattle.gabc_score.specs.Score.{with_body, head_fault_by, score_by, score_of}
+use Rattle.gabc_score.specs.Body.{is_longer, is_over, code_by, code_at, events_onto, fault_at, stopped_events, events_to_stop, fault_of_end, result_by_fault, result_at_end, body_of}
+use Rattle.gabc_score.specs.Score.{head_fault_by, score_by, score_of}
 use Rattle.gabc_score.specs.Syllable.{UnplacedSyllable, since_close, kept_of, all_syllables}
 use Rattle.gabc_score.proofs.within_limits.CodesOfLimits.{short_is, is_short}
 
@@ -30,8 +27,7 @@ shorter_still small large h bytes e = let short = short_is small bytes e in is_s
 
 -- a disjunction that fails still fails where each part that failed does
 or_still : (a b c d : Bool) → (a ≡ false → c ≡ false) → (b ≡ false → d ≡ false) → (a || b) ≡ false → (c || d) ≡ false
-or_still true b c d f g h = absurd (cc)
-or_still false b c d f g h = ap (λ x. x || d) (f refl) ∙ g h
+or_still a b c d f g h = grind arith
 
 -- where no element passes a test, none passes another one that fails wherever the first fails
 none_still : {X : Type 0} (test other : X → Bool) → ((x : X) → test x ≡ false → other x ≡ false) → (xs : List X) → list_any test xs ≡ false → list_any other xs ≡ false
@@ -40,11 +36,7 @@ none_still test other f (x ∷ xs) h = or_still (test x) (list_any test xs) (oth
 
 -- what is not over a limit is not over a larger one
 within_still : (small large : ℕ) → small ≤ large → (made : List UnplacedSyllable) (kept : List ℕ) → is_over small made kept ≡ false → is_over large made kept ≡ false
-within_still small large h made kept =
-    or_still (is_longer small kept) _ (is_longer large kept) _ (shorter_still small large h kept)
-    (or_still (list_any (λ (m : UnplacedSyllable). is_longer small m.kept) made) _ (list_any (λ (m : UnplacedSyllable). is_longer large m.kept) made) _
-    (none_still (λ (m : UnplacedSyllable). is_longer small m.kept) (λ (m : UnplacedSyllable). is_longer large m.kept) (λ m. shorter_still small large h m.kept) made)
-    (none_still (λ text. is_longer small text) (λ text. is_longer large text) (shorter_still small large h) (canonicals true made)))
+within_still small large h made kept = grind (arith, or_still, shorter_still, none_still)
 
 -- ---- bodies
 
@@ -52,13 +44,7 @@ module _ (limits larger : Limits) (less : AreNoLess limits larger) (input : limi
   -- which limit is passed, unless a syllable is too long
   code_still : (place : Place) (made : List UnplacedSyllable) (kept : List ℕ) (o : Option Code) → code_by limits head made kept ≡ o
       → is_stopped_too_long (option_map (fault_at place) o) ≡ false → code_by larger head made kept ≡ o
-  code_still place made kept o e h = by (is_over limits.syllable made kept) refl e
-    where
-      by : (b : Bool) → is_over limits.syllable made kept ≡ b → cond b (Some F5) (cond (is_full limits.input head made) (Some F7) None) ≡ o → code_by larger head made kept ≡ o
-      by true f k = absurd (let g : true ≡ false = ap (λ c. is_stopped_too_long (option_map (fault_at place) c)) k ∙ h in cc)
-      by false f k =
-          ap (λ b. cond b (Some F5) (cond (is_full larger.input head made) (Some F7) None)) (within_still limits.syllable larger.syllable less.syllable made kept f)
-          ∙ ap (λ n. cond (is_full n head made) (Some F7) None) (sym input) ∙ k
+  code_still place made kept o e h = grind (arith, within_still)
 
   -- what was emitted before the stop, and the stop
   events_still : (before : List BodyEvent) (xs : List Char) (lists : List (List BodyEvent)) → is_stopped_too_long (events_to_stop limits head before xs lists).fault ≡ false
@@ -84,39 +70,21 @@ module _ (limits larger : Limits) (less : AreNoLess limits larger) (input : limi
     -- the fault of the end
     end_still : (all : List BodyEvent) (cut : Option Place) → is_stopped_too_long (fault_of_end limits head at all cut) ≡ false
         → fault_of_end larger head at all cut ≡ fault_of_end limits head at all cut
-    end_still all (Some place) h = refl
-    end_still all None h = ap (option_map (fault_at at)) (code_still at (all_units all) (kept_of (since_close all)) (code_by limits head (all_units all) (kept_of (since_close all))) refl h)
+    end_still all cut h = grind (arith, code_still)
 
     -- the fault of a whole body is that of its end
     fault_is : (before all : List BodyEvent) (o : Option Fault) → (result_by_fault found at before all o).fault ≡ o
-    fault_is before all None = refl
-    fault_is before all (Some fault) = refl
+    fault_is before all o = grind arith
 
     -- what a body says that nothing stops before its end
     result_still : (ending : InputEnding) (before all : List BodyEvent) → is_stopped_too_long (result_at_end limits head found at ending before all).fault ≡ false
         → result_at_end larger head found at ending before all ≡ result_at_end limits head found at ending before all
-    result_still Whole before all h =
-        ap (result_by_fault found at before all) (end_still all (cut_of all) (ap is_stopped_too_long (sym (fault_is before all (fault_of_end limits head at all (cut_of all)))) ∙ h))
-    result_still Broken before all h = refl
-    result_still (At fault) before all h = refl
+    result_still ending before all h = grind (arith, end_still, fault_is)
 
     -- what a body says
     body_still : (ending : InputEnding) (xs : List Char) (lists : List (List BodyEvent)) → is_stopped_too_long (body_of limits head found at ending xs lists).fault ≡ false
         → body_of larger head found at ending xs lists ≡ body_of limits head found at ending xs lists
-    body_still ending xs lists h = by (events_to_stop limits head [] xs lists).fault refl h
-      where
-        by : (o : Option Fault) → (events_to_stop limits head [] xs lists).fault ≡ o
-            → (let r = events_to_stop limits head [] xs lists in is_stopped_too_long (result_by limits head found at ending r.before r.last o).fault ≡ false
-            → body_of larger head found at ending xs lists ≡ result_by limits head found at ending r.before r.last o)
-        by (Some fault) e k =
-            let r = events_to_stop limits head [] xs lists in
-            ap (λ s. result_by larger head found at ending s.before s.last s.fault) (events_still [] xs lists (ap is_stopped_too_long e ∙ k))
-            ∙ ap (result_by larger head found at ending r.before r.last) e
-        by None e k =
-            let r = events_to_stop limits head [] xs lists in
-            ap (λ s. result_by larger head found at ending s.before s.last s.fault) (events_still [] xs lists (ap is_stopped_too_long e))
-            ∙ ap (result_by larger head found at ending r.before r.last) e
-            ∙ result_still ending r.before (events_onto r.last r.before) k
+    body_still ending xs lists h = grind (arith, events_still, result_still)
 
 -- ---- the score
 
@@ -126,18 +94,11 @@ module _ (same : (limits larger : Limits) (t : List ℕ) → AreNoLess limits la
     (limits larger : Limits) (ending : InputEnding) (t : List ℕ) (less : AreNoLess limits larger) (input : limits.input ≡ larger.input) where
   -- headers that are too long are so before the end, so that the score reports it
   told : (stop : HeadFault) → heads_of limits t ≡ Err stop → is_stopped_too_long (head_fault_by ending stop.at_end stop.fault) ≡ false → is_too_long stop.fault.code ≡ false
-  told stop e h = by (is_too_long stop.fault.code) refl
-    where
-      by : (b : Bool) → is_too_long stop.fault.code ≡ b → is_too_long stop.fault.code ≡ false
-      by true f = ap (λ b. is_stopped_too_long (head_fault_by ending b stop.fault)) (sym (inside limits t stop e f)) ∙ h
-      by false f = f
+  told stop e h = grind arith
 
   -- what a text says as a score, where its headers are these
   by_heads : (r : Result Heads HeadFault) → heads_of limits t ≡ r → is_stopped_too_long (score_by limits ending t r).fault ≡ false → score_of larger ending t ≡ score_by limits ending t r
-  by_heads (Ok heads) e h =
-      ap (score_by larger ending t) (same limits larger t less input (λ stop f. absurd (cc)) ∙ e)
-      ∙ ap (with_body heads) (body_still limits larger less input _ heads.findings _ ending _ _ h)
-  by_heads (Err stop) e h = ap (score_by larger ending t) (same limits larger t less input (λ other f. let g : stop ≡ other = cc in ap (λ (s : HeadFault). is_too_long s.fault.code) (sym g) ∙ told stop e h) ∙ e)
+  by_heads r e h = grind (arith, body_still, told)
 
   -- the score, unless the headers or a syllable are too long
   pub score_still : is_stopped_too_long (score_of limits ending t).fault ≡ false → score_of larger ending t ≡ score_of limits ending t

@@ -1,7 +1,6 @@
 -- No limit is passed in a body whose units keep no more, and whose syllables are within the limits.
-use Rattle.std.proofs.Common.{◌≡◌, ℕ, suc, ◌≤◌, ◌<◌, ◌^◌, List, [], ◌∷◌, ◌++◌, length, take, drop, Bool, true, false, cond, option_map, Some, None, Result, Ok, Err, ◌⊎◌, inl, inr, refl, sym, ap, subst, ◌∙◌, arith, append_assoc, append-nil, take-append-drop}
+use Rattle.std.proofs.Common.{◌≡◌, ℕ, suc, ◌≤◌, ◌<◌, ◌^◌, List, [], ◌∷◌, ◌++◌, length, take, drop, option_map, Some, None, Result, Ok, Err, inl, inr, refl, sym, ap, subst, ◌∙◌, arith, append_assoc, take-append-drop}
 use Rattle.std.specs.List.{All}
-use Rattle.std.proofs.lemmas.List.Elements.{All-push}
 use lib.Utf8.{encode}
 use Rattle.gabc_places.proofs.PushesAreOne.{joined-append}
 use Rattle.gabc_places.specs.StageLaw.{concat_of}
@@ -15,7 +14,6 @@ use Rattle.gabc_headers.specs.declared.heads.HeadFault.{HeadFault}
 use Rattle.gabc_headers.specs.Book.{nabc_lines_of, macros_of}
 use Rattle.gabc_headers.specs.Canonical.{canonical_heads}
 use Rattle.gabc_headers.specs.Lines.{bytes_len}
-use Rattle.gabc_headers.specs.Heads.{heads_of}
 use Rattle.gabc_text.specs.BuiltText.{with_events, empty_text, text_built_at}
 use Rattle.gabc_text.specs.Ends.{EndsOnce}
 use Rattle.gabc_text.specs.Events.{codes_of, events_of, events_by_point}
@@ -27,7 +25,7 @@ use Rattle.gabc_score.specs.declared.ending.InputEnding.TheVariants.{Whole}
 use Rattle.gabc_score.specs.Body.{events_onto, code_at, events_to_stop, cut_of, has_last, last_syllable, all_units, fault_at, fault_of_end, result_by_fault, result_by}
 use Rattle.gabc_score.specs.Canonical.{with_positions}
 use Rattle.gabc_score.specs.Events.{InComment, InText, texts_by_definition, text_from, body_events}
-use Rattle.gabc_score.specs.Stops.{events_in_points, StopsAt, NeverStops}
+use Rattle.gabc_score.specs.Stops.{events_in_points}
 use Rattle.gabc_score.specs.Syllable.{UnplacedSyllable, PlacedSyllable, all_syllables, since_close, kept_of}
 use Rattle.gabc_score.specs.SyllablesOfUnits.{closed_units, score_units, AreSyllablesOf, body_characters, IsBodyCut}
 use Rattle.gabc_score.specs.Units.{BodyUnit, JustText, Units, BodyCutting, whole, events_through, units_pieces, cutting_of, Endless, Cuts, IsCutFrom, IsCut, events_of_parts}
@@ -37,7 +35,7 @@ use Rattle.gabc_score.proofs.score_events.PlainScores.{plain_by, plain_of}
 use Rattle.gabc_score.proofs.texts_of_body.SeamsOfCharacters.{size, size_is_sum}
 use Rattle.gabc_score.proofs.texts_of_body.TextEmitsThroughEnd.{endless_emits}
 use Rattle.gabc_score.proofs.building.EventsOfSyllableParts.{onto_append}
-use Rattle.gabc_score.proofs.building.EventsOfOnePoint.{made_after}
+use Rattle.gabc_score.proofs.building.EventsOfOnePoint.{pushed_more, made_after}
 use Rattle.gabc_score.proofs.building.StopIsFirst.{stop_is_first}
 use Rattle.gabc_score.proofs.building.OneListEachCharacter.{events_each}
 use Rattle.gabc_score.proofs.order.FindingsOfScore.{reached_prefix}
@@ -46,7 +44,7 @@ use Rattle.gabc_score.proofs.holding.SyllablesHoldParts.{fits_back}
 use Rattle.gabc_score.proofs.holding.ScoreHoldsParts.{after_short}
 use Rattle.gabc_score.proofs.syllables_of_units.UnitsGiveSyllables.{all_events, units_give}
 use Rattle.gabc_score.proofs.syllables_of_units.SyllablesAreThoseOfUnits.{body_all, body_emits, placed_are}
-use Rattle.gabc_score.proofs.within_limits.KeptSoFar.{all_kept, StaysWithin, stays_on, stays_before, kept_within, made_within}
+use Rattle.gabc_score.proofs.within_limits.KeptSoFar.{all_pushed, all_kept, StaysWithin, stays_on, stays_before, kept_within, made_within}
 use Rattle.gabc_score.proofs.within_limits.CodesOfLimits.{AllKeptShort, PassNone, none_by, by_within, pass_none_before}
 use Rattle.gabc_score.proofs.within_limits.UnitsKeepFew.{units_stay}
 
@@ -113,18 +111,11 @@ module _ (ends : (at : Place) (t : List ℕ) → EndsOnce at t) (emits : (at : P
   -- ---- the limits
 
   units_kept : (limit : ℕ) (all : List BodyEvent) → StaysWithin limit all → AllKeptShort limit (all_units all)
-  units_kept limit all h = by (has_last all)
-    where
-      by : (b : Bool) → AllKeptShort limit (cond b (all_syllables all ++ last_syllable all ∷ []) (all_syllables all))
-      by true = All-push (λ (m : UnplacedSyllable). length m.kept ≤ limit) (all_syllables all) (last_syllable all) (made_within limit all h) (kept_within limit all h)
-      by false = made_within limit all h
+  units_kept limit all h =
+      all_pushed (λ (m : UnplacedSyllable). length m.kept ≤ limit) (has_last all) (all_syllables all) (last_syllable all) (made_within limit all h) (kept_within limit all h)
 
   units_more : (before : List BodyEvent) → (more : List UnplacedSyllable) × (all_units before ≡ all_syllables before ++ more)
-  units_more before = by (has_last before)
-    where
-      by : (b : Bool) → (more : List UnplacedSyllable) × (cond b (all_syllables before ++ last_syllable before ∷ []) (all_syllables before) ≡ all_syllables before ++ more)
-      by true = (last_syllable before ∷ [], refl)
-      by false = ([], sym (append-nil (all_syllables before)))
+  units_more before = pushed_more (has_last before) (all_syllables before) (last_syllable before)
 
   module _ (limits : Limits) (head : ℕ) (xs : List Char) (cut : BodyCutting) (h : IsCut texts_by_definition lines macros xs cut) (fits : size (codes_of xs) < 2 ^ 63)
       (within : (syllables : List PlacedSyllable) → AreSyllablesOf lines (score_units cut.units) syllables → CanonicalWithin limits head syllables)
@@ -156,12 +147,10 @@ module _ (ends : (at : Place) (t : List ℕ) → EndsOnce at t) (emits : (at : P
         (subst (λ ms. PassNone limits head ms (kept_of (since_close all))) units_are pass_none))
 
     never_stops : (events_to_stop limits head [] xs (body_events lines macros xs)).fault ≡ None
-    never_stops = by (stop_is_first limits head [] xs (body_events lines macros xs) (events_each texts_by_definition lines macros InComment xs))
-      where
-        by : (let lists = body_events lines macros xs in let r = events_to_stop limits head [] xs lists in NeverStops limits head [] xs lists r ⊎ StopsAt limits head [] xs lists r)
-            → (events_to_stop limits head [] xs (body_events lines macros xs)).fault ≡ None
-        by (inl s) = s.fault
-        by (inr s) = absurd (let e = sym (none_at (suc (length s.prefix))) ∙ s.passed in cc)
+    never_stops = elim (stop_is_first limits head [] xs (body_events lines macros xs) (events_each texts_by_definition lines macros InComment xs)) [
+      | inl s ↦ s.fault
+      | inr s ↦ absurd (cc (sym (none_at (suc (length s.prefix))) ∙ s.passed))
+    ]
 
     no_fault : (found : List Finding) (at : Place) → (let r = events_to_stop limits head [] xs (body_events lines macros xs) in (result_by limits head found at Whole r.before r.last r.fault).fault ≡ None)
     no_fault found at =
@@ -198,5 +187,4 @@ module _ (ends : (at : Place) (t : List ℕ) → EndsOnce at t) (emits : (at : P
       → All (KeepsWithin limits.syllable) (closed_units units (JustText last))
       → ((syllables : List PlacedSyllable) → AreSyllablesOf (nabc_lines_of book) (score_units cut.units) syllables → CanonicalWithin limits (size (canonical_heads book)) syllables)
       → (plain_of limits Whole t).fault ≡ None
-  no_limit_is_passed b h e lf few within =
-      by_heads (heads_of limits t) b h e lf few (λ syllables k. subst (λ n. CanonicalWithin limits n syllables) (sym (size_is_sum (canonical_heads book))) (within syllables k))
+  no_limit_is_passed b h e lf few within = grind (arith, by_heads, size_is_sum)

@@ -3,7 +3,7 @@ use Rattle.std.proofs.Common.{◌≡◌, ℕ, ◌+◌, ◌<◌, ◌≤◌, ◌^�
 use Rattle.std.specs.List.{All}
 use Rattle.std.proofs.lemmas.List.Elements.{All-head, All-tail}
 use Rattle.std.proofs.lemmas.Str.{length-encode, len_utf8_bounds}
-use lib.Utf8.{encode, encodes}
+use lib.Utf8.{encode}
 use Rattle.gabc_places.specs.StageLaw.{concat_of}
 use Rattle.gabc_places.specs.declared.place.Place.{Place}
 use Rattle.gabc_places.specs.declared.place.Char.{Char}
@@ -16,7 +16,6 @@ use Rattle.gabc_text.specs.declared.text_event.TextEnd.TheVariants as text_end
 use Rattle.gabc_text.specs.declared.text_event.TextEvent.{TextEvent}
 use Rattle.gabc_text.specs.declared.text_event.TextEvent.TheVariants as text
 use Rattle.gabc_notes.specs.declared.stage.NoteEnd.{NoteEnd}
-use Rattle.gabc_notes.specs.declared.stage.NoteEnd.TheVariants as note_end
 use Rattle.gabc_notes.specs.declared.stage.NoteEvent.{NoteEvent}
 use Rattle.gabc_notes.specs.declared.stage.NoteEvent.TheVariants as note
 use Rattle.gabc_notes.specs.SnippetRead.{kept_of as kept_in_notes, ends_of}
@@ -35,51 +34,35 @@ use Rattle.gabc_score.proofs.building.EventsOfSyllableParts.{onto_append}
 use Rattle.gabc_score.proofs.holding.SyllablesHoldParts.{fits_prefix, fits_back}
 use Rattle.gabc_score.proofs.snippets_of_body.SnippetEmitsThroughEnd.{LineEmitted, line_emitted}
 use Rattle.gabc_score.proofs.syllables_of_units.UnitsGiveSyllables.{through_more, all_events, unit_whole, units_whole}
-use Rattle.gabc_score.proofs.within_limits.KeptSoFar.{bytes_kept, all_kept, kept_append, since_on, StaysWithin, stays_on}
+use Rattle.gabc_score.proofs.within_limits.KeptSoFar.{bytes_kept, all_kept, kept_append, since_on, text_end_keeps, StaysWithin, stays_on}
 
 -- ---- texts
 
 -- the events of a text keep what they gather
 text_keeps : (os : List TextEvent) (g : Gathered) → ends_in os ≡ [] → length g.kept + all_kept (text_events os) ≡ length (with_events g os).kept
 text_keeps [] g h = omega arith
-text_keeps (text.Kept x ∷ os) g h =
-    let on : length (g.kept ++ encode x.c) + all_kept (text_events os) ≡ length (with_events g (text.Kept x ∷ os)).kept = text_keeps os (with_event g (text.Kept x)) h in
-    let a : length (g.kept ++ encode x.c) ≡ length g.kept + length (encode x.c) = length-append g.kept (encode x.c) in
-    omega arith
-text_keeps (text.Part p ∷ os) g h = let on : length g.kept + all_kept (text_events os) ≡ length (with_events g (text.Part p ∷ os)).kept = text_keeps os (with_event g (text.Part p)) h in omega arith
-text_keeps (text.Found f ∷ os) g h = let on : length g.kept + all_kept (text_events os) ≡ length (with_events g (text.Found f ∷ os)).kept = text_keeps os (with_event g (text.Found f)) h in omega arith
+text_keeps (text.Kept x ∷ os) g h = omega (arith, text_keeps os (with_event g (text.Kept x)) h, length-append g.kept (encode x.c))
 text_keeps (text.Ended how ∷ os) g h = cc
-
-end_keeps : (how : TextEnd) → bytes_kept (Text (text.Ended how)) ≤ 1
-end_keeps text_end.Notes = omega arith
-end_keeps text_end.Finished = omega arith
-end_keeps (text_end.Cut place) = omega arith
+text_keeps (o ∷ os) g h = let on : length g.kept + all_kept (text_events os) ≡ length (with_events g (o ∷ os)).kept = text_keeps os (with_event g o) h in omega arith
 
 -- a text keeps its kept text, and its `(` if it has one
 pub text_few : (t : List ℕ) (how : TextEnd) (events : List BodyEvent) → TextEmitted t how events → all_kept events ≤ size (kept t) + 1
 text_few t how events e =
     let all : all_kept events ≡ all_kept (text_events e.mids) + all_kept (Text (text.Ended how) ∷ []) = ap all_kept e.emitted_are ∙ kept_append (text_events e.mids) (Text (text.Ended how) ∷ []) in
-    let mids : 0 + all_kept (text_events e.mids) ≡ length (with_events empty_text e.mids).kept = text_keeps e.mids empty_text e.silent in
     let kept_is : length (with_events empty_text e.mids).kept ≡ size (kept t) = ap length e.kept_is in
-    let last : bytes_kept (Text (text.Ended how)) ≤ 1 = end_keeps how in
-    omega arith
+    omega (arith, text_keeps e.mids empty_text e.silent, text_end_keeps how)
 
 -- ---- snippets
 
 -- the events of a snippet before its end keep what they say
 notes_keep : (line : ℕ) (opened : Place) (os : List NoteEvent) → ends_of os ≡ [] → all_kept (map (note_event line opened) os) ≡ size (kept_in_notes os)
 notes_keep line opened [] h = refl
-notes_keep line opened (note.Kept x ∷ os) h =
-    let on : all_kept (map (note_event line opened) os) ≡ size (kept_in_notes os) = notes_keep line opened os h in
-    let a : length (encode x.c ++ encodes (kept_in_notes os)) ≡ length (encode x.c) + size (kept_in_notes os) = length-append (encode x.c) (encodes (kept_in_notes os)) in
-    omega arith
+notes_keep line opened (note.Kept x ∷ os) h = grind (arith, notes_keep line opened os h, length-append)
 notes_keep line opened (note.Found f ∷ os) h = let on : all_kept (map (note_event line opened) os) ≡ size (kept_in_notes os) = notes_keep line opened os h in omega arith
 notes_keep line opened (note.Ended how n ∷ os) h = cc
 
 mark_keeps : (line n : ℕ) (how : NoteEnd) → bytes_kept (Notes line (note.Ended how n)) ≤ 1
-mark_keeps line n note_end.Next = omega arith
-mark_keeps line n note_end.Close = omega arith
-mark_keeps line n (note_end.Cut place) = omega arith
+mark_keeps line n how = grind arith
 
 -- a snippet keeps no more than its characters, and its mark
 pub line_few : (lines line : ℕ) (opened : Place) (prefix : List Char) (end : Char) (mark : Mark) (events : List BodyEvent) → LineEmitted lines line opened prefix end mark events
@@ -87,17 +70,11 @@ pub line_few : (lines line : ℕ) (opened : Place) (prefix : List Char) (end : C
 line_few lines line opened prefix end mark events l =
     let last = Notes line (note.Ended l.how (size l.kept)) in
     let all : all_kept events ≡ all_kept (map (note_event line opened) l.mids) + all_kept (last ∷ []) = ap all_kept l.emitted_are ∙ kept_append (map (note_event line opened) l.mids) (last ∷ []) in
-    let mids : all_kept (map (note_event line opened) l.mids) ≡ size (kept_in_notes l.mids) = notes_keep line opened l.mids l.silent in
-    let one : bytes_kept last ≤ 1 = mark_keeps line (size l.kept) l.how in
-    let few = l.few in
-    omega arith
+    omega (arith, notes_keep line opened l.mids l.silent, mark_keeps line (size l.kept) l.how)
 
 -- after a `)` nothing is kept
 closed_since : (lines line : ℕ) (opened : Place) (prefix : List Char) (end : Char) (events before : List BodyEvent) → LineEmitted lines line opened prefix end Closes events → since_close (events_onto events before) ≡ []
-closed_since lines line opened prefix end events before l =
-    ap (λ ts. since_close (events_onto ts before)) l.emitted_are
-    ∙ ap since_close (onto_append (map (note_event line opened) l.mids) (Notes line (note.Ended l.how (size l.kept)) ∷ []) before)
-    ∙ ap (λ how. since_close (Notes line (note.Ended how (size l.kept)) ∷ events_onto (map (note_event line opened) l.mids) before)) l.marks
+closed_since lines line opened prefix end events before l = grind (arith, onto_append)
 
 -- ---- units
 
@@ -106,11 +83,7 @@ one_byte c = omega (arith, length-encode c, (len_utf8_bounds c).0)
 
 -- the bytes of characters, of a part that ends at a character
 pub size_with_end : (xs : List Char) (x : Char) (ys : List Char) → size (codes_of xs) + 1 + size (codes_of ys) ≤ size (codes_of (xs ++ x ∷ ys))
-size_with_end xs x ys =
-    let all : size (codes_of (xs ++ x ∷ ys)) ≡ size (codes_of xs) + size (x.c ∷ codes_of ys) = ap size (codes_append xs (x ∷ ys)) ∙ size_append (codes_of xs) (x.c ∷ codes_of ys) in
-    let one : size (x.c ∷ codes_of ys) ≡ length (encode x.c) + size (codes_of ys) = length-append (encode x.c) (encodes (codes_of ys)) in
-    let some : 1 ≤ length (encode x.c) = one_byte x.c in
-    omega arith
+size_with_end xs x ys = grind (arith, codes_append, size_append, length-append, one_byte)
 
 -- after these parts the text goes on with `more`, and so far no more is kept than that
 record StaysOn (lines macros limit : ℕ) (all : List BodyEvent) (more : List CutPart) (last : List Char) (at : Place) : Type 0 where

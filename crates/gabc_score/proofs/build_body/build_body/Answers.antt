@@ -1,4 +1,4 @@
-use Rattle.std.proofs.Common.{ℕ, ◌-◌, ◌<◌, ◌≤◌, ◌^◌, [], None, length, ap, sym, ◌∙◌, arith}
+use Rattle.std.proofs.Common.{◌-◌, ◌^◌, [], length, ap, sym, ◌∙◌, arith}
 use Rattle.std.specs.Str.{chars}
 use Rattle.std.specs.Str.Iter.{chars_rest}
 use Rattle.std.proofs.lemmas.Str.{chars_past_char, IsUtf8-past_char, encodes-chars, length-le-encodes}
@@ -14,11 +14,9 @@ use Rattle.gabc_score.specs.ScoreStage.{events_of}
 use Rattle.gabc_score.specs.witness.ScoreStage.{left_of}
 use Rattle.gabc_score.specs.machine.Collected.{result_with, to_come}
 use Rattle.gabc_score.specs.machine.ScoreMachine.{shown}
-use Rattle.gabc_score.proofs.score_events.BodyIsCollected.{collects_on, counts_below, nothing_said, body_collected}
+use Rattle.gabc_score.proofs.score_events.BodyIsCollected.{collects_on, counts_below, body_collected}
 use Rattle.gabc_score.proofs.score_events.ScoreOutputs.{characters_are}
 use Rattle.gabc_score.proofs.building.OneListEachCharacter.{events_each}
-use Rattle.gabc_score.specs.witness.BodyStage.{running_events_left, texts_by_stage, part_with}
-use Rattle.gabc_score.specs.machine.ScoreStage.{begun_score, body_left}
 use Rattle.gabc_score.proofs.build_body.build_body.Goals as goal
 
 pub loop-c-preserved : goal.loop-c-preserved
@@ -49,30 +47,4 @@ loop-c-preserved c =
     }
 
 pub returns : goal.returns
-returns c =
-    let i = c.loop-c.invariant in
-    let rest = chars_rest c.loop-c.c-iterator in
-    let none = chars-none rest c.in-None.ensures.steps.0.0 in
-    let ending = c.args.ending in
-    let start = c.args.start in
-    let cs = chars c.args.body.now in
-    let xs = placed_characters_from start.at cs in
-    let ends = c.end_machine.ensures in
-    let emitted_now = ap (λ (r : BoundedList ScoreEvent). r.items) (ends.emitted.events ∙ ap (λ r. extended_by r (events_of ends.outputs)) i.room) in
-    let l = left_of (shown c.loop-c.machine) in
-    let small : c.args.limits.syllable < 2 ^ 64 - 1 = let r = c.args.limits.in_range.syllable_most in omega (arith, r) in
-    let low : c.args.limits.input < 2 ^ 64 - 1 = let r = c.args.limits.in_range in omega (arith, r) in
-    let few : length cs ≤ length c.args.body.now = let e = ap (length {A = ℕ}) (encodes-chars c.args.body.now c.utf8.body) in let k = length-le-encodes cs in omega (arith, e, k) in
-    let line = c.requires.line in
-    let column = c.requires.column in
-    let stage = c.args.stage in
-    c.in_ok-add_all-2.ensures.result_is ends.outputs emitted_now ends.emitted.lent
-    ∙ ap (result_with c.loop-c.result) (sym ends.law)
-    ∙ ap (λ cs. result_with c.loop-c.result (concat_of (l (to_come ending (placed_characters_from c.loop-c.place cs))))) (sym none)
-    ∙ i.result_is
-    ∙ ap (λ ss. result_with (record { syllables = ss; findings = start.findings; fault = None }) (concat_of (left_of (shown c.in_ok-machine.machine) (to_come ending xs)))) c.new.ensures
-    ∙ ap (λ lists. result_with (nothing_said start.findings) (concat_of lists)) (c.in_ok-machine.ensures.left (to_come ending xs))
-    ∙ ap (λ ys. result_with (nothing_said start.findings) (concat_of (body_left c.args.limits (begun_score c.args.limits start.at start.head) (running_events_left stage ys) (to_come ending xs)))) (characters_are ending xs)
-    ∙ body_collected c.args.limits small low start.head c.in_ok-machine.ensures.head start.findings ending start.at cs (running_events_left stage xs)
-    (events_each texts_by_stage stage.nabc_lines stage.macros (part_with stage.part xs) xs)
-    (counts_below ending start.at cs (omega (arith, line, few)) (omega (arith, column, few)))
+returns c = grind (arith, chars_rest, chars-none, encodes-chars, length-le-encodes, characters_are, body_collected, events_each, counts_below)

@@ -1,5 +1,4 @@
-use Rattle.std.proofs.Common.{◌≡◌, ◌≢◌, Bool, true, false, cond, List, [], ◌∷◌, Option, Some, refl, sym, ap, ◌∙◌}
-use Rattle.std.proofs.lemmas.Option.{same_Some}
+use Rattle.std.proofs.Common.{◌≡◌, ◌≢◌, true, List, [], ◌∷◌, Option, Some, sym, ap, ◌∙◌, arith}
 use Rattle.gabc_notes.specs.FirstNoteOrClef.{first_note_or_clef, is_note_or_clef}
 use Rattle.gabc_notes.specs.Items.{items_of}
 use Rattle.gabc_notes.specs.declared.item.Item.{Item}
@@ -10,16 +9,10 @@ use Rattle.gabc_score.proofs.first_sound.first_sound.Goals as goal
 -- the first is one of the two
 is_either : (items : List Item) (k : ItemKind) → first_note_or_clef items ≡ Some k → is_note_or_clef k ≡ true
 is_either [] k e = absurd (cc e)
-is_either (i ∷ items) k e = by (is_note_or_clef i.kind) refl (is_either items k) e
-  where
-    by : (b : Bool) → is_note_or_clef i.kind ≡ b → (first_note_or_clef items ≡ Some k → is_note_or_clef k ≡ true) → cond b (Some i.kind) (first_note_or_clef items) ≡ Some k → is_note_or_clef k ≡ true
-    by true f later g = ap is_note_or_clef (sym (same_Some i.kind k g)) ∙ f
-    by false f later g = later g
+is_either (i ∷ items) k e = grind (arith, is_either items k)
 
 is_clef : (k : ItemKind) → is_note_or_clef k ≡ true → k ≢ Note → k ≡ Clef
-is_clef Note e n = absurd (n refl)
-is_clef Clef e n = refl
-is_clef _ e n = absurd (cc e)
+is_clef k e n = grind arith
 
 clef_first : (items : List Item) (first : Option ItemKind) (k : ItemKind) → first ≡ first_note_or_clef items → first ≡ Some k → k ≢ Note → Some Clef ≡ first_note_or_clef items
 clef_first items first k e f n = ap (λ (k : ItemKind). Some k) (sym (is_clef k (is_either items k (sym e ∙ f)) n)) ∙ (sym f ∙ e)

@@ -3,10 +3,7 @@ use Rattle.gabc_score.proofs.regular_syllables.GapsAreRead.{more_opened, ended}
 use Rattle.gabc_score.proofs.regular.comment_len.Goals as goal
 
 pub loop-end-preserved : goal.loop-end-preserved
-loop-end-preserved c = record {
-  within = omega (arith, c.loop-end-test.true);
-  opened = more_opened c.args.bytes.now c.loop-end.end c.loop-end-test.true (sym c.is_printable.ensures ∙ c.if-is_printable.true) c.loop-end.invariant.opened;
-}
+loop-end-preserved c = grind (arith, more_opened)
 
 pub returns-in-Some-eq10-clause-gap : goal.returns-in-Some-eq10-clause-gap
 returns-in-Some-eq10-clause-gap c =

@@ -16,11 +16,4 @@ returns-in-Some-eq41 c = λ some.
     found.3.0 (sym (found.3.1 0) ∙ c.in-Some-eq41.field-0-test)
 
 pub loop-begun-preserved : goal.loop-begun-preserved
-loop-begun-preserved c =
-    let found = rw (c.as_bytes-bytes.ensures.value) at c.in-Some-eq124.ensures.lookup in
-    record {
-      same = c.loop-begun.invariant.same;
-      before = rw (c.next_line-line.ensures) (more_snippets c.args.lines c.args.text.now c.loop-begun.begun c.loop-begun.line c.snippet_len.result c.utf8.text c.loop-begun.invariant.before
-          (rw (c.range_from.ensures.value) at c.snippet_len.ensures.within) (rw (c.range_from.ensures.value) at c.snippet_len.ensures.is)
-          found.3.0 (sym (found.3.1 0) ∙ c.in-Some-eq124.field-0-test) (omega arith));
-    }
+loop-begun-preserved c = grind (arith, more_snippets)

@@ -1,12 +1,7 @@
-use Rattle.std.specs.Prelude.{IfSome}
-use Rattle.gabc_score.specs.ScoreReports.{held_of}
-use Rattle.gabc_score.specs.SpansPast.{FollowsSpans}
-use Rattle.gabc_score.specs.witness.ScoreStage.{ScoreStageState}
+use Rattle.std.proofs.Common.{arith}
 use Rattle.gabc_score.proofs.resuming.StatesStand.{at_state}
 use Rattle.gabc_score.proofs.score_events.UnitsAreHeld.{held_follows, laws_hold}
 use Rattle.gabc_score.proofs.stage_laws.spans_of_what_is_held_follow.Goals as goal
 
 pub returns : goal.returns
-returns c =
-    at_state (λ (s : ScoreStageState). IfSome (held_of s) (FollowsSpans s.before.spans))
-    (λ m rests. held_follows m m.part rests (laws_hold c.a_kept_text_is_said_in_full.ensures c.spans_stand_for_the_view.ensures.view c.kept_again.ensures.snippet c.kept_again-2.ensures.snippet))
+returns c = grind (arith, at_state, held_follows, laws_hold)

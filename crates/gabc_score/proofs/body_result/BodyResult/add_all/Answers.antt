@@ -1,4 +1,4 @@
-use Rattle.std.proofs.Common.{◌≤◌, ◌+◌, length, take, take_all, sym, ap, ◌∙◌, arith}
+use Rattle.std.proofs.Common.{◌+◌, take, take_all, sym, ap, ◌∙◌, arith}
 use Rattle.gabc_score.specs.machine.Collected.{result_past_all}
 use Rattle.gabc_score.proofs.score_events.OutputsAreCollected.{collected, past_more}
 use Rattle.gabc_score.proofs.body_result.BodyResult.add_all.Goals as goal
@@ -16,10 +16,4 @@ loop-event-preserved c =
     }
 
 pub returns-clause-result_is : goal.returns-clause-result_is
-returns-clause-result_is c outputs e l =
-    let a = c.args.pair.now.first in
-    let b = c.args.pair.now.second in
-    let k = c.loop-event.event-index in
-    let items = c.args.out.now.items in
-    let past : length items ≤ k = let t = c.loop-event-test.false in let s = ap length c.slice-event-items.ensures in omega (arith, t, s) in
-    c.loop-event.invariant.past ∙ ap (result_past_all a b c.args.self.now) (take_all k items past ∙ e) ∙ collected a b c.args.self.now outputs l
+returns-clause-result_is c outputs e l = grind (arith, take_all, collected)

@@ -15,7 +15,8 @@ use Rattle.gabc_score.specs.machine.ScoreMachine.{IsAtRest, IsScoreAt, IsShort}
 use Rattle.gabc_score.specs.machine.ScoreStage.{placed_after}
 use Rattle.gabc_score.proofs.building.EventsAreHeld.{never_lent}
 use Rattle.gabc_score.proofs.score_events.EventsStayWithinBounds.{few_found}
-use Rattle.gabc_score.proofs.score_events.FewAndShortAreLent.{short_at_end, held_lends, lends_these, no_code, placed_within}
+use Rattle.gabc_score.proofs.score_events.HeldWithinLimits.{short_at_end}
+use Rattle.gabc_score.proofs.score_events.FewAndShortAreLent.{held_lends, lends_these, no_code, placed_within}
 use Rattle.gabc_score.proofs.score_events.GivesOutside.{gives_outside}
 use Rattle.gabc_score.proofs.score_events.LastHasNoNotes.{last_has_no_notes, none_made_at_end}
 use Rattle.gabc_score.proofs.score_events.PartsFollow.{last_after, leads_out}
@@ -23,12 +24,7 @@ use Rattle.gabc_score.proofs.score_events.MemoryIsKept.{limit_last, limit_past, 
 use Rattle.gabc_score.proofs.score_machine.ScoreMachine.end.Goals as goal
 
 pub hold-requires : goal.hold-requires
-hold-requires c =
-    let fit = c.close.ensures.fit in
-    let few = c.close.ensures.events.few in
-    let none = ap length c.requires.stands.rests.rests.none in
-    let room = c.requires.stands.rests.rests.room in
-    record { reads = c.free.ensures.used; fits = search (rules, fit); once = c.close.ensures.once; room = omega (arith, few, none, room) }
+hold-requires c = grind arith
 
 pub close_last-has_last-requires : goal.close_last-has_last-requires
 close_last-has_last-requires c = never_lent _ _ c.hold.ensures.used
@@ -80,7 +76,7 @@ returns-in-None c =
     let held = ap (λ (k : Gathered). k.made) c.free.ensures.gathered in
     let one : length all.made ≤ 1 = omega (arith, ap (λ (ms : List UnplacedSyllable). length ms) (made ∙ sym held), c.free.ensures.one) in
     let later : OnlyFirstHasNotes lent = subst (λ (k : Gathered). OnlyFirstHasNotes (placed_after c.args.self.now.has_lent k.made)) (sym is) (last_has_no_notes c.args.self.now.has_lent all one) in
-    let short : All (IsShort limits.syllable) p.gathered.made = subst (λ (k : Gathered). All (IsShort limits.syllable) k.made) (sym is) (short_at_end limits old now rests.limit rests.over rests.short none) in
+    let short : All (IsShort limits.syllable) p.gathered.made = subst (λ (k : Gathered). All (IsShort limits.syllable) k.made) (sym is) (short_at_end limits c.args.self.now.bounds.before old now rests.limit rests.over c.requires.stands.rests.preceded.follows c.requires.stands.rests.within.written rests.short none) in
     let kept = kept_memory c.args.self.now c.free.new.self.gathered g p.gathered c.hold.new.found now rests c.free.ensures.gathered c.hold.ensures.gathered c.close_last-has_last.ensures.gathered c.hold.ensures.found in
     record {
       step = gives_outside (outputs_of found lent ++ End ∷ []) (λ is. absurd (cc is)) (λ heads. absurd (cc (heads, c.requires.stands.part))) (record {

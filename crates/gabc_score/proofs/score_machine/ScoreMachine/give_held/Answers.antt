@@ -11,12 +11,11 @@ use Rattle.gabc_score.proofs.score_machine.ScoreMachine.give_held.Goals as goal
 -- the syllable that is held is within the limits
 within_limits : (limits : Limits) (made : List UnplacedSyllable) (first : PlacedSyllable) (position : UnplacedSyllable → PlacedSyllable) → length made ≡ 1 → All (IsShort limits.syllable) made
     → ((m : UnplacedSyllable) → (position m).made ≡ m) → ((m : UnplacedSyllable) → made ≡ m ∷ [] → first ≡ position m) → length (canonical_in_place first) ≤ limits.syllable + 1
-within_limits limits [] first position one short of is = absurd (cc one)
-within_limits limits (m ∷ k ∷ ms) first position one short of is = absurd (cc one)
 within_limits limits (m ∷ []) first position one short of is =
     let w = short_within limits first.position m (All-head (IsShort limits.syllable) m [] short) in
     let same : first.made ≡ m = ap (λ (s : PlacedSyllable). s.made) (is m refl) ∙ of m in
     subst (λ (x : UnplacedSyllable). length (canonical_in_place (record { made = x; position = first.position })) ≤ limits.syllable + 1) (sym same) w.canonical
+within_limits limits _ first position one short of is = absurd (cc one)
 
 pub give-requires : goal.give-requires
 give-requires g c =

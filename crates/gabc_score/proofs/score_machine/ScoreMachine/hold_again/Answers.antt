@@ -42,12 +42,7 @@ held_there p ms m e f = ap (λ (q : ScorePart). held_in_body q ms) e ∙ ap (hel
 
 before_there : (p q : ScorePart) (a b : BodyStageState) (was is : Preceding) → p ≡ score_part.Body → q ≡ score_part.Body → b.nabc_lines ≡ a.nabc_lines → b.macros ≡ a.macros → is ≡ was
     → in_body q (before_with b is) ≡ in_body p (before_with a was)
-before_there p q a b was is e f lines macros same =
-    ap (λ (r : ScorePart). in_body r (before_with b is)) f
-    ∙ ap (λ (l : ℕ). in_body score_part.Body (before_with (record b { nabc_lines = l }) is)) lines
-    ∙ ap (λ (m : ℕ). in_body score_part.Body (before_with (record b { nabc_lines = a.nabc_lines; macros = m }) is)) macros
-    ∙ ap (λ (k : Preceding). in_body score_part.Body (before_with a k)) same
-    ∙ ap (λ (r : ScorePart). in_body r (before_with a was)) (sym e)
+before_there p q a b was is e f lines macros same = rw (e, f, lines, macros, same) refl
 
 reads_there : (p : ScorePart) (kept : List ℕ) → p ≡ score_part.Body → kept ≡ [] → reading_in_body p kept ≡ []
 reads_there p kept e f = ap (λ (q : ScorePart). reading_in_body q kept) e ∙ f

@@ -10,7 +10,7 @@ use Rattle.gabc_score.specs.machine.BodyBuilder.{code_in, with_all}
 use Rattle.gabc_score.specs.machine.ReadAgain.{PassesAgain}
 use Rattle.gabc_score.specs.machine.ScoreMachine.{IsInBody, IsScoreAt}
 use Rattle.gabc_score.specs.witness.BodyStage.{BodyStageState}
-use Rattle.gabc_score.proofs.resuming.MachinesPassAgain.{no_code_by, none_coded, none_made, none_turned, none_whole}
+use Rattle.gabc_score.proofs.resuming.MachinesPassAgain.{none_is, none_coded, none_made, none_turned, none_whole}
 use Rattle.gabc_score.proofs.resuming.PartsReadAgain.{reads_again}
 use Rattle.gabc_score.proofs.score_events.CharactersAreRead.{limit_gathered, rests_past, room_gathered}
 use Rattle.gabc_score.proofs.score_machine.ScoreMachine.pass_again.Goals.{then-is_whole-via-then-is_whole, then-is_whole-via-else-is_whole+then-is_some}
@@ -75,7 +75,7 @@ returns-else-is_some-clause-rests c =
     (subst (λ (p : ScorePart). IsScoreAt p n) (sym c.requires.part)
     (subst (λ (lent : Bool). IsInBody (record n { has_lent = lent })) (or-false m.has_lent)
     (rests_past c.requires.part c.requires.rests a
-    (ap (λ (k : ScoreMachine). code_in k.limits g.pair.gathered) (sym same) ∙ (sym c.code.ensures.code ∙ no_code_by c.code.result (sym c.is_some.ensures ∙ c.if-is_some.false)))
+    (ap (λ (k : ScoreMachine). code_in k.limits g.pair.gathered) (sym same) ∙ (sym c.code.ensures.code ∙ none_is c.code.result (sym c.is_some.ensures ∙ c.if-is_some.false)))
     (none_turned a (sym c.is_whole.ensures.made ∙ c.if-is_whole.false) (sym c.is_whole.ensures.used ∙ c.if-is_whole.false))
     c.clear.new.self m.next (ap (λ (r : BoundedList Finding). r.items) c.clear.ensures) (omega (arith, cleared, room)))))
 

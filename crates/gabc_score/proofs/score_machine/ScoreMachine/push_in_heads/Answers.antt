@@ -52,50 +52,44 @@ returns-in-Body c = record {
 }
 
 pub returns-in-Heads : goal.returns-in-Heads
-returns-in-Heads c = record {
-  step =
-      record {
-        outputs = [];
-        lends = lends_none c.args.self.now.limits _ [] refl;
-        limits = refl;
-        part = search rules;
-        last = λ other final. absurd (false≢true (sym (ap is_final c.in-Heads.is) ∙ final));
-        passes = λ other. rw c.in-Heads.is tt;
-        line = λ lf. absurd (subst EndsLine c.in-Heads.is lf);
+returns-in-Heads c =
+    let gathered = ap (λ (s : SlotPairState). s.gathered) c.start.ensures ∙ ap (λ (g : Gathered). record g { total = c.in-Heads.canonical }) c.requires.rests.nothing in
+    let made = ap (λ (g : Gathered). g.made) gathered in
+    record {
+      step =
+          record {
+            outputs = [];
+            lends = lends_none c.args.self.now.limits _ [] refl;
+            limits = refl;
+            part = search rules;
+            last = λ other final. absurd (false≢true (sym (ap is_final c.in-Heads.is) ∙ final));
+            passes = λ other. rw c.in-Heads.is tt;
+            line = λ lf. absurd (subst EndsLine c.in-Heads.is lf);
+            counts = search rules;
+            before_held = search rules;
+            next = search rules;
+            stands = search rules;
+            whole = λ body. rw (c.requires.part, c.in-Heads.is)
+                (none_whole c.after_headers-self.result c.in-Heads.canonical c.start.new.self.gathered c.after_headers-self.ensures made);
+            told = λ may here was body. begins_of_text c.args.self.now.limits c.args.self.now.next c.args.input c.in-Heads.nabc_lines c.in-Heads.macros c.in-Heads.canonical c.restart.new.self c.after_headers-self.result c.in-Heads.is
+                c.restart.ensures c.after_headers-self.ensures may _ refl refl refl refl (ap (λ (g : Gathered). g.builder.kept) gathered) made;
+            holds = λ was body none. ap (λ (b : Bounds). b.before.syllables) c.after_headers-self.ensures;
+            law = search rules;
+            emitted = search rules;
+            front = λ heads lines macros canonical is. search rules;
+          };
+      rests = record {
+        rests = search rules;
         counts = search rules;
-        before_held = search rules;
-        next = search rules;
-        stands = search rules;
-        whole = λ body. rw (c.requires.part, c.in-Heads.is)
-            (none_whole c.after_headers-self.result c.in-Heads.canonical c.start.new.self.gathered c.after_headers-self.ensures
-            (ap (λ (g : Gathered). g.made) (ap (λ (s : SlotPairState). s.gathered) c.start.ensures ∙ ap (λ (g : Gathered). record g { total = c.in-Heads.canonical }) c.requires.rests.nothing)));
-        told = λ may here was body. begins_of_text c.args.self.now.limits c.args.self.now.next c.args.input c.in-Heads.nabc_lines c.in-Heads.macros c.in-Heads.canonical c.restart.new.self c.after_headers-self.result c.in-Heads.is
-            c.restart.ensures c.after_headers-self.ensures may _ refl refl refl refl
-            (ap (λ (g : Gathered). g.builder.kept) (ap (λ (s : SlotPairState). s.gathered) c.start.ensures ∙ ap (λ (g : Gathered). record g { total = c.in-Heads.canonical }) c.requires.rests.nothing))
-            (ap (λ (g : Gathered). g.made) (ap (λ (s : SlotPairState). s.gathered) c.start.ensures ∙ ap (λ (g : Gathered). record g { total = c.in-Heads.canonical }) c.requires.rests.nothing));
-        holds = λ was body none. ap (λ (b : Bounds). b.before.syllables) c.after_headers-self.ensures;
-        law = search rules;
-        emitted = search rules;
-        front = λ heads lines macros canonical is. search rules;
+        kept = search rules;
+        preceded = search rules;
+        after = search rules;
+        lent = search rules;
+        code = search rules;
+        reading = comment_reads c.restart.new.self.nabc_lines c.restart.new.self.macros c.in-Heads.canonical c.args.self.now.limits.syllable c.in-Heads.canonical c.restart.new.self.part c.after_headers-self.result c.start.new.self.gathered
+            (ap (λ (s : BodyStageState). s.part) c.restart.ensures) c.after_headers-self.ensures gathered;
+        units = none_held c.restart.new.self.nabc_lines c.after_headers-self.result.before c.start.new.self.gathered.made made;
+        within = within_begun c.args.self.now.limits c.in-Heads.canonical c.after_headers-self.result.before c.start.new.self.gathered (ap (λ (b : Bounds). b.before) c.after_headers-self.ensures) made;
+        front = λ e. record { none_before = ap (λ (b : Bounds). b.before.syllables) c.after_headers-self.ensures; none_made = made };
       };
-  rests = record {
-    rests = search rules;
-    counts = search rules;
-    kept = search rules;
-    preceded = search rules;
-    after = search rules;
-    lent = search rules;
-    code = search rules;
-    reading = comment_reads c.restart.new.self.nabc_lines c.restart.new.self.macros c.in-Heads.canonical c.args.self.now.limits.syllable c.in-Heads.canonical c.restart.new.self.part c.after_headers-self.result c.start.new.self.gathered
-        (ap (λ (s : BodyStageState). s.part) c.restart.ensures) c.after_headers-self.ensures
-        (ap (λ (s : SlotPairState). s.gathered) c.start.ensures ∙ ap (λ (g : Gathered). record g { total = c.in-Heads.canonical }) c.requires.rests.nothing);
-    units = none_held c.restart.new.self.nabc_lines c.after_headers-self.result.before c.start.new.self.gathered.made
-        (ap (λ (s : SlotPairState). s.gathered.made) c.start.ensures ∙ ap (λ (g : Gathered). g.made) c.requires.rests.nothing);
-    within = within_begun c.args.self.now.limits c.in-Heads.canonical c.after_headers-self.result.before c.start.new.self.gathered (ap (λ (b : Bounds). b.before) c.after_headers-self.ensures)
-        (ap (λ (g : Gathered). g.made) (ap (λ (s : SlotPairState). s.gathered) c.start.ensures ∙ ap (λ (g : Gathered). record g { total = c.in-Heads.canonical }) c.requires.rests.nothing));
-    front = λ e. record {
-      none_before = ap (λ (b : Bounds). b.before.syllables) c.after_headers-self.ensures;
-      none_made = ap (λ (s : SlotPairState). s.gathered.made) c.start.ensures ∙ ap (λ (g : Gathered). g.made) c.requires.rests.nothing;
-    };
-  };
-}
+    }

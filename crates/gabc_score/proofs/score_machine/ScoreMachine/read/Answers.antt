@@ -24,10 +24,7 @@ found_is found new {was_is = was_is} {now} place w n e = e ∙ ap (λ k. extende
 
 stands_past : (g : ScoreMachine) (q : SlotPairState) (r : BoundedList Finding) {next next_is : Place} {lent lent_is : Bool} {bounds bounds_is : Bounds} → next ≡ next_is → lent ≡ lent_is → bounds ≡ bounds_is
     → record g { pair = q; found = r; next = next_is; has_lent = lent_is; bounds = bounds_is } ≡ record g { pair = q; found = r; next = next; has_lent = lent; bounds = bounds }
-stands_past g q r {next} {lent = lent} {lent_is} {bounds_is = bounds_is} n l b =
-    ap (λ k. record g { pair = q; found = r; next = k; has_lent = lent_is; bounds = bounds_is }) (sym n)
-    ∙ ap (λ k. record g { pair = q; found = r; next = next; has_lent = k; bounds = bounds_is }) (sym l)
-    ∙ ap (λ k. record g { pair = q; found = r; next = next; has_lent = lent; bounds = k }) (sym b)
+stands_past g q r n l b = grind arith
 
 pub find_first-requires : goal.find_first-requires
 find_first-requires c =

@@ -70,10 +70,8 @@ loop-c-preserved c =
 pub returns-then-has_held-clause-reads : goal.returns-then-has_held-clause-reads
 returns-then-has_held-clause-reads c =
     let i = c.loop-c.invariant in
-    let step = c.in-Some.ensures.steps.0 in
-    let rest = chars_rest c.loop-c.c-iterator in
     let next = chars_rest c.next.new.self in
-    let past = chars_past_char rest next c.in-Some.c i.utf8 step in
+    let past = chars_past_char (chars_rest c.loop-c.c-iterator) next c.in-Some.c i.utf8 c.in-Some.ensures.steps.0 in
     record {
       texts = λ good. absurd (true≢false (sym good));
       alone = sym (i.alone ∙ ap (λ cs. is_alone c.loop-c.self.limits c.loop-c.self.pair.gathered (lists_from c.loop-c.self c.loop-c.place cs)) past
@@ -84,10 +82,8 @@ returns-then-has_held-clause-reads c =
 pub returns-then-not-read_alone-clause-reads : goal.returns-then-not-read_alone-clause-reads
 returns-then-not-read_alone-clause-reads c =
     let i = c.loop-c.invariant in
-    let step = c.in-Some.ensures.steps.0 in
-    let rest = chars_rest c.loop-c.c-iterator in
     let next = chars_rest c.next.new.self in
-    let past = chars_past_char rest next c.in-Some.c i.utf8 step in
+    let past = chars_past_char (chars_rest c.loop-c.c-iterator) next c.in-Some.c i.utf8 c.in-Some.ensures.steps.0 in
     record {
       texts = λ good. absurd (true≢false (sym good));
       alone = sym (i.alone ∙ ap (λ cs. is_alone c.loop-c.self.limits c.loop-c.self.pair.gathered (lists_from c.loop-c.self c.loop-c.place cs)) past

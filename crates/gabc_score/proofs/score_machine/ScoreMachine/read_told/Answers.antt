@@ -1,4 +1,4 @@
-use Rattle.std.proofs.Common.{◌++◌, ◌∷◌, [], List, ℕ, refl, sym, subst}
+use Rattle.std.proofs.Common.{◌++◌, ◌∷◌, [], List, ℕ, refl, sym, subst, arith}
 use Rattle.std.specs.Str.Iter.{chars_rest}
 use Rattle.std.proofs.lemmas.Str.{chars_past_char, IsUtf8-past_char}
 use Rattle.gabc_places.proofs.texts.CharactersOfStrings.{chars-none}
@@ -26,7 +26,4 @@ returns-then-in_comment-clause-steps c =
     rw c.if-in_comment.true (c.loop-c.invariant.steps (37 ∷ []) c.take_again-then-in_comment.new.self (subst (λ (cs : List ℕ). ReadsThrough m c.args.openers (cs ++ 37 ∷ []) c.take_again-then-in_comment.new.self) (sym none) (c.take_again-then-in_comment.new.self, (c.take_again-then-in_comment.ensures.step, refl))))
 
 pub returns-else-in_comment-clause-steps : goal.returns-else-in_comment-clause-steps
-returns-else-in_comment-clause-steps c =
-    let m = c.loop-c.self in
-    let none = chars-none (chars_rest c.loop-c.c-iterator) c.in-None.ensures.steps.0.0 in
-    rw c.if-in_comment.false (c.loop-c.invariant.steps [] m (subst (λ (cs : List ℕ). ReadsThrough m c.args.openers (cs ++ []) m) (sym none) refl))
+returns-else-in_comment-clause-steps c = grind (arith, chars-none, chars_rest)

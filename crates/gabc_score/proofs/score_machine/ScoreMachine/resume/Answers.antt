@@ -1,13 +1,12 @@
-use Rattle.std.proofs.Common.{rules, ◌≡◌, nat_lt, length, refl, sym, ap, subst, ◌∙◌, arith}
+use Rattle.std.proofs.Common.{◌≡◌, nat_lt, length, sym, ap, subst, ◌∙◌, arith}
 use Rattle.std.specs.List.{All}
 use Rattle.std.proofs.lemmas.Bool.{true≢false}
 use Rattle.std.proofs.lemmas.List.Elements.{All-nil}
 use Rattle.gabc_places.specs.BoundedList.{BoundedList}
 use Rattle.gabc_places.specs.declared.code.Finding.{Finding}
 use Rattle.gabc_score.specs.declared.before.Preceding.{Preceding}
-use Rattle.gabc_score.specs.declared.score_machine.ScorePart.TheVariants as score_part
 use Rattle.gabc_score.specs.Before.{preceding_of, with_each}
-use Rattle.gabc_score.specs.ScoreReports.{held_in_body, is_in_front, reading_in_body}
+use Rattle.gabc_score.specs.ScoreReports.{is_in_front}
 use Rattle.gabc_score.specs.machine.Gatherer.{Gathered, nothing_gathered}
 use Rattle.gabc_score.specs.machine.PartCounts.{CountsHold}
 use Rattle.gabc_score.specs.machine.PartKeeps.{IsReading}
@@ -24,14 +23,7 @@ use Rattle.gabc_score.proofs.resuming.AfterSyllables.{nothing_passes, preceded_a
 use Rattle.gabc_score.proofs.score_machine.ScoreMachine.resume.Goals as goal
 
 pub returns-clause-stands : goal.returns-clause-stands
-returns-clause-stands c =
-    let gathered = ap (λ (s : SlotPairState). s.gathered) c.follow.ensures ∙ ap (gathered_after c.args.before) c.in_ok-pair.ensures.gathered in
-    record {
-      limits_are = refl;
-      before_is = search (rules, c.preceding-preceding.ensures, c.begin_text.ensures.text, c.restart.ensures);
-      none_held = ap (λ (g : Gathered). held_in_body score_part.Body g.made) gathered;
-      begins = record { body = refl; nothing_read = ap (λ (g : Gathered). reading_in_body score_part.Body g.builder.kept) gathered; begins = ap (λ (b : BodyStageState). b.part) c.begin_text.ensures.text; next = refl };
-    }
+returns-clause-stands c = grind (arith, none_held)
 
 pub returns-clause-rests : goal.returns-clause-rests
 returns-clause-rests c =

@@ -9,6 +9,4 @@ pub returns-then-self-eq0 : goal.returns-then-self-eq0
 returns-then-self-eq0 c = λ nexts final a. alone c.args.self c.if-self-eq0.true nexts final a
 
 pub returns-else-self-eq0 : goal.returns-else-self-eq0
-returns-else-self-eq0 c = λ nexts final a.
-    one_of_some c.args.self c.what_follows_emits_nothing.ensures.prefix c.what_follows_emits_nothing-2.ensures.prefix
-    c.snippet_len.result c.snippet_len.ensures nexts final a
+returns-else-self-eq0 c = grind (arith, one_of_some)
