@@ -1,16 +1,14 @@
 -- Where nothing sounds, the clef in force stays.
-use Rattle.std.proofs.Common.{◌≡◌, ℕ, ◌==◌, ◌&&◌, List, [], ◌∷◌, ◌++◌, map, Bool, true, false, cond, Option, Some, None, is_some, if◌then◌else◌, refl, ap, sym, ◌∙◌}
+use Rattle.std.proofs.Common.{◌≡◌, ℕ, ◌==◌, ◌&&◌, List, [], ◌∷◌, ◌++◌, map, false, cond, Option, Some, None, is_some, refl, ap, sym, ◌∙◌, arith}
 use Rattle.std.proofs.lemmas.Bool.{or_parts}
 use Rattle.std.specs.Option.{option_or}
 use Rattle.gabc_notes.specs.declared.item.Item.{Item}
 use Rattle.gabc_notes.specs.declared.item.ItemKind.{ItemKind}
-use Rattle.gabc_notes.specs.declared.item.ItemKind.TheVariants as kind
 use Rattle.gabc_notes.specs.FirstNoteOrClef.{first_note_or_clef, is_note_or_clef}
 use Rattle.gabc_notes.specs.Items.{bytes_of, items_of}
-use Rattle.gabc_neumes.specs.InForce.{InForce, ScoreStep, WordStart, AnItem, clef_of, passed, step_of, steps_of}
+use Rattle.gabc_neumes.specs.InForce.{InForce, ScoreStep, AnItem, clef_of, passed, step_of}
 use Rattle.gabc_neumes.specs.declared.sound.Clef.{Clef}
 use Rattle.gabc_score.specs.Before.{sounds, sounds_in}
-use Rattle.gabc_score.specs.Canonical.{starts_word}
 use Rattle.gabc_score.specs.Syllable.{PlacedSyllable, text_at}
 use Rattle.gabc_score.specs.declared.snippets.Snippet.{Snippet}
 use Rattle.gabc_score.specs.declared.syllable.Position.{Position}
@@ -32,24 +30,17 @@ abbrev IsNoneFirst : ItemKind → List ℕ → Option ItemKind → Type 0
 IsNoneFirst k t later = (clef_of (AnItem k t) ≡ None) × (later ≡ None)
 
 none_first : (k : ItemKind) (t : List ℕ) (later : Option ItemKind) → cond (is_note_or_clef k) (Some k) later ≡ None → IsNoneFirst k t later
-none_first kind.Note t later e = absurd (cc e)
-none_first kind.Clef t later e = absurd (cc e)
-none_first _ t later e = (refl, e)
+none_first k t later e = grind arith
 
 of_items : (kept : List ℕ) (items : List Item) → first_note_or_clef items ≡ None → AreNoClefs (map (step_of kept) items)
 of_items kept [] e = tt
 of_items kept (i ∷ items) e = let first = none_first i.kind (bytes_of kept i) (first_note_or_clef items) e in (first.0, of_items kept items first.1)
 
 none_some : (k : Option ItemKind) → is_some k ≡ false → k ≡ None
-none_some None e = refl
-none_some (Some k) e = absurd (cc e)
+none_some k e = grind arith
 
 of_snippet : (kept : List ℕ) (s : Snippet) → ((s.line == 0) && is_some (first_note_or_clef (items_of (text_at s.span kept)))) ≡ false → AreNoClefs (steps_of_snippet kept s)
-of_snippet kept s e = by (s.line == 0) e
-  where
-    by : (b : Bool) → (b && is_some (first_note_or_clef (items_of (text_at s.span kept)))) ≡ false → AreNoClefs (if b then steps_of (text_at s.span kept) else [])
-    by true e = of_items (text_at s.span kept) (items_of (text_at s.span kept)) (none_some (first_note_or_clef (items_of (text_at s.span kept))) e)
-    by false e = tt
+of_snippet kept s e = grind (arith, of_items, none_some)
 
 of_snippets : (kept : List ℕ) (snippets : List Snippet) → sounds_in kept snippets ≡ false → AreNoClefs (steps_of_snippets kept snippets)
 of_snippets kept [] e = tt
@@ -58,11 +49,7 @@ of_snippets kept (s ∷ snippets) e =
     both_none (steps_of_snippet kept s) (steps_of_snippets kept snippets) (of_snippet kept s none.0) (of_snippets kept snippets none.1)
 
 at_first : (position : Position) → AreNoClefs (first_steps position)
-at_first position = by (starts_word position)
-  where
-    by : (b : Bool) → AreNoClefs (if b then WordStart ∷ [] else [])
-    by true = (refl, tt)
-    by false = tt
+at_first position = grind arith
 
 -- ---- the clef
 
@@ -77,6 +64,4 @@ after_steps law (s ∷ steps) outset none =
     ∙ ap (λ (o : Option Clef). option_or o outset.clef) none.0)
 
 pub clef_stays : ArePassedOneByOne → (outset : InForce) (s : PlacedSyllable) → sounds s.made ≡ false → (passed outset (steps_of_syllable s)).clef ≡ outset.clef
-clef_stays law outset s silent =
-    after_steps law (steps_of_syllable s) outset
-    (both_none (first_steps s.position) (steps_of_snippets s.made.kept s.made.snippets) (at_first s.position) (of_snippets s.made.kept s.made.snippets silent))
+clef_stays law outset s silent = grind (arith, after_steps, both_none, at_first, of_snippets)

@@ -1,18 +1,14 @@
 -- The dump of headers is at most three times as long as their canonical lines, and the first line.
-use Rattle.std.proofs.Common.{◌≡◌, ℕ, ◌+◌, ◌*◌, ◌≤◌, ◌==◌, List, [], ◌∷◌, ◌++◌, Bool, true, false, length, length-append, ap, ◌∙◌, codes, arith, if◌then◌else◌}
+use Rattle.std.proofs.Common.{◌≡◌, ℕ, ◌+◌, ◌*◌, ◌≤◌, List, [], ◌∷◌, ◌++◌, Bool, length, length-append, ap, ◌∙◌, codes, arith}
 use Rattle.std.proofs.lemmas.Str.{encodes-append}
 use Rattle.std.specs.List.{flat_map}
 use lib.Utf8.{encode, encodes}
-use Rattle.gabc_headers.specs.Lines.{lines}
 use Rattle.gabc_headers.specs.Canonical.{header_lines, canonical_heads, printed_value, wants_lines}
 use Rattle.gabc_headers.specs.Canonical as canonical
 use Rattle.gabc_write.specs.DumpLines.{escaped_byte, escaped, line_of_header, dump_heads}
 
 escaped_two : (c : ℕ) → length (escaped_byte c) ≤ 2
-escaped_two c = by (c == 92) (c == 10)
-  where
-    by : (a b : Bool) → length (if a then codes "\\\\" else if b then codes "\\n" else c ∷ []) ≤ 2
-    by a b = grind arith
+escaped_two c = grind arith
 
 pub escaped_short : (text : List ℕ) → length (escaped text) ≤ 2 * length text
 escaped_short [] = omega arith
@@ -24,34 +20,19 @@ bytes_of_both a b = ap (length {A = ℕ}) (encodes-append a b) ∙ length-append
 
 value_long : (lined : Bool) (v : List ℕ) → length (encodes v) + 2 ≤ length (encodes (printed_value lined v))
 unfolding encode
-value_long lined [] = omega arith
-value_long true (c ∷ v) = omega (arith, bytes_of_both (codes "\n " ++ (c ∷ v)) (codes ";;\n"), bytes_of_both (codes "\n ") (c ∷ v))
-value_long false (c ∷ v) = omega (arith, bytes_of_both (codes " " ++ (c ∷ v)) (codes ";\n"), bytes_of_both (codes " ") (c ∷ v))
+value_long lined v = grind (arith, bytes_of_both)
 
 -- a canonical header line has a `:`, a `;` and an LF beside name and value
 line_long : (n v : List ℕ) → length (encodes n) + length (encodes v) + 3 ≤ length (encodes (canonical.header_line (n, v)))
 unfolding encode
-line_long n v =
-    let lined = wants_lines (lines v) in
-    omega (arith, bytes_of_both (n ++ codes ":") (printed_value lined v), bytes_of_both n (codes ":"), value_long lined v)
+line_long n v = grind (arith, bytes_of_both, value_long)
 
 line_short : (e : List ℕ × List ℕ) → length (line_of_header e) ≤ 2 * length (encodes e.0) + 2 * length (encodes e.1) + 9
-line_short e =
-    let name = escaped (encodes e.0) in
-    let value = escaped (encodes e.1) in
-    omega (arith, length-append name (codes ":" ++ (value ++ codes "\n")), length-append value (codes "\n"), escaped_short (encodes e.0), escaped_short (encodes e.1))
+line_short e = grind (arith, length-append, escaped_short)
 
 lines_short : (book : List (List ℕ × List ℕ)) → length (flat_map line_of_header book) ≤ 3 * length (encodes (header_lines book))
 lines_short [] = omega arith
-lines_short (e ∷ book) =
-    omega (
-      arith,
-      length-append (line_of_header e) (flat_map line_of_header book),
-      bytes_of_both (canonical.header_line e) (header_lines book),
-      line_short e,
-      line_long e.0 e.1,
-      lines_short book,
-    )
+lines_short (e ∷ book) = grind (arith, lines_short book, length-append, bytes_of_both, line_short, line_long)
 
 pub heads_short : (book : List (List ℕ × List ℕ)) → length (dump_heads book) ≤ 3 * length (encodes (canonical_heads book)) + 7
 heads_short book = omega (arith, length-append (codes "dump 2\n") (flat_map line_of_header book), bytes_of_both (header_lines book) (codes "%%"), lines_short book)

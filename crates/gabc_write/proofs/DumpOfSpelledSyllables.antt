@@ -1,5 +1,5 @@
 -- The lines of a syllable that slices spell.
-use Rattle.std.proofs.Common.{◌≡◌, ℕ, ◌+◌, ◌<◌, ◌≤◌, Bool, true, false, List, [], ◌∷◌, ◌++◌, cond, Option, Some, None, length, map, refl, sym, ap, ap₂, subst, ◌∙◌, arith, append_assoc, length-append, IsUtf8, All, codes}
+use Rattle.std.proofs.Common.{◌≡◌, ℕ, ◌+◌, ◌<◌, ◌≤◌, true, false, List, [], ◌∷◌, ◌++◌, Option, length, map, refl, sym, ap, ap₂, subst, ◌∙◌, arith, append_assoc, length-append, IsUtf8, All, codes}
 use Rattle.std.proofs.lemmas.List.{take_at}
 use Rattle.std.proofs.lemmas.List.Elements.{All-cons, All-head, All-nil, All-tail}
 use Rattle.std.proofs.lemmas.Str.{chars_from_encodes, scalars-chars}
@@ -8,11 +8,10 @@ use Rattle.gabc_places.specs.declared.place.Span.{Span}
 use Rattle.gabc_neumes.specs.InForce.{InForce, ScoreStep, passed}
 use Rattle.gabc_score.specs.declared.snippets.Snippet.{Snippet}
 use Rattle.gabc_score.specs.declared.spelled.SpelledSyllable.{SpelledSyllable}
-use Rattle.gabc_score.specs.declared.syllable.Position.{Position}
 use Rattle.gabc_score.specs.Canonical.{translation_text}
-use Rattle.gabc_score.specs.RegularSyllable.{canonical_spelled, gap_kept, has_gap, line_and_text, notes_spelled, with_lines}
+use Rattle.gabc_score.specs.RegularSyllable.{canonical_spelled, gap_kept, line_and_text, notes_spelled, with_lines}
 use Rattle.gabc_score.specs.SpelledSyllable.{AreTextsOf, Spells}
-use Rattle.gabc_score.specs.Syllable.{PlacedSyllable, slice}
+use Rattle.gabc_score.specs.Syllable.{PlacedSyllable}
 use Rattle.gabc_write.specs.DumpOfNotes.{last_text}
 use Rattle.gabc_write.specs.DumpOfSyllables.{first_line, first_line_by, first_steps, line_of_text, line_of_translation, lines_of_snippets, lines_of_syllable, lines_on, steps_of_snippet, steps_of_snippets, steps_of_syllable}
 use Rattle.gabc_write.specs.machine.DumpOfTexts.{IsOnLine, line_of_bracketed, lines_of_texts, steps_of_texts}
@@ -42,8 +41,7 @@ bracketed (c ∷ q) =
     (sym (take_at (c ∷ q) (93 ∷ []) (length (q ++ 93 ∷ [])) (let n = length-append q (93 ∷ []) in omega (arith, n))))
 
 translation_line : (kept : List ℕ) (o : Option Span) → line_of_translation kept o ≡ line_of_bracketed (translation_text kept o)
-translation_line kept None = refl
-translation_line kept (Some span) = bracketed (slice span kept)
+translation_line kept o = grind (arith, bracketed)
 
 module _ (r : SpelledSyllable) (s : PlacedSyllable) (h : Spells r s) where
   abbrev pub texts : List (ℕ × List ℕ)
@@ -57,20 +55,14 @@ module _ (r : SpelledSyllable) (s : PlacedSyllable) (h : Spells r s) where
 
   module _ (text translation : List ℕ) (are : AreTextsOf r text translation) where
     first_is : (number : ℕ) → first_line number s ≡ first_line_by number r.position r.spans.eu r.spans.nlba
-    first_is number =
-        ap (λ (p : Position). first_line_by number p s.made.eu s.made.nlba) h.position
-        ∙ ap₂ (first_line_by number r.position) h.eu h.nlba
+    first_is number = grind arith
 
     translation_is : line_of_translation s.made.kept s.made.text.translation ≡ line_of_bracketed translation
     translation_is = translation_line s.made.kept s.made.text.translation ∙ ap line_of_bracketed (h.text.translation ∙ sym (are h.spelling).1)
 
     pub all_lines : (number : ℕ) (f : InForce)
         → lines_of_syllable number f s ≡ first_line_by number r.position r.spans.eu r.spans.nlba ++ (line_of_text text ++ (line_of_bracketed translation ++ lines_of_texts (passed f (first_steps r.position)) texts))
-    all_lines number f =
-        ap₂ (λ (a b : List ℕ). a ++ b) (first_is number)
-        (ap₂ (λ (a b : List ℕ). a ++ b) (ap line_of_text (h.text.text ∙ sym (are h.spelling).0))
-        (ap₂ (λ (a b : List ℕ). a ++ b) translation_is
-        (ap (λ (p : Position). lines_of_snippets (passed f (first_steps p)) s.made.kept s.made.snippets) h.position ∙ lines_are (passed f (first_steps r.position)))))
+    all_lines number f = grind (arith, first_is, translation_is, lines_are)
 
   -- ---- what is kept is short
 
@@ -81,20 +73,11 @@ module _ (r : SpelledSyllable) (s : PlacedSyllable) (h : Spells r s) where
   kept_is = h.kept ∙ ap encodes (append_assoc (gap_kept h.spelling.parts.gap) h.spelling.parts.text (40 ∷ notes_spelled h.spelling.parts.nexts h.spelling.parts.final))
 
   pub kept_utf8 : IsUtf8 s.made.kept
-  kept_utf8 = by (has_gap h.spelling.parts.gap) kept_is
-    where
-      by : (w : Bool) → s.made.kept ≡ encodes (cond w (32 ∷ []) [] ++ canonical_spelled false h.spelling.parts) → IsUtf8 s.made.kept
-      by true e = (32 ∷ canonical_spelled false h.spelling.parts, (canonical_scalars, sym e))
-      by false e = (canonical_spelled false h.spelling.parts, (canonical_scalars, sym e))
+  kept_utf8 = grind (arith, kept_is, canonical_scalars)
 
   pub kept_few : length s.made.kept ≤ length r.canonical.now + 1
   unfolding lib.Utf8.encode
-  kept_few = by (has_gap h.spelling.parts.gap) (ap (λ (l : List ℕ). length l) kept_is) (ap (λ (l : List ℕ). length l) h.spelling.canonical_is)
-    where
-      by : (w : Bool) → length s.made.kept ≡ length (encodes (cond w (32 ∷ []) [] ++ canonical_spelled false h.spelling.parts)) → length r.canonical.now ≡ length (encodes (canonical_spelled false h.spelling.parts))
-          → length s.made.kept ≤ length r.canonical.now + 1
-      by true e f = omega (arith, e, f)
-      by false e f = omega (arith, e, f)
+  kept_few = grind (arith, kept_is)
 
   pub few : All IsOnLine texts → All (λ (x : Snippet). x.line < 256) s.made.snippets
   few all = few_lines s.made.kept s.made.snippets (subst (All IsOnLine) (sym h.snippets) all)

@@ -1,5 +1,5 @@
 -- The lines of a syllable in a dump, and its steps, are a function of what it says.
-use Rattle.std.proofs.Common.{◌≡◌, Bool, ℕ, ◌+◌, ◌==◌, List, [], ◌∷◌, ◌++◌, Option, Some, None, codes, drop, get_or, map, refl, sym, ap, ◌∙◌, if◌then◌else◌}
+use Rattle.std.proofs.Common.{◌≡◌, Bool, ℕ, ◌+◌, ◌==◌, List, [], ◌∷◌, ◌++◌, Option, Some, None, codes, drop, get_or, map, refl, ap, if◌then◌else◌, arith}
 use Rattle.std.specs.List.{All, flat_map}
 use Rattle.std.specs.Option.{option_map}
 use Rattle.std.specs.Fmt.{decimal}
@@ -43,8 +43,7 @@ steps_said s = first_steps s.position ++ flat_map steps_of_text s.snippets
 
 translation_is : (kept : List ℕ) (span : Option Span) → line_of_translation kept span ≡ translation_said (option_map (λ (x : Span). slice x kept) span)
 unfolding translation_said
-translation_is kept None = refl
-translation_is kept (Some span) = refl
+translation_is kept span = grind arith
 
 -- ---- a syllable's are those of what it says
 
@@ -62,18 +61,13 @@ lines_are_one outset kept s h = ap (λ (t : List ℕ). if s.line == 0 then lines
 
 all_steps_are : (kept : List ℕ) (ss : List Snippet) → All (IsWhole kept) ss → steps_of_snippets kept ss ≡ flat_map steps_of_text (map (said_by kept) ss)
 all_steps_are kept [] h = refl
-all_steps_are kept (s ∷ ss) h =
-    ap (λ (t : List ScoreStep). t ++ steps_of_snippets kept ss) (steps_are_one kept s (All-head (IsWhole kept) s ss h))
-    ∙ ap (λ (t : List ScoreStep). steps_of_text (said_by kept s) ++ t) (all_steps_are kept ss (All-tail (IsWhole kept) s ss h))
+all_steps_are kept (s ∷ ss) h = λ i. steps_are_one kept s (All-head (IsWhole kept) s ss h) i ++ all_steps_are kept ss (All-tail (IsWhole kept) s ss h) i
 
 snippets_are : (outset : InForce) (kept : List ℕ) (ss : List Snippet) → All (IsWhole kept) ss → lines_of_snippets outset kept ss ≡ lines_of_texts outset (map (said_by kept) ss)
 snippets_are outset kept [] h = refl
 snippets_are outset kept (s ∷ ss) h =
     let whole = All-head (IsWhole kept) s ss h in
-    let said : List ℕ = lines_of_text outset (said_by kept s) in
-    ap (λ (t : List ℕ). t ++ lines_of_snippets (passed outset (steps_of_snippet kept s)) kept ss) (lines_are_one outset kept s whole)
-    ∙ (ap (λ (steps : List ScoreStep). said ++ lines_of_snippets (passed outset steps) kept ss) (steps_are_one kept s whole)
-    ∙ ap (λ (t : List ℕ). said ++ t) (snippets_are (passed outset (steps_of_text (said_by kept s))) kept ss (All-tail (IsWhole kept) s ss h)))
+    λ i. lines_are_one outset kept s whole i ++ snippets_are (passed outset (steps_are_one kept s whole i)) kept ss (All-tail (IsWhole kept) s ss h) i
 
 lines_are : (number : ℕ) (outset : InForce) (s : PlacedSyllable) → HasWholeSnippets s.made → lines_of_syllable number outset s ≡ lines_said number outset (meaning_of s)
 unfolding lines_said
@@ -85,10 +79,7 @@ steps_are s h = ap (λ (t : List ScoreStep). first_steps s.position ++ t) (all_s
 
 -- syllables that say the same have one dump
 one_dump : (s t : PlacedSyllable) → HasWholeSnippets s.made → HasWholeSnippets t.made → meaning_of s ≡ meaning_of t → HaveOneDump s t
-one_dump s t a b e = record {
-  lines = λ number outset. lines_are number outset s a ∙ ap (lines_said number outset) e ∙ sym (lines_are number outset t b);
-  steps = steps_are s a ∙ ap steps_said e ∙ sym (steps_are t b);
-}
+one_dump s t a b e = grind (arith, lines_are, lines_said, steps_are, steps_said)
 
 pub held_dump : (first : Bool) (m n : UnplacedSyllable) (position : Position) → HasWholeSnippets m → HasWholeSnippets n → SayTheSame first (Some m) (Some n)
     → HaveOneDump (record { made = m; position = position }) (record { made = n; position = position })
@@ -107,7 +98,4 @@ same_lines number outset (s ∷ ss) (t ∷ ts) a b e =
     let head : meaning_of s ≡ meaning_of t = ap (λ (u : List SyllableMeaning). get_or u 0 (meaning_of s)) e in
     let tail : AreSame ss ts = ap (λ (u : List SyllableMeaning). drop 1 u) e in
     let one : HaveOneDump s t = one_dump s t (All-head P s ss a) (All-head P t ts b) head in
-    let later = same_lines (number + 1) (passed outset (steps_of_syllable t)) ss ts (All-tail P s ss a) (All-tail P t ts b) tail in
-    ap (λ (u : List ℕ). u ++ lines_of_syllables (number + 1) (passed outset (steps_of_syllable s)) ss) (one.lines number outset)
-    ∙ (ap (λ (u : List ScoreStep). lines_of_syllable number outset t ++ lines_of_syllables (number + 1) (passed outset u) ss) one.steps
-    ∙ ap (λ (u : List ℕ). lines_of_syllable number outset t ++ u) later)
+    λ i. one.lines number outset i ++ same_lines (number + 1) (passed outset (one.steps i)) ss ts (All-tail P s ss a) (All-tail P t ts b) tail i

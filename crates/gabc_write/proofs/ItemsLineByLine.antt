@@ -1,25 +1,23 @@
 -- The lines of a snippet's items, put one item at a time.
-use Rattle.std.proofs.Common.{◌≡◌, ℕ, zero, suc, ◌+◌, ◌-◌, ◌≤◌, ◌<◌, ◌==◌, ◌&&◌, List, [], ◌∷◌, ◌++◌, Bool, true, false, not, cond, Option, Some, None, refl, sym, ap, ◌∙◌, subst, length, drop, take, reverse, map, arith, append_assoc, append-nil, length-append, ne_eqb, codes, if◌then◌else◌}
+use Rattle.std.proofs.Common.{◌≡◌, ℕ, zero, suc, ◌+◌, ◌-◌, ◌≤◌, ◌<◌, ◌==◌, ◌&&◌, List, [], ◌∷◌, ◌++◌, Bool, true, false, not, Option, Some, None, refl, sym, ap, ◌∙◌, subst, length, drop, reverse, map, arith, append_assoc, append-nil, length-append, ne_eqb, codes, if◌then◌else◌}
 use Rattle.std.specs.List.{take_while}
 use Rattle.std.proofs.lemmas.List.{reverse-append, reverse-reverse, map-append}
-use Rattle.std.proofs.lemmas.List.Elements.{filter_map-append}
-use Rattle.std.proofs.lemmas.List.Sums.{take_while-cons}
 use Rattle.gabc_places.proofs.NumbersByTests.{same_eqb}
 use Rattle.gabc_notes.specs.Items.{bytes_of}
-use Rattle.gabc_notes.specs.Notes.{note_in}
 use Rattle.gabc_notes.specs.declared.item.Item.{Item}
 use Rattle.gabc_notes.specs.declared.note.Note.{Note}
-use Rattle.gabc_neumes.specs.Cut.{kind_by, longest_glyph, glyphs_within, glyphs_of}
-use Rattle.gabc_neumes.specs.Elements.{is_in_element, is_in_segment, notes_in}
+use Rattle.gabc_neumes.specs.Cut.{longest_glyph, glyphs_within, glyphs_of}
+use Rattle.gabc_neumes.specs.Elements.{is_in_element, is_in_segment}
 use Rattle.gabc_neumes.specs.Glyphs.{HasKind, AreGlyphsOf, read_as}
-use Rattle.gabc_neumes.specs.InForce.{InForce, ScoreStep, step_of, in_force_after, passed}
+use Rattle.gabc_neumes.specs.InForce.{InForce, ScoreStep, step_of, passed}
 use Rattle.gabc_neumes.specs.declared.glyph.Glyph.{Glyph}
 use Rattle.gabc_neumes.specs.declared.glyph.GlyphKind.{GlyphKind}
 use Rattle.gabc_patterns.specs.LongestItems.{IsReadingBy}
 use Rattle.gabc_write.specs.DumpOfNotes.{is_after_element, element_line, line_of_glyph, line_of_glyph_at, notes_before, notes_after, is_note, glyph_line, line_of_item, in_force_at, lines_after}
 use Rattle.gabc_write.specs.machine.NoteLines.{glyph_at, line_of_next, left_after, lines_at, place_after_input}
 use Rattle.gabc_write.specs.declared.dump_notes.ItemPlace.{ItemPlace}
-use Rattle.gabc_write.proofs.dump_is_short.LinesOfItems.{Kinds, kinds, outside, inside, a_note}
+use Rattle.gabc_write.proofs.dump_is_short.LinesOfItems.{Kinds, kinds, outside, inside, a_note, after_by, before_none, before_some, in_none, in_some}
+use Rattle.gabc_write.proofs.dump_is_short.LineOfGlyph.{found}
 
 -- ---- glyphs in their order
 
@@ -34,13 +32,7 @@ ascends_below low high (g ∷ gs) l h = (let a = h.0 in omega arith, h.1)
 
 -- the longest glyph has a note, and no more than there are
 pub longest_fits : (n : ℕ) (ns : List Note) (g : GlyphKind × ℕ) → longest_glyph n ns ≡ Some g → (0 < g.1) × (g.1 ≤ n)
-longest_fits zero ns g e = absurd (cc)
-longest_fits (suc n) ns g e = go (kind_by (take (suc n) ns)) e (λ f. longest_fits n ns g f)
-  where
-    go : (o : Option GlyphKind) → (elim o as (λ _. Option (GlyphKind × ℕ)) [ None ↦ longest_glyph n ns | Some kind ↦ Some (kind, suc n) ]) ≡ Some g
-        → (longest_glyph n ns ≡ Some g → (0 < g.1) × (g.1 ≤ n)) → (0 < g.1) × (g.1 ≤ suc n)
-    go None f F = let both = F f in let less = both.1 in (both.0, omega arith)
-    go (Some k) f F = let same : (k, suc n) ≡ g = cc in let last : suc n ≡ g.1 = ap (λ (x : GlyphKind × ℕ). x.1) same in (omega arith, omega arith)
+longest_fits n ns g e = let f = found n ns g.0 g.1 e in (omega arith, omega arith)
 
 within_ascends : (n from : ℕ) (ns : List Note) → Ascends from (glyphs_within n from ns)
 within_ascends zero from ns = tt
@@ -54,10 +46,7 @@ within_ascends (suc n) from ns = go (longest_glyph (length ns) ns) (λ g e. (lon
 -- before the first there is none
 none_at : (low index : ℕ) (gs : List Glyph) → Ascends low gs → index < low → line_of_glyph_at gs index ≡ []
 none_at low index [] h l = refl
-none_at low index (g ∷ gs) h l =
-    let a = h.0 in
-    let apart : (g.first == index) ≡ false = ne_eqb g.first index (λ e. omega arith) in
-    ap (λ (b : Bool). (if b then line_of_glyph g else []) ++ line_of_glyph_at gs index) apart ∙ none_at (g.first + 1) index gs h.1 (omega arith)
+none_at low index (g ∷ gs) h l = grind (arith, none_at (g.first + 1) index gs h.1 (omega arith), ne_eqb)
 
 -- a note begins a glyph
 pub some_glyph : ((notes : List Note) → AreGlyphsOf notes (glyphs_of notes)) → (n : Note) (ns : List Note) → longest_glyph (length (n ∷ ns)) (n ∷ ns) ≡ None → ⊥
@@ -85,10 +74,7 @@ below_push high (f ∷ gs) g l h = (h.0, below_push high gs g l h.1)
 -- so none of them begins there
 later_line : (index : ℕ) (gs rest : List Glyph) → Below index gs → line_of_glyph_at (gs ++ rest) index ≡ line_of_glyph_at rest index
 later_line index [] rest h = refl
-later_line index (g ∷ gs) rest h =
-    let b = h.0 in
-    let apart : (g.first == index) ≡ false = ne_eqb g.first index (λ e. omega arith) in
-    ap (λ (x : Bool). (if x then line_of_glyph g else []) ++ line_of_glyph_at (gs ++ rest) index) apart ∙ later_line index gs rest h.1
+later_line index (g ∷ gs) rest h = grind (arith, later_line index gs rest h.1, ne_eqb)
 
 -- Between notes of a segment: of its glyphs those are written that begin before, and of the last of them n notes are to come.
 pub record Cut (done ahead : List Note) (left : ℕ) : Type 0 where
@@ -185,29 +171,6 @@ at_note law done ahead n zero c = go (longest_glyph (length (n ∷ ahead)) (n �
           after = subst (λ (o : Option (GlyphKind × ℕ)). Cut (done ++ n ∷ []) ahead (left_after zero o)) (sym e) b.1;
         }
 
--- ---- the notes before an item and after it
-
--- an item of a segment more before
-before_more : (kept : List ℕ) (before : List Item) (i : Item) → is_in_segment i ≡ true → notes_before kept (i ∷ before) ≡ notes_before kept before ++ notes_in kept (i ∷ [])
-before_more kept before i e =
-    let run : List Item = take_while is_in_segment before in
-    let more : take_while is_in_segment (i ∷ before) ≡ i ∷ run = take_while-cons is_in_segment i before ∙ ap (λ (b : Bool). cond b (i ∷ run) []) e in
-    ap (λ (x : List Item). notes_in kept (reverse x)) more
-    ∙ (ap (notes_in kept) (reverse-append (i ∷ []) run)
-    ∙ filter_map-append (note_in kept) (reverse run) (i ∷ []))
-
-before_none : (kept : List ℕ) (before : List Item) (i : Item) → is_in_segment i ≡ false → notes_before kept (i ∷ before) ≡ []
-before_none kept before i e =
-    ap (λ (x : List Item). notes_in kept (reverse x)) (take_while-cons is_in_segment i before ∙ ap (λ (b : Bool). cond b (i ∷ take_while is_in_segment before) []) e)
-
-after_more : (kept : List ℕ) (items : List Item) (i : Item) → is_in_segment i ≡ true → notes_after kept (i ∷ items) ≡ notes_in kept (i ∷ []) ++ notes_after kept items
-after_more kept items i e =
-    let run : List Item = take_while is_in_segment items in
-    ap (notes_in kept) (take_while-cons is_in_segment i items ∙ ap (λ (b : Bool). cond b (i ∷ run) []) e) ∙ filter_map-append (note_in kept) (i ∷ []) run
-
-after_none : (kept : List ℕ) (items : List Item) (i : Item) → is_in_segment i ≡ false → notes_after kept (i ∷ items) ≡ []
-after_none kept items i e = ap (notes_in kept) (take_while-cons is_in_segment i items ∙ ap (λ (b : Bool). cond b (i ∷ take_while is_in_segment items) []) e)
-
 -- ---- where the writer stands
 
 -- Between what is before and the items.
@@ -227,7 +190,7 @@ record AtItem (kept : List ℕ) (before items : List Item) (i : Item) (left : �
 at_item : ((notes : List Note) → AreGlyphsOf notes (glyphs_of notes)) → (kept : List ℕ) (before items : List Item) (i : Item) (left : ℕ)
     → Cut (notes_before kept before) (notes_after kept (i ∷ items)) left → Kinds i.kind i.span (bytes_of kept i) → AtItem kept before items i left
 at_item law kept before items i left c (outside e f g) =
-    let none : notes_after kept (i ∷ items) ≡ [] = after_none kept items i e in
+    let none : notes_after kept (i ∷ items) ≡ [] = after_by kept i items false e in
     let size = ap (length {A = Note}) none in
     let fits = c.fits in
     let zero_left : left ≡ 0 = omega arith in
@@ -235,23 +198,21 @@ at_item law kept before items i left c (outside e f g) =
     record {
       line = rw f refl;
       after = rw f (subst (Cut (notes_before kept (i ∷ before)) (notes_after kept items)) (sym zero_left)
-          (subst (λ (ns : List Note). Cut ns (notes_after kept items) 0) (sym (before_none kept before i e)) fresh));
+          (subst (λ (ns : List Note). Cut ns (notes_after kept items) 0) (sym (before_none kept i before e)) fresh));
     }
 at_item law kept before items i left c (inside e f g) =
-    let one : notes_in kept (i ∷ []) ≡ [] = rw g refl in
-    let same_after : notes_after kept (i ∷ items) ≡ notes_after kept items = after_more kept items i e ∙ ap (λ (x : List Note). x ++ notes_after kept items) one in
+    let same_after : notes_after kept (i ∷ items) ≡ notes_after kept items = after_by kept i items true e ∙ in_none kept i (take_while is_in_segment items) g in
     let same_before : notes_before kept (i ∷ before) ≡ notes_before kept before =
-    before_more kept before i e ∙ (ap (λ (x : List Note). notes_before kept before ++ x) one ∙ append-nil (notes_before kept before)) in
+    before_some kept i before e ∙ (ap (λ (x : List Note). notes_before kept before ++ x) (in_none kept i [] g) ∙ append-nil (notes_before kept before)) in
     record {
       line = rw f refl;
       after = rw f (subst (λ (ns : List Note). Cut ns (notes_after kept items) left) (sym same_before) (subst (λ (ns : List Note). Cut (notes_before kept before) ns left) same_after c));
     }
 at_item law kept before items i left c (a_note n e f g s l) =
-    let one : notes_in kept (i ∷ []) ≡ n ∷ [] = rw g refl in
     let nb : List Note = notes_before kept before in
     let na : List Note = notes_after kept items in
-    let more_after : notes_after kept (i ∷ items) ≡ n ∷ na = after_more kept items i e ∙ ap (λ (x : List Note). x ++ na) one in
-    let more_before : notes_before kept (i ∷ before) ≡ nb ++ n ∷ [] = before_more kept before i e ∙ ap (λ (x : List Note). nb ++ x) one in
+    let more_after : notes_after kept (i ∷ items) ≡ n ∷ na = after_by kept i items true e ∙ in_some kept i (take_while is_in_segment items) n g in
+    let more_before : notes_before kept (i ∷ before) ≡ nb ++ n ∷ [] = before_some kept i before e ∙ ap (λ (x : List Note). nb ++ x) (in_some kept i [] n g) in
     let at = at_note law nb na n left (subst (λ (ns : List Note). Cut nb ns left) more_after c) in
     let found : longest_glyph (length (n ∷ na)) (n ∷ na) ≡ glyph_at kept (i ∷ items) = ap (λ (ns : List Note). longest_glyph (length ns) ns) (sym more_after) in
     record {
@@ -297,11 +258,7 @@ steps_reversed kept (i ∷ items) =
 
 -- where none is to come, all are passed
 pub all_passed : (outset : InForce) (kept : List ℕ) (before items : List Item) → items ≡ reverse before ++ [] → in_force_at outset kept before ≡ passed outset (map (step_of kept) items)
-all_passed outset kept before items e =
-    let back : reverse (map (step_of kept) items) ≡ map (step_of kept) before =
-    ap (λ (l : List Item). reverse (map (step_of kept) l)) (e ∙ append-nil (reverse before))
-    ∙ (ap reverse (steps_reversed kept before) ∙ reverse-reverse (map (step_of kept) before)) in
-    ap (in_force_after outset) (sym back)
+all_passed outset kept before items e = grind (arith, append-nil, steps_reversed, reverse-reverse)
 
 -- an item more is passed
 pub one_more : (before items : List Item) (i : Item) → reverse before ++ i ∷ items ≡ reverse (i ∷ before) ++ items

@@ -1,5 +1,5 @@
 -- The lines of a snippet that is one small pitch.
-use Rattle.std.proofs.Common.{◌≡◌, ℕ, ◌+◌, ◌-◌, ◌≤◌, ◌<◌, List, [], ◌∷◌, ◌++◌, codes, refl, sym, ap, ◌∙◌, arith, map, get_or, append-nil}
+use Rattle.std.proofs.Common.{◌≡◌, ℕ, ◌-◌, ◌≤◌, List, [], ◌∷◌, ◌++◌, codes, refl, sym, ap, ◌∙◌, arith, map, append-nil}
 use Rattle.std.specs.Fmt.{digits}
 use Rattle.std.specs.Str.{chars}
 use Rattle.std.specs.List.{range_with_len}
@@ -19,11 +19,7 @@ pitches = range_with_len 97 14
 
 -- two functions that are one on each of them are one on any of them
 pub by_each : {X : Type 0} (f g : ℕ → X) → map f pitches ≡ map g pitches → (p : ℕ) → 97 ≤ p → p ≤ 110 → f p ≡ g p
-by_each f g e p low high =
-    let inside : p - 97 < 14 = omega arith in
-    let there : 97 + (p - 97) ≡ p = omega arith in
-    sym (get_or-map-range_with_len f 97 14 (p - 97) p (f p) inside there)
-    ∙ (ap (λ l. get_or l (p - 97) (f p)) e ∙ get_or-map-range_with_len g 97 14 (p - 97) p (f p) inside there)
+by_each f g e p low high = grind (arith, get_or-map-range_with_len)
 
 -- ---- its item
 

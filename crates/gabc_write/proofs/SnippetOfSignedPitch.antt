@@ -1,5 +1,5 @@
 -- The lines of a snippet that is one small pitch with a sign after it.
-use Rattle.std.proofs.Common.{◌≡◌, ℕ, ◌-◌, ◌≤◌, List, [], ◌∷◌, ◌++◌, true, codes, refl, sym, ap, ◌∙◌, map, append-nil}
+use Rattle.std.proofs.Common.{◌≡◌, ℕ, ◌-◌, ◌≤◌, List, [], ◌∷◌, ◌++◌, true, codes, refl, ap, ◌∙◌, map, append-nil, arith}
 use Rattle.std.specs.Fmt.{digits}
 use Rattle.std.specs.Str.{chars}
 use lib.Utf8.{encode}
@@ -64,5 +64,4 @@ signed_has_its_lines force s p h low high =
 
 pub kept_has_its_lines : (force : InForce) (sound : Sound) (s p : ℕ) (kept : List ℕ) → kept ≡ p ∷ s ∷ [] → is_in s (codes "._'") ≡ true → 97 ≤ p → p ≤ 110
     → sound ≡ sound_of force (p - 97) → lines_of_signed sound p s ≡ lines_of_notes force kept
-kept_has_its_lines force sound s p kept e h low high same =
-    ap (λ (x : Sound). lines_of_signed x p s) same ∙ (sym (signed_has_its_lines force s p h low high) ∙ ap (lines_of_notes force) (sym e))
+kept_has_its_lines force sound s p kept e h low high same = grind (arith, signed_has_its_lines)

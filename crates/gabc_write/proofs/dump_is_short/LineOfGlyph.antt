@@ -1,10 +1,8 @@
 -- The lines of the glyphs of a segment are short: of notes with b bytes in all, at most 19 * b.
-use Rattle.std.proofs.Common.{◌≡◌, ℕ, zero, suc, ◌+◌, ◌*◌, ◌≤◌, ◌<◌, ◌^◌, ◌-◌, ◌&&◌, inl, inr, nat_le, min, List, [], ◌∷◌, ◌++◌, Bool, true, Option, Some, None, length, length-append, take, drop, codes, arith, refl, ap, ◌∙◌, subst}
-use Rattle.std.specs.Fmt.{decimal}
+use Rattle.std.proofs.Common.{◌≡◌, ℕ, zero, suc, ◌+◌, ◌*◌, ◌≤◌, ◌<◌, ◌^◌, ◌-◌, ◌&&◌, inl, inr, nat_le, min, List, [], ◌∷◌, Bool, true, Option, Some, None, length, length-append, take, drop, arith, refl, ap, ◌∙◌, subst}
 use Rattle.std.proofs.lemmas.Fmt.{length-decimal-le_succ}
 use Rattle.gabc_notes.specs.declared.note.Note.{Note}
 use Rattle.gabc_notes.specs.declared.note.Shape.{Shape}
-use Rattle.gabc_notes.specs.declared.note.Shape.TheVariants as shape
 use Rattle.gabc_neumes.specs.Cut.{kind_by, longest_glyph}
 use Rattle.gabc_neumes.specs.Letters.{letters, shape_letter}
 use Rattle.gabc_neumes.specs.Table.{neumes}
@@ -51,9 +49,7 @@ are_short (row ∷ rows) = nat_le (length (kind_word row.0)) (9 * least row.1 + 
 word_by_rows : (rows : Table GlyphKind) (k : GlyphKind) (t : List ℕ) → are_short rows ≡ true → IsItemOf rows k t → length (kind_word k) ≤ 9 * length t + 9
 unfolding are_short
 word_by_rows [] k t e i = absurd i
-word_by_rows (row ∷ rows) k t e (inl (same, s)) =
-    let short = leb-true (length (kind_word row.0)) (9 * least row.1 + 9) (and_parts _ _ e).0 in
-    omega (arith, short, least_of row.1 t s, ap (λ (x : GlyphKind). length (kind_word x)) same)
+word_by_rows (row ∷ rows) k t e (inl (same, s)) = grind (arith, leb-true, and_parts, least_of)
 word_by_rows (row ∷ rows) k t e (inr i) = word_by_rows rows k t (and_parts _ _ e).1 i
 
 all_short : are_short neumes ≡ true
@@ -68,8 +64,7 @@ fits (Some k) n = nat_le (length (kind_word k)) n
 
 one_fits : (s : Shape) → fits (end_kind (rows_run neumes (shape_letter s ∷ []))) (length (shape_word s)) ≡ true
 unfolding fits
-one_fits shape.Punctum = refl
-one_fits _ = refl
+one_fits s = grind arith
 
 one_short : (s : Shape) (k : GlyphKind) → end_kind (rows_run neumes (shape_letter s ∷ [])) ≡ Some k → length (kind_word k) ≤ length (shape_word s)
 unfolding fits
@@ -120,14 +115,7 @@ word_short n (m ∷ ns) k e h =
 
 pub line_short : (n : Note) (ns : List Note) (k : GlyphKind) (first : ℕ) → kind_by (n ∷ ns) ≡ Some k → AreSized (n ∷ ns) → length ns + 1 < 2 ^ 64
     → length (line_of_glyph (record { kind = k; first = first; count = length ns + 1 })) ≤ 20 * sizes_of (n ∷ ns)
-line_short n ns k first e h l =
-    omega (
-      arith,
-      length-append (kind_word k) (codes " " ++ (decimal (length ns + 1) ++ codes "\n")),
-      length-append (decimal (length ns + 1)) (codes "\n"),
-      length-decimal-le_succ (length ns + 1) l,
-      word_short n ns k e h,
-    )
+line_short n ns k first e h l = grind (arith, length-append, length-decimal-le_succ, word_short)
 
 -- ---- the lines of the glyphs of a segment
 

@@ -1,37 +1,26 @@
 -- The line of an item is short: an item of b bytes has a line of at most 33 * b.
-use Rattle.std.proofs.Common.{ℕ, ◌+◌, ◌*◌, ◌≤◌, ◌==◌, ◌-◌, List, [], ◌∷◌, ◌++◌, Bool, true, false, length, length-append, length-take, length-drop, drop, codes, Option, Some, None, arith, if◌then◌else◌}
-use Rattle.gabc_notes.specs.Notes.{begins_with, is_capital, from_pitch, height_at, shape_at}
+use Rattle.std.proofs.Common.{ℕ, ◌+◌, ◌*◌, ◌≤◌, ◌-◌, List, [], ◌∷◌, ◌++◌, length, length-append, length-take, length-drop, drop, codes, Option, arith}
+use Rattle.gabc_notes.specs.Notes.{from_pitch, height_at, shape_at}
 use Rattle.gabc_notes.specs.declared.item.ItemKind.{ItemKind}
 use Rattle.gabc_notes.specs.declared.item.ItemKind.TheVariants as kind
 use Rattle.gabc_notes.specs.declared.note.Shape.{Shape}
-use Rattle.gabc_notes.specs.declared.note.Shape.TheVariants as shape
-use Rattle.gabc_neumes.specs.InForce.{InForce, is_virgula, sound_of}
+use Rattle.gabc_neumes.specs.InForce.{InForce, sound_of}
 use Rattle.gabc_neumes.specs.Sound.{sign_of}
 use Rattle.gabc_neumes.specs.Words.{shape_word, alter_word}
 use Rattle.gabc_neumes.specs.declared.sound.Alter.{Alter}
-use Rattle.gabc_neumes.specs.declared.sound.Alter.TheVariants as alter
 use Rattle.gabc_neumes.specs.declared.sound.Sound.{Sound}
 use Rattle.gabc_write.specs.DumpLines.{escaped}
-use Rattle.gabc_write.specs.DumpOfNotes.{last_text, pitch_letter, degree_word, sound_words, line_of_note, bar_word, is_blank_run, line_of_spacing, line_of_custos, raw_of, line_by}
+use Rattle.gabc_write.specs.DumpOfNotes.{last_text, degree_word, sound_words, line_of_note, bar_word, line_of_spacing, line_of_custos, raw_of, line_by}
 use Rattle.gabc_write.proofs.DumpOfHeadersIsShort.{escaped_short}
 
 -- ---- words
 
 word_short : (s : Shape) → length (shape_word s) ≤ 18
-word_short shape.Punctum = omega arith
-word_short _ = omega arith
+word_short s = grind arith
 
 -- a note of one character is a punctum or an inclinatum
 one_character : (c : ℕ) → length (shape_word (shape_at (from_pitch (c ∷ [])))) ≤ 10
-one_character c = by (c == 45)
-  where
-    capital : (b : Bool) → length (shape_word (if b then shape.Inclinatum else shape.Punctum)) ≤ 10
-    capital true = omega arith
-    capital false = omega arith
-
-    by : (b : Bool) → length (shape_word (shape_at (if b then [] else c ∷ []))) ≤ 10
-    by true = omega arith
-    by false = capital (is_capital c)
+one_character c = grind arith
 
 -- the word of a note's shape, by the number of its bytes
 pub shape_short : (t : List ℕ) (b : ℕ) → length t ≤ b → 1 ≤ b → length (shape_word (shape_at (from_pitch t))) ≤ 10 * b
@@ -45,50 +34,25 @@ pub last_short : (t : List ℕ) → length (last_text t) ≤ 2 * length t + 1
 last_short t = omega (arith, length-append (escaped t) (codes "\n"), escaped_short t)
 
 alter_short : (a : Alter) → length (alter_word a) ≤ 7
-alter_short alter.None = omega arith
-alter_short _ = omega arith
+alter_short a = grind arith
 
 degree_short : (degree : Option ℕ) → length (degree_word degree) ≤ 3
-degree_short None = omega arith
-degree_short (Some degree) = by (degree == 0) (degree == 1) (degree == 2) (degree == 3) (degree == 4) (degree == 5)
-  where
-    by : (a b c d e f : Bool) → length (if a then codes "ut" else if b then codes "re" else if c then codes "mi" else if d then codes "fa" else if e then codes "sol" else if f then codes "la" else codes "si") ≤ 3
-    by a b c d e f = grind arith
+degree_short degree = grind arith
 
 sound_short : (s : Sound) → length (sound_words s) ≤ 12
 sound_short s = omega (arith, length-append (degree_word s.degree) (codes " " ++ alter_word s.alter), degree_short s.degree, alter_short s.alter)
 
 note_short : (s : Sound) (t : List ℕ) (b : ℕ) → length t ≤ b → 1 ≤ b → length (line_of_note s t) ≤ 33 * b
-note_short s t b l m =
-    let word = shape_word (shape_at (from_pitch t)) in
-    omega (
-      arith,
-      length-append word (sound_words s ++ (codes " " ++ last_text t)),
-      length-append (sound_words s) (codes " " ++ last_text t),
-      sound_short s,
-      last_short t,
-      shape_short t b l m,
-    )
+note_short s t b l m = grind (arith, length-append, sound_short, last_short, shape_short)
 
 bar_short : (t : List ℕ) → length (bar_word t) ≤ 7
-bar_short t = by (is_virgula t) (begins_with (codes "^") t) (begins_with (codes ",") t) (begins_with (codes ";") t) (begins_with (codes "::") t)
-  where
-    by : (a b c d e : Bool) → length (if a then codes "virgula" else if b then codes "minimis" else if c then codes "minima" else if d then codes "minor" else if e then codes "finalis" else codes "maior") ≤ 7
-    by a b c d e = grind arith
+bar_short t = grind arith
 
 spacing_short : (t : List ℕ) → length (line_of_spacing t) ≤ 2 * length t + 12
-spacing_short t = by (is_blank_run t)
-  where
-    by : (b : Bool) → length (codes "space " ++ (if b then codes "blank\n" else last_text t)) ≤ 2 * length t + 12
-    by true = omega arith
-    by false = omega (arith, last_short t)
+spacing_short t = grind (arith, last_short)
 
 custos_short : (t : List ℕ) → length (line_of_custos t) ≤ 12
-custos_short t = by (begins_with (codes "z") t)
-  where
-    by : (b : Bool) → length (codes "custos " ++ (if b then codes "auto\n" else pitch_letter (height_at t) ∷ codes "\n")) ≤ 12
-    by true = omega arith
-    by false = omega arith
+custos_short t = grind arith
 
 raw_short : (t : List ℕ) → length (raw_of t) ≤ length t
 raw_short t = omega (arith, length-take (length t - 1 - 1) (drop 1 t), length-drop 1 t)

@@ -1,5 +1,5 @@
 -- The lines of the glyphs of a segment are short: of notes with b bytes in all, at most 20 * b; and each is written once.
-use Rattle.std.proofs.Common.{◌≡◌, ℕ, zero, suc, ◌+◌, ◌*◌, ◌≤◌, ◌<◌, ◌^◌, ◌==◌, List, [], ◌∷◌, Bool, true, false, Option, Some, None, length, length-append, length-take, take, drop, arith, refl, subst, if◌then◌else◌}
+use Rattle.std.proofs.Common.{◌≡◌, ℕ, zero, suc, ◌+◌, ◌*◌, ◌≤◌, ◌<◌, ◌^◌, ◌==◌, List, [], ◌∷◌, Option, Some, None, length, length-append, length-take, take, drop, arith, refl, subst, if◌then◌else◌}
 use Rattle.std.proofs.lemmas.Bool.{eqb-true}
 use Rattle.gabc_notes.specs.declared.note.Note.{Note}
 use Rattle.gabc_neumes.specs.Cut.{kind_by, longest_glyph, glyphs_within, glyphs_of}
@@ -12,13 +12,12 @@ use Rattle.gabc_write.proofs.dump_is_short.LineOfGlyph.{sizes_of, AreSized, take
 
 first_short : (ns : List Note) (k : GlyphKind) (m first : ℕ) → 1 ≤ m → m ≤ length ns → kind_by (take m ns) ≡ Some k → AreSized ns → sizes_of ns < 2 ^ 64
     → length (line_of_glyph (record { kind = k; first = first; count = m })) ≤ 20 * sizes_of (take m ns)
-first_short [] k m first some within e h l = absurd (omega arith)
-first_short (n ∷ ns) k zero first some within e h l = absurd (omega arith)
 first_short (n ∷ ns) k (suc m) first some within e h l =
     let count : length (take m ns) + 1 ≡ suc m = omega (arith, length-take m ns) in
     let sized : AreSized (n ∷ take m ns) = taken (suc m) (n ∷ ns) h in
     let small : length (take m ns) + 1 < 2 ^ 64 = omega (arith, few (n ∷ ns) h, length-take m ns) in
     subst (λ (x : ℕ). length (line_of_glyph (record { kind = k; first = first; count = x })) ≤ 20 * sizes_of (n ∷ take m ns)) count (line_short n (take m ns) k first e sized small)
+first_short _ k _ first some within e h l = absurd (omega arith)
 
 cut_short : (n from : ℕ) (ns : List Note) → AreSized ns → sizes_of ns < 2 ^ 64 → lines_in (glyphs_within n from ns) ≤ 20 * sizes_of ns
 cut_short zero from ns h l = omega arith
@@ -54,19 +53,11 @@ ones_at g e (suc n) = one_at g e + ones_at g (e + 1) n
 
 none_after : (g : Glyph) (e n : ℕ) → g.first < e → ones_at g e n ≡ 0
 none_after g e zero l = refl
-none_after g e (suc n) l = omega (arith, by (g.first == e) refl, none_after g (e + 1) n (omega arith))
-  where
-    by : (b : Bool) → (g.first == e) ≡ b → length (if b then line_of_glyph g else []) ≡ 0
-    by true f = absurd (omega (arith, eqb-true g.first e f))
-    by false f = refl
+none_after g e (suc n) l = grind (arith, none_after g (e + 1) n (omega arith), eqb-true)
 
 once : (g : Glyph) (e n : ℕ) → ones_at g e n ≤ length (line_of_glyph g)
 once g e zero = omega arith
-once g e (suc n) = by (g.first == e) refl (once g (e + 1) n)
-  where
-    by : (b : Bool) → (g.first == e) ≡ b → ones_at g (e + 1) n ≤ length (line_of_glyph g) → length (if b then line_of_glyph g else []) + ones_at g (e + 1) n ≤ length (line_of_glyph g)
-    by true f later = omega (arith, none_after g (e + 1) n (omega (arith, eqb-true g.first e f)))
-    by false f later = omega (arith, later)
+once g e (suc n) = grind (arith, once g (e + 1) n, none_after, eqb-true)
 
 one_more : (g : Glyph) (gs : List Glyph) (e n : ℕ) → lines_at (g ∷ gs) e n ≡ ones_at g e n + lines_at gs e n
 one_more g gs e zero = refl

@@ -1,5 +1,5 @@
 -- The lines of items are short: of items with b bytes in all, at most 61 * b.
-use Rattle.std.proofs.Common.{◌≡◌, ℕ, zero, suc, ◌+◌, ◌*◌, ◌-◌, ◌≤◌, ◌<◌, ◌^◌, ◌&&◌, List, [], ◌∷◌, ◌++◌, Bool, true, false, not, cond, Some, None, length, length-append, length-take, take, drop, reverse, codes, arith, refl, sym, ap, ◌∙◌, subst, append_assoc, append-nil, if◌then◌else◌}
+use Rattle.std.proofs.Common.{◌≡◌, ℕ, zero, suc, ◌+◌, ◌*◌, ◌-◌, ◌≤◌, ◌<◌, ◌^◌, List, [], ◌∷◌, ◌++◌, Bool, true, false, cond, Some, None, length, length-append, length-take, take, drop, reverse, arith, refl, sym, ap, ◌∙◌, append_assoc, append-nil, if◌then◌else◌}
 use Rattle.std.specs.List.{prefix_len, take_while}
 use Rattle.std.proofs.lemmas.List.{reverse-append}
 use Rattle.std.proofs.lemmas.List.Elements.{filter_map-append}
@@ -12,10 +12,10 @@ use Rattle.gabc_notes.specs.declared.item.ItemKind.{ItemKind}
 use Rattle.gabc_notes.specs.declared.item.ItemKind.TheVariants as kind
 use Rattle.gabc_notes.specs.declared.note.Note.{Note}
 use Rattle.gabc_neumes.specs.Cut.{glyphs_of}
-use Rattle.gabc_neumes.specs.Elements.{joins_segment, is_in_element, is_in_segment, notes_in}
+use Rattle.gabc_neumes.specs.Elements.{joins_segment, is_in_segment, notes_in}
 use Rattle.gabc_neumes.specs.InForce.{InForce}
 use Rattle.gabc_neumes.specs.Words.{shape_word}
-use Rattle.gabc_write.specs.DumpOfNotes.{line_of_item, is_after_element, element_line, line_of_glyph_at, notes_before, notes_after, line_of_first_glyph, is_note, glyph_line, in_force_at, lines_after}
+use Rattle.gabc_write.specs.DumpOfNotes.{line_of_item, element_line, line_of_glyph_at, notes_before, notes_after, line_of_first_glyph, is_note, glyph_line, in_force_at, lines_after}
 use Rattle.gabc_write.proofs.dump_is_short.LineOfItem.{shape_short, line_short}
 use Rattle.gabc_write.proofs.dump_is_short.LineOfGlyph.{size_of, sizes_of, AreSized}
 use Rattle.gabc_write.proofs.dump_is_short.LinesOfGlyphs.{glyphs_short, lines_at, at_most_once}
@@ -47,57 +47,41 @@ kinds kind.Attribute s t = inside refl refl refl
 kinds kind.Fusion s t = inside refl refl refl
 kinds _ s t = outside refl refl refl
 
-module _ (outset : InForce) (kept : List ℕ) where
-  in_none : (i : Item) (is : List Item) → note_in kept i ≡ None → notes_in kept (i ∷ is) ≡ notes_in kept is
+-- an item more after a place, or before it
+module _ (kept : List ℕ) where
+  pub in_none : (i : Item) (is : List Item) → note_in kept i ≡ None → notes_in kept (i ∷ is) ≡ notes_in kept is
   in_none i is e = rw (e) refl
 
-  in_some : (i : Item) (is : List Item) (n : Note) → note_in kept i ≡ Some n → notes_in kept (i ∷ is) ≡ n ∷ notes_in kept is
+  pub in_some : (i : Item) (is : List Item) (n : Note) → note_in kept i ≡ Some n → notes_in kept (i ∷ is) ≡ n ∷ notes_in kept is
   in_some i is n e = rw (e) refl
 
-  after_none : (i : Item) (is : List Item) → is_in_segment i ≡ false → notes_after kept (i ∷ is) ≡ []
-  after_none i is e = ap (λ (x : List Item). notes_in kept x) (take_while-cons is_in_segment i is ∙ ap (λ b. cond b (i ∷ take_while is_in_segment is) []) e)
+  pub after_by : (i : Item) (is : List Item) (b : Bool) → is_in_segment i ≡ b → notes_after kept (i ∷ is) ≡ notes_in kept (cond b (i ∷ take_while is_in_segment is) [])
+  after_by i is b e = ap (λ (x : List Item). notes_in kept x) (take_while-cons is_in_segment i is ∙ ap (λ b. cond b (i ∷ take_while is_in_segment is) []) e)
 
-  after_some : (i : Item) (is : List Item) → is_in_segment i ≡ true → notes_after kept (i ∷ is) ≡ notes_in kept (i ∷ take_while is_in_segment is)
-  after_some i is e = ap (λ (x : List Item). notes_in kept x) (take_while-cons is_in_segment i is ∙ ap (λ b. cond b (i ∷ take_while is_in_segment is) []) e)
+  pub before_none : (i : Item) (before : List Item) → is_in_segment i ≡ false → notes_before kept (i ∷ before) ≡ []
+  before_none i before e = grind (arith, take_while-cons)
 
-  before_none : (i : Item) (before : List Item) → is_in_segment i ≡ false → notes_before kept (i ∷ before) ≡ []
-  before_none i before e =
-      ap (λ (x : List Item). notes_in kept (reverse x)) (take_while-cons is_in_segment i before ∙ ap (λ b. cond b (i ∷ take_while is_in_segment before) []) e)
-
-  before_some : (i : Item) (before : List Item) → is_in_segment i ≡ true → notes_before kept (i ∷ before) ≡ notes_before kept before ++ notes_in kept (i ∷ [])
+  pub before_some : (i : Item) (before : List Item) → is_in_segment i ≡ true → notes_before kept (i ∷ before) ≡ notes_before kept before ++ notes_in kept (i ∷ [])
   before_some i before e =
       ap (λ (x : List Item). notes_in kept (reverse x)) (take_while-cons is_in_segment i before ∙ ap (λ b. cond b (i ∷ take_while is_in_segment before) []) e)
       ∙ (ap (λ (x : List Item). notes_in kept x) (reverse-append (i ∷ []) (take_while is_in_segment before))
       ∙ filter_map-append (note_in kept) (reverse (take_while is_in_segment before)) (i ∷ []))
 
+module _ (outset : InForce) (kept : List ℕ) where
   -- ---- the notes of sized items are sized
 
   sized_note : (i : Item) → 1 ≤ item_size i → (n : Note) → note_in kept i ≡ Some n → n.span ≡ i.span
       → (length (bytes_of kept i) ≤ item_size i → 1 ≤ item_size i → length (shape_word n.shape) ≤ 10 * item_size i) → (1 ≤ size_of n) × (length (shape_word n.shape) ≤ 10 * size_of n)
-  sized_note i h n e s short =
-      let l : length (bytes_of kept i) ≤ item_size i = omega (arith, length-take (i.span.to - i.span.from) (drop i.span.from kept)) in
-      subst (λ (x : Span). (1 ≤ x.to - x.from) × (length (shape_word n.shape) ≤ 10 * (x.to - x.from))) (sym s) (h, short l h)
+  sized_note i h n e s short = grind (arith, length-take)
 
   notes_sized : (is : List Item) → HaveBytes is → AreSized (notes_in kept is) × (sizes_of (notes_in kept is) ≤ items_size is)
   notes_sized [] h = (tt, omega arith)
-  notes_sized (i ∷ is) (a, h) = by (kinds i.kind i.span (bytes_of kept i)) (notes_sized is h)
-    where
-      by : Kinds i.kind i.span (bytes_of kept i) → AreSized (notes_in kept is) × (sizes_of (notes_in kept is) ≤ items_size is)
-          → AreSized (notes_in kept (i ∷ is)) × (sizes_of (notes_in kept (i ∷ is)) ≤ items_size (i ∷ is))
-      by (outside j m e) (x, l) = rw (in_none i is e) (x, omega arith)
-      by (inside j m e) (x, l) = rw (in_none i is e) (x, omega arith)
-      by (a_note n j m e s short) (x, l) =
-          let size : size_of n ≡ item_size i = ap (λ (y : Span). y.to - y.from) s in
-          rw (in_some i is n e) ((sized_note i a n e s short, x), omega arith)
+  notes_sized (i ∷ is) (a, h) = grind (arith, notes_sized is h, kinds, in_none, in_some, sized_note)
 
   -- ---- the lines from a place on
 
   element_short : (before : List Item) (i : Item) → length (element_line kept before i) ≤ 8
-  element_short before i = by (is_in_element kept i && not (is_after_element kept before))
-    where
-      by : (b : Bool) → length (if b then codes "element\n" else []) ≤ 8
-      by true = omega arith
-      by false = omega arith
+  element_short before i = grind arith
 
   -- the lines of glyphs that are still to come in the segment of that place
   abbrev lines_left : List Item → List Item → ℕ
@@ -112,13 +96,7 @@ module _ (outset : InForce) (kept : List ℕ) where
   line_of : (before : List Item) (i : Item) (is : List Item)
       → length (lines_after outset kept before (i ∷ is))
       ≡ length (element_line kept before i) + (length (glyph_line kept before i is) + (length (line_of_item (in_force_at outset kept before) kept i) + length (lines_after outset kept (i ∷ before) is)))
-  line_of before i is =
-      omega (
-        arith,
-        length-append (element_line kept before i) (glyph_line kept before i is ++ (line_of_item (in_force_at outset kept before) kept i ++ lines_after outset kept (i ∷ before) is)),
-        length-append (glyph_line kept before i is) (line_of_item (in_force_at outset kept before) kept i ++ lines_after outset kept (i ∷ before) is),
-        length-append (line_of_item (in_force_at outset kept before) kept i) (lines_after outset kept (i ∷ before) is),
-      )
+  line_of before i is = grind (arith, length-append)
 
   item_line_short : (f : InForce) (i : Item) → 1 ≤ item_size i → length (line_of_item f kept i) ≤ 33 * item_size i
   item_line_short f i h = line_short f i.kind (bytes_of kept i) (item_size i) (omega (arith, length-take (i.span.to - i.span.from) (drop i.span.from kept))) h
@@ -132,9 +110,7 @@ module _ (outset : InForce) (kept : List ℕ) where
   -- in a segment that begins here, the glyphs' lines are short
   all_left : (before items : List Item) → notes_before kept before ≡ [] → AreSized (notes_after kept items) → sizes_of (notes_after kept items) < 2 ^ 64
       → lines_left before items ≤ 20 * sizes_of (notes_after kept items)
-  all_left before items e h l =
-      subst (λ (x : List Note). lines_at (glyphs_of (x ++ notes_after kept items)) (length x) (length (notes_after kept items)) ≤ 20 * sizes_of (notes_after kept items)) (sym e)
-      (omega (arith, at_most_once (glyphs_of (notes_after kept items)) 0 (length (notes_after kept items)), glyphs_short (notes_after kept items) h l))
+  all_left before items e h l = grind (arith, at_most_once, glyphs_short)
 
   taken : (m : ℕ) (is : List Item) → HaveBytes is → HaveBytes (take m is) × (items_size (take m is) ≤ items_size is)
   taken zero is h = (tt, omega arith)
@@ -155,9 +131,9 @@ module _ (outset : InForce) (kept : List ℕ) where
   outside_step before i is (a, h) l j m e later =
       let s = after_sized is h in
       let few = s.1 in
-      let left = all_left (i ∷ before) is (before_none i before j) s.0 (omega arith) in
-      let now : sizes_of (notes_after kept (i ∷ is)) ≡ 0 = ap sizes_of (after_none i is j) in
-      let same : sizes_of (notes_in kept (i ∷ is)) ≡ sizes_of (notes_in kept is) = ap sizes_of (in_none i is e) in
+      let left = all_left (i ∷ before) is (before_none kept i before j) s.0 (omega arith) in
+      let now : sizes_of (notes_after kept (i ∷ is)) ≡ 0 = ap sizes_of (after_by kept i is false j) in
+      let same : sizes_of (notes_in kept (i ∷ is)) ≡ sizes_of (notes_in kept is) = ap sizes_of (in_none kept i is e) in
       omega (arith, line_of before i is, element_short before i, no_glyph before i is m, item_line_short (in_force_at outset kept before) i a, left, now, same, later)
 
   -- the glyphs that are left, by the notes before a place and those after it
@@ -167,23 +143,18 @@ module _ (outset : InForce) (kept : List ℕ) where
   inside_step : (before : List Item) (i : Item) (is : List Item) → HaveBytes (i ∷ is)
       → is_in_segment i ≡ true → is_note i.kind ≡ false → note_in kept i ≡ None → IsBounded (i ∷ before) is → IsBounded before (i ∷ is)
   inside_step before i is (a, h) j m e later =
-      let after : notes_after kept (i ∷ is) ≡ notes_after kept is = after_some i is j ∙ in_none i (take_while is_in_segment is) e in
+      let after : notes_after kept (i ∷ is) ≡ notes_after kept is = after_by kept i is true j ∙ in_none kept i (take_while is_in_segment is) e in
       let front : notes_before kept (i ∷ before) ≡ notes_before kept before =
-      before_some i before j ∙ (ap (λ (x : List Note). notes_before kept before ++ x) (in_none i [] e) ∙ append-nil (notes_before kept before)) in
+      before_some kept i before j ∙ (ap (λ (x : List Note). notes_before kept before ++ x) (in_none kept i [] e) ∙ append-nil (notes_before kept before)) in
       let now : sizes_of (notes_after kept (i ∷ is)) ≡ sizes_of (notes_after kept is) = ap sizes_of after in
-      let same : sizes_of (notes_in kept (i ∷ is)) ≡ sizes_of (notes_in kept is) = ap sizes_of (in_none i is e) in
+      let same : sizes_of (notes_in kept (i ∷ is)) ≡ sizes_of (notes_in kept is) = ap sizes_of (in_none kept i is e) in
       let left : lines_left before (i ∷ is) ≡ lines_left (i ∷ before) is =
       ap (λ (y : List Note). left_by (notes_before kept before) y) after ∙ ap (λ (x : List Note). left_by x (notes_after kept is)) (sym front) in
       omega (arith, line_of before i is, element_short before i, no_glyph before i is m, item_line_short (in_force_at outset kept before) i a, left, now, same, later)
 
   -- the first of the notes after a place has its glyph's line there
   first_left : (x : List Note) (n : Note) (y : List Note) → left_by x (n ∷ y) ≡ length (line_of_glyph_at (glyphs_of (x ++ n ∷ y)) (length x)) + left_by (x ++ n ∷ []) y
-  first_left x n y =
-      let all : (x ++ n ∷ []) ++ y ≡ x ++ n ∷ y = append_assoc x (n ∷ []) y in
-      let count : length (x ++ n ∷ []) ≡ length x + 1 = length-append x (n ∷ []) in
-      let next : left_by (x ++ n ∷ []) y ≡ lines_at (glyphs_of (x ++ n ∷ y)) (length x + 1) (length y) =
-      ap (λ (z : List Note). lines_at (glyphs_of z) (length (x ++ n ∷ [])) (length y)) all ∙ ap (λ m. lines_at (glyphs_of (x ++ n ∷ y)) m (length y)) count in
-      omega (arith, next)
+  first_left x n y = grind (arith, append_assoc, length-append)
 
   note_step : (before : List Item) (i : Item) (is : List Item) (n : Note) → HaveBytes (i ∷ is)
       → is_in_segment i ≡ true → is_note i.kind ≡ true → note_in kept i ≡ Some n → n.span ≡ i.span → IsBounded (i ∷ before) is → IsBounded before (i ∷ is)
@@ -191,10 +162,10 @@ module _ (outset : InForce) (kept : List ℕ) where
       let x = notes_before kept before in
       let y = notes_after kept is in
       let size : size_of n ≡ item_size i = ap (λ (z : Span). z.to - z.from) s in
-      let after : notes_after kept (i ∷ is) ≡ n ∷ y = after_some i is j ∙ in_some i (take_while is_in_segment is) n e in
-      let front : notes_before kept (i ∷ before) ≡ x ++ n ∷ [] = before_some i before j ∙ ap (λ (z : List Note). x ++ z) (in_some i [] n e) in
+      let after : notes_after kept (i ∷ is) ≡ n ∷ y = after_by kept i is true j ∙ in_some kept i (take_while is_in_segment is) n e in
+      let front : notes_before kept (i ∷ before) ≡ x ++ n ∷ [] = before_some kept i before j ∙ ap (λ (z : List Note). x ++ z) (in_some kept i [] n e) in
       let now : sizes_of (notes_after kept (i ∷ is)) ≡ size_of n + sizes_of y = ap sizes_of after in
-      let same : sizes_of (notes_in kept (i ∷ is)) ≡ size_of n + sizes_of (notes_in kept is) = ap sizes_of (in_some i is n e) in
+      let same : sizes_of (notes_in kept (i ∷ is)) ≡ size_of n + sizes_of (notes_in kept is) = ap sizes_of (in_some kept i is n e) in
       let here : lines_left before (i ∷ is) ≡ left_by x (n ∷ y) = ap (λ (z : List Note). left_by x z) after in
       let next : lines_left (i ∷ before) is ≡ left_by (x ++ n ∷ []) y = ap (λ (z : List Note). left_by z y) front in
       let glyph : length (glyph_line kept before i is) ≡ length (line_of_glyph_at (glyphs_of (x ++ n ∷ y)) (length x)) =
@@ -203,12 +174,7 @@ module _ (outset : InForce) (kept : List ℕ) where
 
   bounded : (before items : List Item) → HaveBytes items → items_size items < 2 ^ 64 → IsBounded before items
   bounded before [] h l = omega arith
-  bounded before (i ∷ is) (a, h) l = by (kinds i.kind i.span (bytes_of kept i)) (bounded (i ∷ before) is h (omega arith))
-    where
-      by : Kinds i.kind i.span (bytes_of kept i) → IsBounded (i ∷ before) is → IsBounded before (i ∷ is)
-      by (outside j m e) later = outside_step before i is (a, h) l j m e later
-      by (inside j m e) later = inside_step before i is (a, h) j m e later
-      by (a_note n j m e s short) later = note_step before i is n (a, h) j m e s later
+  bounded before (i ∷ is) (a, h) l = grind (arith, bounded (i ∷ before) is h (omega arith), kinds, outside_step, inside_step, note_step)
 
   pub items_short : (items : List Item) → HaveBytes items → items_size items < 2 ^ 64 → length (lines_after outset kept [] items) ≤ 61 * items_size items
   items_short items h l =

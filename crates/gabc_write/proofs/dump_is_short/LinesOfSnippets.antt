@@ -1,12 +1,12 @@
 -- The lines of a snippet are short.
-use Rattle.std.proofs.Common.{◌≡◌, ℕ, ◌+◌, ◌*◌, ◌-◌, ◌≤◌, ◌<◌, ◌^◌, ◌||◌, ◌==◌, List, [], ◌∷◌, ◌++◌, Bool, true, false, Option, Some, None, length, length-append, length-take, drop, codes, arith, refl, ap, slice_index, IsUtf8, if◌then◌else◌}
+use Rattle.std.proofs.Common.{◌≡◌, ℕ, ◌+◌, ◌*◌, ◌-◌, ◌≤◌, ◌<◌, ◌^◌, List, [], ◌∷◌, ◌++◌, Bool, Option, Some, None, length, length-append, length-take, codes, arith, refl, ap, IsUtf8}
 use Rattle.std.specs.Str.{chars}
 use Rattle.std.specs.List.{flat_map, range_with_len}
 use Rattle.std.specs.Fmt.{decimal}
 use Rattle.std.proofs.lemmas.Fmt.{length-decimal-le}
 use Rattle.std.proofs.lemmas.List.FromFn.{length-range_with_len}
-use Rattle.std.proofs.lemmas.Str.{encodes-chars, length-encode, len_utf8_bounds}
-use lib.Utf8.{encode, encodes}
+use Rattle.std.proofs.lemmas.Str.{encodes-chars, length-encode}
+use lib.Utf8.{encodes}
 use Rattle.gabc_patterns.specs.Function.{items}
 use Rattle.gabc_notes.specs.Items.{placed_items, items_of}
 use Rattle.gabc_notes.specs.Table.{gabc}
@@ -14,11 +14,10 @@ use Rattle.gabc_notes.specs.declared.item.ItemKind.{ItemKind}
 use Rattle.gabc_neumes.specs.InForce.{InForce}
 use Rattle.gabc_nabc.specs.Codes.{code_at, codes_in}
 use Rattle.gabc_nabc.specs.Names.{name_by}
-use Rattle.gabc_nabc.specs.Parts.{placed_parts, parts_of, bytes_of}
+use Rattle.gabc_nabc.specs.Parts.{placed_parts, parts_of}
 use Rattle.gabc_nabc.specs.Table.{nabc}
 use Rattle.gabc_nabc.specs.declared.code.GlyphCode.{GlyphCode}
 use Rattle.gabc_nabc.specs.declared.descriptor.Descriptor.{Descriptor}
-use Rattle.gabc_write.specs.DumpLines.{escaped}
 use Rattle.gabc_write.specs.DumpOfNotes.{last_text, lines_after, lines_of_notes}
 use Rattle.gabc_write.specs.DumpOfNabc.{name_or_letters, name_of_code, names_of, line_of_part, lines_of_nabc}
 use Rattle.gabc_write.proofs.DumpOfHeadersIsShort.{escaped_short}
@@ -30,10 +29,7 @@ use Rattle.gabc_write.proofs.dump_is_short.PiecesOfText.{bytes_in, HaveBytes, pi
 
 items_have : (at : ℕ) (is : List (ItemKind × List ℕ)) → HaveBytes is → items.HaveBytes (placed_items at is) × (items.items_size (placed_items at is) ≡ bytes_in is)
 items_have at [] h = (tt, refl)
-items_have at (i ∷ is) (a, h) =
-    let later = items_have (at + length (encodes i.1)) is h in
-    let size = later.1 in
-    ((omega arith, later.0), omega arith)
+items_have at (i ∷ is) (a, h) = grind (arith, items_have (at + length (encodes i.1)) is h)
 
 pub notes_short : (outset : InForce) (kept : List ℕ) → IsUtf8 kept → length kept < 2 ^ 64 → length (lines_of_notes outset kept) ≤ 63 * length kept + 7
 notes_short outset kept u l =
@@ -51,12 +47,7 @@ abbrev pub NamesAreShort : Type 0
 NamesAreShort = (a b : ℕ) (name : List ℕ) → name_by a b ≡ Some name → length name ≤ 20
 
 letters_short : (a b : ℕ) → length (encodes (a ∷ b ∷ [])) ≤ 8
-letters_short a b =
-    let x = len_utf8_bounds a in
-    let y = len_utf8_bounds b in
-    let l = x.1 in
-    let m = y.1 in
-    omega (arith, length-append (encode a) (encode b ++ []), length-append (encode b) [], length-encode a, length-encode b, l, m)
+letters_short a b = grind (arith, length-append, length-encode)
 
 module _ (short : NamesAreShort) where
   name_short : (c : GlyphCode) → length (name_of_code c) ≤ 20
@@ -72,11 +63,7 @@ module _ (short : NamesAreShort) where
   names_short (c ∷ d ∷ cs) = omega (arith, length-append (name_of_code c) (codes "!" ++ names_of (d ∷ cs)), name_short c, names_short (d ∷ cs))
 
   one_code : (t : List ℕ) (i : ℕ) → length (code_at t i) ≤ 1
-  one_code t i = by ((i == 1) || (slice_index t (i - 2) == 33))
-    where
-      by : (b : Bool) → length {A = GlyphCode} (if b then record { first = slice_index t (i - 1); second = slice_index t i } ∷ [] else []) ≤ 1
-      by true = omega arith
-      by false = omega arith
+  one_code t i = grind arith
 
   codes_at : (t : List ℕ) (places : List ℕ) → length (flat_map (code_at t) places) ≤ length places
   codes_at t [] = omega arith
@@ -99,29 +86,10 @@ module _ (short : NamesAreShort) where
 
   parts_have : (at : ℕ) (is : List (Bool × List ℕ)) → HaveBytes is → PartsHaveBytes (placed_parts at is) × (parts_size (placed_parts at is) ≡ bytes_in is)
   parts_have at [] h = (tt, refl)
-  parts_have at (i ∷ is) (a, h) =
-      let later = parts_have (at + length (encodes i.1)) is h in
-      let size = later.1 in
-      ((omega arith, later.0), omega arith)
+  parts_have at (i ∷ is) (a, h) = grind (arith, parts_have (at + length (encodes i.1)) is h)
 
   part_short : (kept : List ℕ) (p : Descriptor) → 1 ≤ part_size p → length (line_of_part kept p) ≤ 36 * part_size p
-  part_short kept p h = by p.space
-    where
-      size : length (bytes_of kept p) ≤ part_size p
-      size = omega (arith, length-take (p.span.to - p.span.from) (drop p.span.from kept))
-
-      by : (b : Bool) → length (if b then codes "space " ++ last_text (bytes_of kept p) else codes "descriptor " ++ (escaped (bytes_of kept p) ++ (codes " " ++ (names_of (if b then [] else codes_in (bytes_of kept p)) ++ codes "\n")))) ≤ 36 * part_size p
-      by true = omega (arith, last_short (bytes_of kept p), size)
-      by false =
-          omega (
-            arith,
-            length-append (escaped (bytes_of kept p)) (codes " " ++ (names_of (codes_in (bytes_of kept p)) ++ codes "\n")),
-            length-append (names_of (codes_in (bytes_of kept p))) (codes "\n"),
-            escaped_short (bytes_of kept p),
-            names_short (codes_in (bytes_of kept p)),
-            codes_few (bytes_of kept p),
-            size,
-          )
+  part_short kept p h = grind (arith, length-take, last_short, length-append, escaped_short, names_short, codes_few)
 
   parts_short : (kept : List ℕ) (ps : List Descriptor) → PartsHaveBytes ps → length (flat_map (line_of_part kept) ps) ≤ 36 * parts_size ps
   parts_short kept [] h = omega arith

@@ -1,5 +1,5 @@
 -- The dump of a syllable is short: at most 64 bytes for each byte of its canonical text, and 256.
-use Rattle.std.proofs.Common.{◌≡◌, ℕ, ◌+◌, ◌*◌, ◌-◌, ◌≤◌, ◌<◌, ◌^◌, ◌&&◌, ◌==◌, List, [], ◌∷◌, ◌++◌, Bool, true, false, cond, nat_le, Option, Some, None, length, length-append, length-take, length-drop, drop, codes, arith, refl, IsUtf8, if◌then◌else◌}
+use Rattle.std.proofs.Common.{◌≡◌, ℕ, ◌+◌, ◌*◌, ◌-◌, ◌≤◌, ◌<◌, ◌^◌, ◌&&◌, List, [], ◌∷◌, ◌++◌, Bool, true, false, cond, nat_le, Option, length, length-append, length-take, length-drop, drop, codes, arith, refl, IsUtf8, if◌then◌else◌}
 use Rattle.std.specs.List.{All}
 use Rattle.std.specs.Fmt.{decimal}
 use Rattle.std.proofs.lemmas.Bool.{leb-true, and_parts}
@@ -14,9 +14,6 @@ use Rattle.gabc_score.specs.Canonical.{translation_text, with_bars, canonical, s
 use Rattle.gabc_score.specs.Syllable.{PlacedSyllable, is_seam, slice, text_at}
 use Rattle.gabc_score.specs.declared.snippets.Snippet.{Snippet}
 use Rattle.gabc_score.specs.declared.syllable.Position.{Position}
-use Rattle.gabc_score.specs.declared.syllable.Position.TheVariants.{One, Beginning, Middle, End}
-use Rattle.gabc_write.specs.DumpOfNotes.{lines_of_notes}
-use Rattle.gabc_write.specs.DumpOfNabc.{lines_of_nabc}
 use Rattle.gabc_write.specs.DumpOfSyllables.{position_word, first_line, line_of_text, line_of_translation, first_steps, steps_of_snippet, lines_of_snippet, lines_of_snippets, lines_of_syllable}
 use Rattle.gabc_write.proofs.dump_is_short.LineOfItem.{last_short}
 use Rattle.gabc_write.proofs.dump_is_short.LinesOfSnippets.{NamesAreShort, notes_short, nabc_short}
@@ -42,12 +39,10 @@ text_short span bytes u = by (nat_le span.from span.to && (nat_le span.to (lengt
 -- ---- the lines of a syllable
 
 position_short : (p : Position) → length (position_word p) ≤ 9
-position_short One = omega arith
-position_short _ = omega arith
+position_short p = grind arith
 
 flag_short : (b : Bool) (word : List ℕ) → length (if b then word else []) ≤ length word
-flag_short true word = omega arith
-flag_short false word = omega arith
+flag_short b word = grind arith
 
 pub first_short : (number : ℕ) (s : PlacedSyllable) → number < 2 ^ 64 → length (first_line number s) ≤ 48
 first_short number s l =
@@ -67,12 +62,10 @@ first_short number s l =
     )
 
 text_line_short : (t : List ℕ) → length (line_of_text t) ≤ 64 * length t
-text_line_short [] = omega arith
-text_line_short (c ∷ t) = omega (arith, last_short (c ∷ t))
+text_line_short t = grind (arith, last_short)
 
 translation_short : (kept : List ℕ) (span : Option Span) → length (line_of_translation kept span) ≤ 64 * length (translation_text kept span)
-translation_short kept None = omega arith
-translation_short kept (Some span) = omega (arith, last_short (slice span kept), length-append (slice span kept) (codes "]"))
+translation_short kept span = grind (arith, last_short, length-append)
 
 module _ (short : NamesAreShort) (kept : List ℕ) (u : IsUtf8 kept) (l : length kept < 2 ^ 64) where
   slice_within : (span : Span) → length (slice span kept) ≤ length kept
@@ -80,17 +73,7 @@ module _ (short : NamesAreShort) (kept : List ℕ) (u : IsUtf8 kept) (l : length
   slice_within span = omega (arith, length-take (span.to - span.from) (drop span.from kept), length-drop span.from kept)
 
   snippet_short : (outset : InForce) (s : Snippet) → s.line < 256 → length (lines_of_snippet outset kept s) ≤ 64 * (length (slice s.span kept) + 1)
-  snippet_short outset s m = by (s.line == 0)
-    where
-      by : (b : Bool) → length (if b then lines_of_notes outset (text_at s.span kept) else lines_of_nabc s.line (text_at s.span kept)) ≤ 64 * (length (slice s.span kept) + 1)
-      by true =
-          let t = text_short s.span kept u in
-          let few = t.1 in
-          omega (arith, notes_short outset (text_at s.span kept) t.0 (omega (arith, slice_within s.span)), few)
-      by false =
-          let t = text_short s.span kept u in
-          let few = t.1 in
-          omega (arith, nabc_short short s.line (text_at s.span kept) m t.0, few)
+  snippet_short outset s m = grind (arith, text_short, notes_short, slice_within, nabc_short)
 
   snippets_short : (outset : InForce) (ss : List Snippet) → All (λ s. s.line < 256) ss → length (lines_of_snippets outset kept ss) ≤ 64 * (length (with_bars kept ss) + 1)
   snippets_short outset [] h = omega arith
@@ -107,30 +90,28 @@ module _ (short : NamesAreShort) (kept : List ℕ) (u : IsUtf8 kept) (l : length
         later,
       )
 
--- the lines of a syllable, by its canonical text
-pub syllable_short : NamesAreShort → (number : ℕ) (outset : InForce) (s : PlacedSyllable) → number < 2 ^ 64 → IsUtf8 s.made.kept → length s.made.kept < 2 ^ 64
-    → All (λ (x : Snippet). x.line < 256) s.made.snippets → length (lines_of_syllable number outset s) ≤ 64 * length (canonical (starts_word s.position) s.made) + 256
-syllable_short short number outset s l u k h =
+-- what the lines of a syllable have at most, and its canonical text at least
+pub parts_of_syllable : (number : ℕ) (outset : InForce) (s : PlacedSyllable) → number < 2 ^ 64
+    → (let m = s.made in
+    let text = canonical_text m.text m.kept in
+    (length (lines_of_syllable number outset s) ≤ 48 + (length (line_of_text text) + (length (line_of_translation m.kept m.text.translation) + length (lines_of_snippets (passed outset (first_steps s.position)) m.kept m.snippets))))
+    × (length text + (length (translation_text m.kept m.text.translation) + (length (with_bars m.kept m.snippets) + 2)) ≤ length (canonical (starts_word s.position) m)))
+parts_of_syllable number outset s l =
     let m = s.made in
     let start : List ℕ = cond (starts_word s.position) (10 ∷ []) [] in
     let text = canonical_text m.text m.kept in
     let translation = translation_text m.kept m.text.translation in
     let notes = with_bars m.kept m.snippets in
-    let text_line = line_of_text text in
     let translation_line = line_of_translation m.kept m.text.translation in
-    let force : InForce = passed outset (first_steps s.position) in
-    let snippets = lines_of_snippets force m.kept m.snippets in
-    omega (
-      arith,
-      length-append start (text ++ (translation ++ (codes "(" ++ (notes ++ codes ")")))),
-      length-append text (translation ++ (codes "(" ++ (notes ++ codes ")"))),
-      length-append translation (codes "(" ++ (notes ++ codes ")")),
-      length-append notes (codes ")"),
-      length-append (first_line number s) (text_line ++ (translation_line ++ snippets)),
-      length-append text_line (translation_line ++ snippets),
-      length-append translation_line snippets,
-      first_short number s l,
-      text_line_short text,
-      translation_short m.kept m.text.translation,
-      snippets_short short m.kept u k force m.snippets h,
+    let snippets = lines_of_snippets (passed outset (first_steps s.position)) m.kept m.snippets in
+    let first = first_short number s l in
+    let lines = length-append (first_line number s) (line_of_text text ++ (translation_line ++ snippets)) in
+    let canonical = length-append start (text ++ (translation ++ (codes "(" ++ (notes ++ codes ")")))) in (
+      omega (arith, first, lines, length-append (line_of_text text) (translation_line ++ snippets), length-append translation_line snippets),
+      omega (arith, canonical, length-append text (translation ++ (codes "(" ++ (notes ++ codes ")"))), length-append translation (codes "(" ++ (notes ++ codes ")")), length-append notes (codes ")")),
     )
+
+-- the lines of a syllable, by its canonical text
+pub syllable_short : NamesAreShort → (number : ℕ) (outset : InForce) (s : PlacedSyllable) → number < 2 ^ 64 → IsUtf8 s.made.kept → length s.made.kept < 2 ^ 64
+    → All (λ (x : Snippet). x.line < 256) s.made.snippets → length (lines_of_syllable number outset s) ≤ 64 * length (canonical (starts_word s.position) s.made) + 256
+syllable_short short number outset s l u k h = grind (arith, length-append, first_short, text_line_short, translation_short, snippets_short)

@@ -29,10 +29,8 @@ module _ {K : Type 0} (table : Table K) where
       go None e later = (tt, omega arith)
       go (Some (k, m)) e later =
           let best : IsBest table t (length t) (Some (k, m)) = subst (IsBest table t (length t)) e (longest_item_best table t) in
-          let some = best.0 in
-          let within = best.1 in
           let next = later (drop m t) in
           let count = next.1 in
           let cut = ap (length {A = ℕ}) (ap encodes (sym (take-append-drop m t)) ∙ encodes-append (take m t) (drop m t)) in
-          let first : 1 ≤ length (encodes (take m t)) = omega (arith, length-le-encodes (take m t), length-take m t, some, within) in
+          let first : 1 ≤ length (encodes (take m t)) = omega (arith, length-le-encodes (take m t), length-take m t) in
           ((first, next.0), omega (arith, cut, length-append (encodes (take m t)) (encodes (drop m t)), count))

@@ -1,5 +1,5 @@
 -- The canonical header lines of a plain text's book are plain.
-use Rattle.std.proofs.Common.{◌≡◌, ℕ, ◌+◌, List, [], ◌∷◌, ◌++◌, Bool, true, false, ◌&&◌, ◌||◌, not, cond, ◌==◌, length, refl, ap, ◌∙◌, Option, Some, None, Ok, codes}
+use Rattle.std.proofs.Common.{◌≡◌, ℕ, ◌+◌, List, [], ◌∷◌, ◌++◌, Bool, true, ◌&&◌, ◌||◌, not, cond, ◌==◌, length, refl, Option, Some, None, Ok, codes, arith}
 use Rattle.std.proofs.lemmas.Bool.{and_parts, and_from}
 use Rattle.std.specs.List.{list_all}
 use Rattle.gabc_places.specs.declared.limits.Limits.{Limits}
@@ -20,30 +20,20 @@ abbrev plain_lines : List (List ℕ) → Bool
 plain_lines ls = list_all plain ls
 
 on_first_plain : (c : ℕ) (ls : List (List ℕ)) → is_plain c ≡ true → plain_lines ls ≡ true → plain_lines (on_first c ls) ≡ true
-on_first_plain c [] h k = and_from (plain (c ∷ [])) true (and_from (is_plain c) true h refl) refl
-on_first_plain c (l ∷ ls) h k =
-    let g = and_parts (plain l) (plain_lines ls) k in
-    and_from (plain (c ∷ l)) (plain_lines ls) (and_from (is_plain c) (plain l) h g.0) g.1
+on_first_plain c ls h k = grind (arith, and_parts)
 
 lines_plain : (t : List ℕ) → plain t ≡ true → plain_lines (lines t) ≡ true
 lines_plain [] h = refl
 lines_plain (c ∷ t) h =
     let g = and_parts (is_plain c) (plain t) h in
-    by g.0 (lines_plain t g.1) (c == 10)
-  where
-    by : is_plain c ≡ true → plain_lines (lines t) ≡ true → (b : Bool) → plain_lines (cond b ([] ∷ lines t) (on_first c (lines t))) ≡ true
-    by here later true = later
-    by here later false = on_first_plain c (lines t) here later
+    let later = lines_plain t g.1 in
+    either plain_lines (c == 10) ([] ∷ lines t) (on_first c (lines t)) later (on_first_plain c (lines t) g.0 later)
 
 head_plain : (ls : List (List ℕ)) → plain_lines ls ≡ true → plain_lines (head_of ls) ≡ true
 head_plain [] h = refl
 head_plain (l ∷ ls) h =
     let g = and_parts (plain l) (plain_lines ls) h in
-    by (and_from (plain l) (plain_lines (head_of ls)) g.0 (head_plain ls g.1)) (is_score_line l)
-  where
-    by : plain_lines (l ∷ head_of ls) ≡ true → (b : Bool) → plain_lines (cond b [] (l ∷ head_of ls)) ≡ true
-    by more true = refl
-    by more false = more
+    either plain_lines (is_score_line l) [] (l ∷ head_of ls) refl (and_from (plain l) (plain_lines (head_of ls)) g.0 (head_plain ls g.1))
 
 -- ---- parts of a line
 
@@ -51,27 +41,26 @@ before_colon_plain : (l : List ℕ) → plain l ≡ true → plain (before_colon
 before_colon_plain [] h = refl
 before_colon_plain (c ∷ l) h =
     let g = and_parts (is_plain c) (plain l) h in
-    either (c == 58) [] (c ∷ before_colon l) refl (and_from (is_plain c) (plain (before_colon l)) g.0 (before_colon_plain l g.1))
+    either plain (c == 58) [] (c ∷ before_colon l) refl (and_from (is_plain c) (plain (before_colon l)) g.0 (before_colon_plain l g.1))
 
 after_colon_plain : (l : List ℕ) → plain l ≡ true → plain (after_colon l) ≡ true
 after_colon_plain [] h = refl
 after_colon_plain (c ∷ l) h =
     let g = and_parts (is_plain c) (plain l) h in
-    either (c == 58) l (after_colon l) g.1 (after_colon_plain l g.1)
+    either plain (c == 58) l (after_colon l) g.1 (after_colon_plain l g.1)
 
 before_mark_plain : (n : ℕ) (l : List ℕ) → plain l ≡ true → plain (before_mark n l) ≡ true
 before_mark_plain n [] h = refl
 before_mark_plain n (c ∷ l) h =
     let g = and_parts (is_plain c) (plain l) h in
-    either (is_mark n (c ∷ l)) [] (c ∷ before_mark n l) refl (and_from (is_plain c) (plain (before_mark n l)) g.0 (before_mark_plain n l g.1))
+    either plain (is_mark n (c ∷ l)) [] (c ∷ before_mark n l) refl (and_from (is_plain c) (plain (before_mark n l)) g.0 (before_mark_plain n l g.1))
 
 trim_start_plain : (out : ℕ → Bool) (l : List ℕ) → plain l ≡ true → plain (trim_start out l) ≡ true
 trim_start_plain out [] h = refl
-trim_start_plain out (c ∷ l) h = either (out c) (trim_start out l) (c ∷ l) (trim_start_plain out l (and_parts (is_plain c) (plain l) h).1) h
+trim_start_plain out (c ∷ l) h = either plain (out c) (trim_start out l) (c ∷ l) (trim_start_plain out l (and_parts (is_plain c) (plain l) h).1) h
 
 unless_last_plain : (b : Bool) (c : ℕ) (l : List ℕ) → plain (c ∷ l) ≡ true → plain (unless_last b c l) ≡ true
-unless_last_plain b c [] h = either b [] (c ∷ []) refl h
-unless_last_plain b c (d ∷ l) h = h
+unless_last_plain b c l h = grind (arith, either)
 
 trim_end_plain : (out : ℕ → Bool) (l : List ℕ) → plain l ≡ true → plain (trim_end out l) ≡ true
 trim_end_plain out [] h = refl
@@ -99,23 +88,13 @@ plain_context outside = true
 plain_context (within j name v) = plain_option name && plain v
 
 name_plain : (l : List ℕ) → plain l ≡ true → plain_option (name_of l) ≡ true
-name_plain l h = by (is_good_name (trim_name (before_colon l)))
-  where
-    by : (b : Bool) → plain_option (cond b (Some (trim_name (before_colon l))) None) ≡ true
-    by true = name_trimmed (before_colon l) (before_colon_plain l h)
-    by false = refl
+name_plain l h = either plain_option (is_good_name (trim_name (before_colon l))) (Some (trim_name (before_colon l))) None (name_trimmed (before_colon l) (before_colon_plain l h)) refl
 
 ended_plain : (k : ℕ) (name : Option (List ℕ)) (v : List ℕ) (p : ℕ) → plain_option name ≡ true → plain v ≡ true → plain_parts (ended_parts k name v p) ≡ true
-ended_plain k None v p h g = refl
-ended_plain k (Some name) v p h g = and_from (plain name && plain (trim_value v)) true (and_from (plain name) (plain (trim_value v)) h (value_trimmed v g)) refl
+ended_plain k name v p h g = grind (arith, value_trimmed)
 
 bad_name_plain : (k : ℕ) (name : Option (List ℕ)) (p : ℕ) → plain_parts (bad_name_parts k name p) ≡ true
-bad_name_plain k None p = refl
-bad_name_plain k (Some name) p = refl
-
-either_parts : (b : Bool) (s t : List HeaderPart) → plain_parts s ≡ true → plain_parts t ≡ true → plain_parts (cond b s t) ≡ true
-either_parts true s t h k = h
-either_parts false s t h k = k
+bad_name_plain k name p = grind arith
 
 after_feed : (v l : List ℕ) → plain v ≡ true → plain l ≡ true → plain (v ++ 10 ∷ l) ≡ true
 after_feed v l h k = append is_plain v (10 ∷ l) h k
@@ -125,27 +104,23 @@ line_plain outside k n l h g =
     let ended = ended_parts k (name_of l) (before_mark 1 (after_colon l)) (n + (length (before_colon l) + (1 + mark_end 1 (after_colon l)))) in
     let bad = bad_name_parts k (name_of l) (n + length (before_colon l)) in
     let one : plain_parts (cond (has_mark 1 (after_colon l)) ended []) ≡ true =
-    either_parts (has_mark 1 (after_colon l)) ended [] (ended_plain k (name_of l) (before_mark 1 (after_colon l)) (n + (length (before_colon l) + (1 + mark_end 1 (after_colon l)))) (name_plain l g) (before_mark_plain 1 (after_colon l) (after_colon_plain l g))) refl in
+    either plain_parts (has_mark 1 (after_colon l)) ended [] (ended_plain k (name_of l) (before_mark 1 (after_colon l)) (n + (length (before_colon l) + (1 + mark_end 1 (after_colon l)))) (name_plain l g) (before_mark_plain 1 (after_colon l) (after_colon_plain l g))) refl in
     let named : plain_parts (bad ++ cond (has_mark 1 (after_colon l)) ended []) ≡ true = append plain_part bad (cond (has_mark 1 (after_colon l)) ended []) (bad_name_plain k (name_of l) (n + length (before_colon l))) one in
     let out = left_out k (n + length l) ∷ [] in
-    either_parts (is_bare l) [] (cond (has_colon l) (bad ++ cond (has_mark 1 (after_colon l)) ended []) out) refl
-    (either_parts (has_colon l) (bad ++ cond (has_mark 1 (after_colon l)) ended []) out named refl)
+    either plain_parts (is_bare l) [] (cond (has_colon l) (bad ++ cond (has_mark 1 (after_colon l)) ended []) out) refl
+    (either plain_parts (has_colon l) (bad ++ cond (has_mark 1 (after_colon l)) ended []) out named refl)
 line_plain (within j name v) k n l h g =
     let c = and_parts (plain_option name) (plain v) h in
     let ended = ended_parts j name (v ++ 10 ∷ before_mark 2 l) (n + mark_end 2 l) in
-    either_parts (has_mark 2 l) ended [] (ended_plain j name (v ++ 10 ∷ before_mark 2 l) (n + mark_end 2 l) c.0 (after_feed v (before_mark 2 l) c.1 (before_mark_plain 2 l g))) refl
-
-either_context : (b : Bool) (s t : LineContext) → plain_context s ≡ true → plain_context t ≡ true → plain_context (cond b s t) ≡ true
-either_context true s t h k = h
-either_context false s t h k = k
+    either plain_parts (has_mark 2 l) ended [] (ended_plain j name (v ++ 10 ∷ before_mark 2 l) (n + mark_end 2 l) c.0 (after_feed v (before_mark 2 l) c.1 (before_mark_plain 2 l g))) refl
 
 below_plain : (w : LineContext) (k : ℕ) (l : List ℕ) → plain_context w ≡ true → plain l ≡ true → plain_context (context_below w k l) ≡ true
 below_plain outside k l h g =
-    either_context (is_bare l || (not (has_colon l) || has_mark 1 (after_colon l))) outside (within k (name_of l) (after_colon l)) refl
+    either plain_context (is_bare l || (not (has_colon l) || has_mark 1 (after_colon l))) outside (within k (name_of l) (after_colon l)) refl
     (and_from (plain_option (name_of l)) (plain (after_colon l)) (name_plain l g) (after_colon_plain l g))
 below_plain (within j name v) k l h g =
     let c = and_parts (plain_option name) (plain v) h in
-    either_context (has_mark 2 l) outside (within j name (v ++ 10 ∷ l)) refl (and_from (plain_option name) (plain (v ++ 10 ∷ l)) c.0 (after_feed v l c.1 g))
+    either plain_context (has_mark 2 l) outside (within j name (v ++ 10 ∷ l)) refl (and_from (plain_option name) (plain (v ++ 10 ∷ l)) c.0 (after_feed v l c.1 g))
 
 open_plain : (w : LineContext) → plain_parts (parts_left_open w) ≡ true
 open_plain outside = refl
@@ -167,8 +142,7 @@ abbrev plain_book : List (List ℕ × List ℕ) → Bool
 plain_book es = list_all plain_entry es
 
 unless_plain : (b : Bool) (e : List ℕ × List ℕ) (es : List (List ℕ × List ℕ)) → plain_entry e ≡ true → plain_book es ≡ true → plain_book (unless b e es) ≡ true
-unless_plain true e es h k = k
-unless_plain false e es h k = and_from (plain_entry e) (plain_book es) h k
+unless_plain b e es h k = grind arith
 
 entries_plain : (ps : List HeaderPart) → plain_parts ps ≡ true → plain_book (entries ps) ≡ true
 entries_plain [] h = refl
@@ -182,10 +156,10 @@ last_value_plain : (name v : List ℕ) (es : List (List ℕ × List ℕ)) → pl
 last_value_plain name v [] h k = h
 last_value_plain name v (e ∷ es) h k =
     let g = and_parts (plain_entry e) (plain_book es) k in
-    last_value_plain name (cond (bytes_eq name e.0) e.1 v) es (either (bytes_eq name e.0) e.1 v (and_parts (plain e.0) (plain e.1) g.0).1 h) g.1
+    last_value_plain name (cond (bytes_eq name e.0) e.1 v) es (either plain (bytes_eq name e.0) e.1 v (and_parts (plain e.0) (plain e.1) g.0).1 h) g.1
 
 value_plain : (name v : List ℕ) (es : List (List ℕ × List ℕ)) → plain v ≡ true → plain_book es ≡ true → plain (value_of name v es) ≡ true
-value_plain name v es h k = either (bytes_eq name (codes "annotation")) v (last_value name v es) h (last_value_plain name v es h k)
+value_plain name v es h k = either plain (bytes_eq name (codes "annotation")) v (last_value name v es) h (last_value_plain name v es h k)
 
 standing_plain : (seen : List (List ℕ)) (es : List (List ℕ × List ℕ)) → plain_book es ≡ true → plain_book (standing_entries seen es) ≡ true
 standing_plain seen [] h = refl
@@ -201,9 +175,7 @@ book_plain t h = standing_plain [] (entries (head_parts t)) (entries_plain (head
 -- ---- its lines
 
 printed_plain : (b : Bool) (v : List ℕ) → plain v ≡ true → plain (printed_value b v) ≡ true
-printed_plain b [] h = refl
-printed_plain true (c ∷ v) h = append is_plain (codes "\n " ++ (c ∷ v)) (codes ";;\n") (append is_plain (codes "\n ") (c ∷ v) refl h) refl
-printed_plain false (c ∷ v) h = append is_plain (codes " " ++ (c ∷ v)) (codes ";\n") (append is_plain (codes " ") (c ∷ v) refl h) refl
+printed_plain b v h = grind (arith, append)
 
 header_lines_plain : (es : List (List ℕ × List ℕ)) → plain_book es ≡ true → plain (header_lines es) ≡ true
 header_lines_plain [] h = refl
@@ -216,5 +188,4 @@ header_lines_plain (e ∷ es) h =
 
 -- the canonical header lines of a text, and `%%`
 pub heads_plain : (limits : Limits) (t : List ℕ) (heads : Heads) → heads_of limits t ≡ Ok heads → plain t ≡ true → plain (canonical_heads heads.book) ≡ true
-heads_plain limits t heads ok h =
-    append is_plain (header_lines heads.book) (codes "%%") (header_lines_plain heads.book (ap plain_book (own_book limits t heads ok) ∙ book_plain t h)) refl
+heads_plain limits t heads ok h = grind (arith, append, header_lines_plain, own_book, book_plain)

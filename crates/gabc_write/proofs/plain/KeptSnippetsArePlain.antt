@@ -1,5 +1,5 @@
 -- What a snippet keeps of plain characters is plain.
-use Rattle.std.proofs.Common.{◌≡◌, ℕ, zero, suc, List, [], ◌∷◌, ◌++◌, Bool, true, false, cond, if◌then◌else◌, refl, ap, ◌∙◌, reverse}
+use Rattle.std.proofs.Common.{◌≡◌, ℕ, List, [], ◌∷◌, ◌++◌, Bool, true, false, cond, if◌then◌else◌, refl, ap, ◌∙◌, reverse, arith}
 use Rattle.std.proofs.lemmas.Grind.{reverse_onto}
 use Rattle.std.proofs.lemmas.Bool.{and_parts, and_from}
 use Rattle.gabc_score.proofs.texts_of_body.TextEmitsThroughEnd.{codes_append}
@@ -8,9 +8,7 @@ use Rattle.gabc_patterns.specs.LongestItems.{Table}
 use Rattle.gabc_patterns.specs.Derivative.{is_snippet, is_viable}
 use Rattle.gabc_patterns.specs.Function.{keep_from, trim_from}
 use Rattle.gabc_text.specs.Events.{codes_of}
-use Rattle.gabc_notes.specs.Table.{gabc}
 use Rattle.gabc_notes.specs.Events as notes
-use Rattle.gabc_nabc.specs.Table.{nabc}
 use Rattle.gabc_nabc.specs.Events as nabc
 use Rattle.gabc_score.specs.Holding.{kept_on_line}
 use Rattle.gabc_write.proofs.plain.PlainCharacters.{either, is_plain, plain, append}
@@ -23,13 +21,13 @@ module _ {K : Type 0} (rows : Table K) where
   keep_plain kept [] h k = h
   keep_plain kept (c ∷ t) h k =
       let g = and_parts (is_plain c) (plain t) k in
-      keep_plain (cond (is_viable rows (kept ++ c ∷ [])) (kept ++ c ∷ []) kept) t (either (is_viable rows (kept ++ c ∷ [])) (kept ++ c ∷ []) kept (with_last kept c h g.0) h) g.1
+      keep_plain (cond (is_viable rows (kept ++ c ∷ [])) (kept ++ c ∷ []) kept) t (either plain (is_viable rows (kept ++ c ∷ [])) (kept ++ c ∷ []) kept (with_last kept c h g.0) h) g.1
 
   pub trim_plain : (best before t : List ℕ) → plain best ≡ true → plain before ≡ true → plain t ≡ true → plain (trim_from rows best before t) ≡ true
   trim_plain best before [] h k m = h
   trim_plain best before (c ∷ t) h k m =
       let g = and_parts (is_plain c) (plain t) m in
-      trim_plain (cond (is_snippet rows (before ++ c ∷ [])) (before ++ c ∷ []) best) (before ++ c ∷ []) t (either (is_snippet rows (before ++ c ∷ [])) (before ++ c ∷ []) best (with_last before c k g.0) h) (with_last before c k g.0) g.1
+      trim_plain (cond (is_snippet rows (before ++ c ∷ [])) (before ++ c ∷ []) best) (before ++ c ∷ []) t (either plain (is_snippet rows (before ++ c ∷ [])) (before ++ c ∷ []) best (with_last before c k g.0) h) (with_last before c k g.0) g.1
 
 -- ---- the characters
 
@@ -61,5 +59,4 @@ characters_plain t (c ∷ cs) h =
     by here later false = later
 
 pub kept_plain : (line : ℕ) (xs : List Char) → plain (codes_of xs) ≡ true → plain (kept_on_line line xs) ≡ true
-kept_plain zero xs h = trim_plain gabc [] [] (notes.kept (reverse xs)) refl refl (keep_plain gabc [] (notes.outside_comments (notes.with_comments (reverse xs))) refl (outside_plain (reverse xs) (reversed_plain xs h)))
-kept_plain (suc line) xs h = trim_plain nabc [] [] (nabc.kept_of (codes_of xs)) refl refl (keep_plain nabc [] (nabc.characters_after [] (codes_of xs)) refl (characters_plain [] (codes_of xs) h))
+kept_plain line xs h = grind (arith, trim_plain, keep_plain, outside_plain, reversed_plain, characters_plain)

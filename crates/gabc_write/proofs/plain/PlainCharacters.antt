@@ -1,5 +1,5 @@
 -- Plain characters: scalar values but CR and U+FEFF.
-use Rattle.std.proofs.Common.{◌≡◌, ◌≢◌, ℕ, List, [], ◌∷◌, ◌++◌, Bool, true, false, ◌&&◌, not, ◌==◌, refl, sym, ap, ◌∙◌, reverse, cond, Option, Some, None}
+use Rattle.std.proofs.Common.{◌≡◌, ◌≢◌, ℕ, List, [], ◌∷◌, ◌++◌, Bool, true, false, ◌&&◌, not, ◌==◌, refl, sym, ap, ◌∙◌, reverse, cond, Option, Some, None, arith}
 use Rattle.std.specs.List.{list_all}
 use Rattle.std.specs.Char.{IsScalar}
 use Rattle.std.proofs.Math.Utf8.{scalar}
@@ -29,9 +29,9 @@ module _ {X : Type 0} (p : X → Bool) where
       let k = and_parts (p x) (list_all p xs) h in
       ap (list_all p) (reverse_onto xs x []) ∙ append (reverse xs) (x ∷ []) (reversed xs k.1) (and_from (p x) true k.0 refl)
 
-pub either : (b : Bool) (s t : List ℕ) → plain s ≡ true → plain t ≡ true → plain (cond b s t) ≡ true
-either true s t h k = h
-either false s t h k = k
+pub either : {X : Type 0} (p : X → Bool) (b : Bool) (s t : X) → p s ≡ true → p t ≡ true → p (cond b s t) ≡ true
+either p true s t h k = h
+either p false s t h k = k
 
 abbrev pub plain_option : Option (List ℕ) → Bool
 plain_option None = true
@@ -40,18 +40,10 @@ plain_option (Some t) = plain t
 -- ---- texts
 
 other : (a b : ℕ) → not (a == b) ≡ true → a ≢ b
-other a b h = by (a == b) refl h
-  where
-    by : (r : Bool) → (a == b) ≡ r → not r ≡ true → a ≢ b
-    by true e k = absurd (cc)
-    by false e k = eqb-false a b e
+other a b h = grind (arith, eqb-false)
 
 unlike : (a b : ℕ) → a ≢ b → not (a == b) ≡ true
-unlike a b h = by (a == b) refl
-  where
-    by : (r : Bool) → (a == b) ≡ r → not r ≡ true
-    by true e = absurd (h (eqb-true a b e))
-    by false e = refl
+unlike a b h = grind (arith, eqb-true)
 
 pub is_text : (t : List ℕ) → plain t ≡ true → IsText t
 is_text [] h = record { scalars = All-nil IsScalar; plain = All-nil IsPlain }

@@ -1,11 +1,11 @@
 -- A printed syllable of plain text and of snippets that keep plain characters is plain.
-use Rattle.std.proofs.Common.{◌≡◌, ℕ, List, [], ◌∷◌, ◌++◌, map, Bool, true, refl, sym, ap, ◌∙◌, codes, append_assoc}
+use Rattle.std.proofs.Common.{◌≡◌, ℕ, List, [], ◌∷◌, ◌++◌, map, Bool, true, refl, sym, ap, ◌∙◌, codes, append_assoc, arith}
 use Rattle.std.proofs.lemmas.Bool.{and_parts, and_from}
 use Rattle.std.specs.List.{list_all, flat_map}
 use Rattle.gabc_text.specs.Events.{codes_of}
 use Rattle.gabc_text.specs.ViewFacts.{view_facts}
 use Rattle.gabc_text.specs.Printed.{print}
-use Rattle.gabc_score.specs.Holding.{ReadSnippet, IsHeld, bracket_with, in_brackets}
+use Rattle.gabc_score.specs.Holding.{ReadSnippet, IsHeld, in_brackets}
 use Rattle.gabc_write.specs.PlainText.{IsText}
 use Rattle.gabc_write.specs.SyllableAgain.{barred, printed_syllable}
 use Rattle.gabc_write.proofs.plain.PlainCharacters.{is_plain, plain, append, parts_of, is_text, text_plain}
@@ -43,10 +43,7 @@ earlier_plain (s ∷ ss) h =
 
 -- the characters of the notes are those of their snippets
 read_plain : (earlier : List ReadSnippet) (last : ReadSnippet) → plain (in_brackets (λ s. codes_of s.characters) earlier last) ≡ true → list_all plain_read (earlier ++ last ∷ []) ≡ true
-read_plain earlier last h =
-    let g = parts_of is_plain (bracket_with (λ s. codes_of s.characters) earlier) (characters_of last ++ codes ")") h in
-    append plain_read earlier (last ∷ []) (earlier_plain earlier (parts_of is_plain (codes "(") (flat_map (λ s. characters_of s ++ codes "|") earlier) g.0).1)
-    (and_from (plain_read last) true (parts_of is_plain (characters_of last) (codes ")") g.1).0 refl)
+read_plain earlier last h = grind (arith, parts_of, append, earlier_plain)
 
 module _ (lines : ℕ) (K text : List ℕ) (all : List ReadSnippet)
     (each : (before after : List ReadSnippet) (s : ReadSnippet) → all ≡ before ++ s ∷ after → IsHeld lines K text before s) where

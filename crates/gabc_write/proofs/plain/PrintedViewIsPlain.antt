@@ -1,10 +1,10 @@
 -- What a plain text says is printed as plain text.
-use Rattle.std.proofs.Common.{◌≡◌, ℕ, ◌+◌, List, [], ◌∷◌, ◌++◌, Bool, true, false, ◌&&◌, not, cond, ◌==◌, refl, sym, ap, ◌∙◌, reverse, map, Option, Some, None, arith}
+use Rattle.std.proofs.Common.{◌≡◌, ℕ, ◌+◌, List, [], ◌∷◌, ◌++◌, Bool, true, ◌&&◌, not, refl, sym, ap, ◌∙◌, reverse, map, Option, Some, None, arith}
 use Rattle.std.proofs.lemmas.Bool.{and_parts, and_from}
 use Rattle.std.specs.List.{list_all}
 use Rattle.gabc_places.specs.declared.place.Span.{Span}
 use Rattle.gabc_text.specs.declared.styles.Style.{Style}
-use Rattle.gabc_text.specs.declared.styles.Style.TheVariants.{B, C, E, I, Sc, Tt, Ul}
+use Rattle.gabc_text.specs.declared.styles.Style.TheVariants.{B}
 use Rattle.gabc_text.specs.declared.view.PieceKind.{PieceKind}
 use Rattle.gabc_text.specs.declared.view.PieceKind.TheVariants as piece
 use Rattle.gabc_text.specs.declared.token.TokenKind.{TokenKind}
@@ -13,10 +13,9 @@ use Rattle.gabc_text.specs.Token.{Token, spelling, tokens, is_special}
 use Rattle.gabc_text.specs.View.{along, PieceFacts, pieces_at, piece_of, kind_of, text_of_piece, last_of, open_styles, is_blank_piece, is_space, has_word, follows_blank, has_translation}
 use Rattle.gabc_text.specs.ViewFacts.{view_facts, but_blank, but_end, translation_text}
 use Rattle.gabc_text.specs.Events.{but_last, is_whole_translation}
-use Rattle.gabc_text.specs.Canonical.{after_common}
 use Rattle.gabc_text.specs.Printed.{closing_tag, opening_tag, brace_tokens, tokens_between, letter, spelled_as, printed_piece, print_from, translation_tokens, word_break, text_of_tokens, print}
 use Rattle.gabc_text.proofs.tokens.TextIsTokensAndRest.{parted}
-use Rattle.gabc_write.proofs.plain.PlainCharacters.{plain_option, is_plain, plain, append, parts_of, reversed}
+use Rattle.gabc_write.proofs.plain.PlainCharacters.{plain_option, is_plain, plain, append, parts_of, reversed, either}
 
 -- ---- tokens
 
@@ -56,18 +55,13 @@ last_plain c [] h = h
 last_plain c (d ∷ s) h = last_plain d s (and_parts (is_plain c) (plain (d ∷ s)) h).1
 
 piece_text : (kind : PieceKind) (k : Token) → is_plain_token k ≡ true → plain (text_of_piece kind k) ≡ true
-piece_text piece.Char k h = last_plain k.first k.more h
-piece_text _ k h = h
+piece_text kind k h = grind (arith, last_plain)
 
 piece_plain : (before : List Token) (k : Token) → is_plain_token k ≡ true → plain_pieces (pieces_at before k) ≡ true
 piece_plain before k h = by (kind_of k)
   where
-    blank : (b : Bool) → plain_pieces (cond b (record { kind = piece.Blank; styles = open_styles before; text = [] } ∷ []) []) ≡ true
-    blank true = refl
-    blank false = refl
-
     by : (o : Option PieceKind) → plain_pieces (piece_of before k o) ≡ true
-    by None = blank (is_space k.kind && has_word before && not (follows_blank before))
+    by None = either plain_pieces (is_space k.kind && has_word before && not (follows_blank before)) (record { kind = piece.Blank; styles = open_styles before; text = [] } ∷ []) [] refl refl
     by (Some kind) = and_from (plain (text_of_piece kind k)) true (piece_text kind k h) refl
 
 pieces_plain : (before ks : List Token) → plain_tokens ks ≡ true → plain_pieces (along pieces_at before ks) ≡ true
@@ -78,11 +72,7 @@ pieces_plain before (k ∷ ks) h =
 
 but_blank_plain : (ps : List PieceFacts) → plain_pieces ps ≡ true → plain_pieces (but_blank ps) ≡ true
 but_blank_plain [] h = refl
-but_blank_plain (p ∷ []) h = by (is_blank_piece p.kind)
-  where
-    by : (b : Bool) → plain_pieces (cond b [] (p ∷ [])) ≡ true
-    by true = refl
-    by false = h
+but_blank_plain (p ∷ []) h = either plain_pieces (is_blank_piece p.kind) [] (p ∷ []) refl h
 but_blank_plain (p ∷ q ∷ ps) h =
     let g = and_parts (is_plain_piece p) (plain_pieces (q ∷ ps)) h in
     and_from (is_plain_piece p) (plain_pieces (but_blank (q ∷ ps))) g.0 (but_blank_plain (q ∷ ps) g.1)
@@ -96,18 +86,14 @@ but_last_plain c (d ∷ s) h =
     and_from (is_plain c) (plain (but_last d s)) g.0 (but_last_plain d s g.1)
 
 but_end_plain : (t : List ℕ) → plain t ≡ true → plain (but_end t) ≡ true
-but_end_plain [] h = refl
-but_end_plain (c ∷ t) h = but_last_plain c t h
+but_end_plain t h = grind (arith, but_last_plain)
 
 translation_plain : (ks : List Token) → plain_tokens ks ≡ true → plain_option (translation_text ks) ≡ true
 translation_plain [] h = refl
 translation_plain (k ∷ before) h =
     let g = and_parts (is_plain_token k) (plain_tokens before) h in
-    by (but_end_plain k.more (and_parts (is_plain k.first) (plain k.more) g.0).1) (translation_plain before g.1) (is_whole_translation k.kind && not (has_translation before))
-  where
-    by : plain (but_end k.more) ≡ true → plain_option (translation_text before) ≡ true → (b : Bool) → plain_option (cond b (Some (but_end k.more)) (translation_text before)) ≡ true
-    by here earlier true = here
-    by here earlier false = earlier
+    either plain_option (is_whole_translation k.kind && not (has_translation before)) (Some (but_end k.more)) (translation_text before)
+    (but_end_plain k.more (and_parts (is_plain k.first) (plain k.more) g.0).1) (translation_plain before g.1)
 
 -- ---- what is printed
 
@@ -122,37 +108,22 @@ opening_plain (B ∷ styles) = opening_plain styles
 opening_plain (_ ∷ styles) = opening_plain styles
 
 braces_plain : (centre : Option Span) (i : ℕ) → plain_tokens (brace_tokens centre i) ≡ true
-braces_plain None i = refl
-braces_plain (Some c) i = by (c.from == i) (c.to == i)
-  where
-    by : (a b : Bool) → plain_tokens (cond a (cond b (record { kind = kind.Begin; first = 123; more = [] } ∷ record { kind = kind.End; first = 125; more = [] } ∷ []) (record { kind = kind.Begin; first = 123; more = [] } ∷ [])) (cond b (record { kind = kind.End; first = 125; more = [] } ∷ []) [])) ≡ true
-    by a b = grind arith
+braces_plain centre i = grind arith
 
 between_plain : (old new : List Style) (middle : List Token) → plain_tokens middle ≡ true → plain_tokens (tokens_between old new middle) ≡ true
-between_plain old new middle h =
-    append is_plain_token (map closing_tag (reverse (after_common old new).0) ++ middle) (map opening_tag (after_common old new).1)
-    (append is_plain_token (map closing_tag (reverse (after_common old new).0)) middle (closing_plain (reverse (after_common old new).0)) h) (opening_plain (after_common old new).1)
+between_plain old new middle h = grind (arith, append, closing_plain, opening_plain)
 
 letter_plain : (t : List ℕ) → plain t ≡ true → is_plain_token (letter t) ≡ true
 letter_plain [] h = refl
-letter_plain (c ∷ s) h = by (is_special c)
-  where
-    here : is_plain c ≡ true
-    here = (and_parts (is_plain c) (plain s) h).0
-
-    by : (b : Bool) → is_plain_token (cond b (record { kind = kind.Letter; first = 36; more = c ∷ [] }) (record { kind = kind.Letter; first = c; more = [] })) ≡ true
-    by true = and_from (is_plain c) true here refl
-    by false = and_from (is_plain c) true here refl
+letter_plain (c ∷ s) h =
+    let here = and_from (is_plain c) true (and_parts (is_plain c) (plain s) h).0 refl in
+    either is_plain_token (is_special c) (record { kind = kind.Letter; first = 36; more = c ∷ [] }) (record { kind = kind.Letter; first = c; more = [] }) here here
 
 spelled_plain : (k : TokenKind) (t : List ℕ) → plain t ≡ true → is_plain_token (spelled_as k t) ≡ true
-spelled_plain k [] h = refl
-spelled_plain k (c ∷ t) h = h
+spelled_plain k t h = grind arith
 
 printed_plain : (kind : PieceKind) (t : List ℕ) → plain t ≡ true → is_plain_token (printed_piece kind t) ≡ true
-printed_plain piece.Char t h = letter_plain t h
-printed_plain piece.Blank t h = refl
-printed_plain piece.Raw t h = spelled_plain kind.Raw t h
-printed_plain _ t h = spelled_plain kind.Tag t h
+printed_plain kind t h = grind (arith, letter_plain, spelled_plain)
 
 print_plain : (centre : Option Span) (i : ℕ) (old : List Style) (ps : List PieceFacts) → plain_pieces ps ≡ true → plain_tokens (print_from centre i old ps) ≡ true
 print_plain centre i old [] h = between_plain old [] (brace_tokens centre i) (braces_plain centre i)
@@ -162,12 +133,10 @@ print_plain centre i old (p ∷ ps) h =
     (and_from (is_plain_token (printed_piece p.kind p.text)) (plain_tokens (print_from centre (i + 1) p.styles ps)) (printed_plain p.kind p.text g.0) (print_plain centre (i + 1) p.styles ps g.1))
 
 bracketed_plain : (o : Option (List ℕ)) → plain_option o ≡ true → plain_tokens (translation_tokens o) ≡ true
-bracketed_plain None h = refl
-bracketed_plain (Some t) h = and_from (plain (t ++ 93 ∷ [])) true (append is_plain t (93 ∷ []) h refl) refl
+bracketed_plain o h = grind (arith, append)
 
 break_plain : (b : Bool) → plain_tokens (word_break b) ≡ true
-break_plain true = refl
-break_plain false = refl
+break_plain b = grind arith
 
 pub view_plain : (t : List ℕ) → plain t ≡ true → plain (print (view_facts t)) ≡ true
 view_plain t h =

@@ -1,8 +1,8 @@
 -- The canonical text of a syllable is the printed syllable of what its unit says.
-use Rattle.std.proofs.Common.{◌≡◌, ◌≢◌, ℕ, zero, suc, ◌+◌, ◌%◌, ◌≤◌, take, drop, List, [], ◌∷◌, ◌++◌, map, length, length-append, cond, Option, Some, None, refl, sym, ap, subst, ◌∙◌, append_assoc, arith, codes}
+use Rattle.std.proofs.Common.{◌≡◌, ◌≢◌, ℕ, suc, ◌+◌, ◌%◌, ◌≤◌, List, [], ◌∷◌, ◌++◌, map, length, length-append, cond, Option, refl, sym, ap, subst, ◌∙◌, append_assoc, arith, codes}
 use Rattle.std.proofs.lemmas.List.{length-map}
 use Rattle.std.proofs.lemmas.Str.{encodes-append}
-use Rattle.std.proofs.Math.Nat.{zero-mod, sub_self}
+use Rattle.std.proofs.Math.Nat.{zero-mod}
 use lib.Utf8.{encode, encodes}
 use Rattle.gabc_notes.proofs.machine.LoopOverBody.{parts}
 use Rattle.gabc_score.proofs.holding.SnippetsAreHeld.{next_turn}
@@ -21,7 +21,7 @@ use Rattle.gabc_score.specs.Canonical as score
 use Rattle.gabc_score.specs.Canonical.{with_bars, canonical}
 use Rattle.gabc_score.specs.Events.{next_line}
 use Rattle.gabc_score.specs.Holding.{ReadSnippet, IsSnippetOf, IsHeld, HoldsNoNotes, kept_on_line}
-use Rattle.gabc_score.specs.SyllablesOfUnits.{ScoreUnit, HasNotes, NotesAre, HoldsUnit}
+use Rattle.gabc_score.specs.SyllablesOfUnits.{ScoreUnit, HasNotes, HoldsUnit}
 use Rattle.gabc_write.specs.SyllableAgain.{barred, printed_syllable, kept_snippets, AreSnippetsFrom, IsPrinted}
 use Rattle.gabc_write.proofs.plain.PrintedSyllableIsPlain.{syllable_plain, snippets_plain}
 
@@ -41,27 +41,21 @@ bar = refl
 
 bars_are : (K : List ℕ) (snippets : List Snippet) (ss : List (List ℕ)) → map (λ (s : Snippet). slice s.span K) snippets ≡ map encodes ss → with_bars K snippets ≡ encodes (barred ss)
 bars_are K [] [] e = refl
-bars_are K [] (t ∷ ss) e = absurd (cc)
-bars_are K (s ∷ snippets) [] e = absurd (cc)
 bars_are K (s ∷ []) (t ∷ []) e = (parts (slice s.span K) (encodes t) [] [] e).0
 bars_are K (s ∷ []) (t ∷ u ∷ ss) e = absurd (let g = (parts (slice s.span K) (encodes t) [] (encodes u ∷ map encodes ss) e).1 in cc)
 bars_are K (s ∷ r ∷ snippets) (t ∷ []) e = absurd (let g = (parts (slice s.span K) (encodes t) (slice r.span K ∷ map (λ (s : Snippet). slice s.span K) snippets) [] e).1 in cc)
 bars_are K (s ∷ r ∷ snippets) (t ∷ u ∷ ss) e =
     let h = parts (slice s.span K) (encodes t) (slice r.span K ∷ map (λ (s : Snippet). slice s.span K) snippets) (encodes u ∷ map encodes ss) e in
-    ap (λ (x : List ℕ). x ++ (codes "|" ++ with_bars K (r ∷ snippets))) h.0
-    ∙ ap (λ (x : List ℕ). encodes t ++ (x ++ with_bars K (r ∷ snippets))) bar
-    ∙ ap (λ (x : List ℕ). encodes t ++ (encodes (124 ∷ []) ++ x)) (bars_are K (r ∷ snippets) (u ∷ ss) h.1)
+    (λ i. h.0 i ++ (bar i ++ bars_are K (r ∷ snippets) (u ∷ ss) h.1 i))
     ∙ ap (λ (x : List ℕ). encodes t ++ x) (sym (encodes-append (124 ∷ []) (barred (u ∷ ss))))
     ∙ sym (encodes-append t (124 ∷ barred (u ∷ ss)))
+bars_are K _ _ e = absurd (cc)
 
 module _ (printed : (whole t : List ℕ) → StandsForView whole (view_in t) t → printed_view (view_in t) (encodes whole) ≡ encodes (print (view_facts t)))
     (spanned : (text : List ℕ) (span : Span) (part : List ℕ) → StandsFor text span part → span_bytes (encodes text) span ≡ encodes part)
     (sliced : (text : List ℕ) (span : Span) (part : List ℕ) → StandsFor text span part → slice span (encodes text) ≡ encodes part) where
   translation_is : (K : List ℕ) (o : Option Span) (s : Option (List ℕ)) → IsTranslation K o s → score.translation_text (encodes K) o ≡ printed_translation (encodes K) o
-  translation_is K None None h = refl
-  translation_is K None (Some s) h = absurd h
-  translation_is K (Some o) None h = absurd h
-  translation_is K (Some o) (Some s) h = ap (λ (x : List ℕ). codes "[" ++ (x ++ codes "]")) (sliced K o s h ∙ sym (spanned K o s h))
+  translation_is K o s h = grind arith
 
   -- the text of a syllable, and what stands after it
   bytes_are : (m : UnplacedSyllable) (K t : List ℕ) (ss : List (List ℕ)) → m.kept ≡ encodes K → m.text ≡ view_in t → StandsForView K m.text t
@@ -75,16 +69,13 @@ module _ (printed : (whole t : List ℕ) → StandsForView whole (view_in t) t �
       ∙ translation_is K m.text.translation _ stands.translation ∙ sym (ap (λ (k : List ℕ). printed_translation k m.text.translation) kept_is) in
       let text : printed_view m.text m.kept ≡ encodes (print (view_facts t)) = ap (printed_view m.text) kept_is ∙ ap (λ (v : ViewContent). printed_view v (encodes K)) view_is ∙ printed K t view in
       let bracketed : notes ≡ encodes (40 ∷ (barred ss ++ 41 ∷ [])) =
-      ap (λ (x : List ℕ). x ++ (with_bars m.kept m.snippets ++ codes ")")) opening
-      ∙ ap (λ (x : List ℕ). encodes (40 ∷ []) ++ (x ++ codes ")")) (bars_are m.kept m.snippets ss texts)
-      ∙ ap (λ (x : List ℕ). encodes (40 ∷ []) ++ (encodes (barred ss) ++ x)) closing
+      (λ i. opening i ++ (bars_are m.kept m.snippets ss texts i ++ closing i))
       ∙ ap (λ (x : List ℕ). encodes (40 ∷ []) ++ x) (sym (encodes-append (barred ss) (41 ∷ [])))
       ∙ sym (encodes-append (40 ∷ []) (barred ss ++ 41 ∷ [])) in
       ap (λ (x : List ℕ). start ++ (canonical_text m.text m.kept ++ (x ++ notes))) own
       ∙ ap (λ (x : List ℕ). start ++ x) (sym (append_assoc (canonical_text m.text m.kept) (printed_translation m.kept m.text.translation) notes))
       ∙ sym (append_assoc start (canonical_text m.text m.kept ++ printed_translation m.kept m.text.translation) notes)
-      ∙ ap (λ (x : List ℕ). x ++ notes) text
-      ∙ ap (λ (x : List ℕ). encodes (print (view_facts t)) ++ x) bracketed
+      ∙ (λ i. text i ++ bracketed i)
       ∙ sym (encodes-append (print (view_facts t)) (40 ∷ (barred ss ++ 41 ∷ [])))
 
   -- ---- the snippets
@@ -149,11 +140,7 @@ module _ (printed : (whole t : List ℕ) → StandsForView whole (view_in t) t �
 
   empty_slice : (K : List ℕ) → slice (record { from = length K; to = length K }) K ≡ []
   unfolding slice
-  empty_slice K = ap (λ (n : ℕ). take n (drop (length K) K)) (sub_self (length K)) ∙ nothing (drop (length K) K)
-    where
-      nothing : (t : List ℕ) → take zero t ≡ []
-      nothing [] = refl
-      nothing (c ∷ t) = refl
+  empty_slice K = grind arith
 
   without_notes : (lines : ℕ) (u : ScoreUnit) (m : UnplacedSyllable) (K : List ℕ) → m.kept ≡ encodes K → m.text ≡ view_in u.text → StandsForView K m.text u.text
       → HoldsNoNotes u.notes K (kept u.text) m.snippets → u.snippets ≡ [] → IsPrinted lines u m
@@ -170,8 +157,4 @@ module _ (printed : (whole t : List ℕ) → StandsForView whole (view_in t) t �
       }
 
   pub is_printed : (lines : ℕ) (u : ScoreUnit) (m : UnplacedSyllable) → HoldsUnit lines u m → (lines ≡ 0 → length u.snippets ≤ 1) → IsPrinted lines u m
-  is_printed lines u m h single = by u.snippets refl h.notes
-    where
-      by : (xss : List (List Char)) → u.snippets ≡ xss → NotesAre lines u xss h.whole m.snippets → IsPrinted lines u m
-      by [] e n = without_notes lines u m h.whole h.kept_is h.view_is h.stands n e
-      by (xs ∷ xss) e n = with_notes lines u m h.whole h.kept_is h.view_is h.stands n single
+  is_printed lines u m h single = grind (arith, without_notes, with_notes)

@@ -13,7 +13,7 @@ use Rattle.gabc_places.specs.declared.place.Char.{Char}
 use Rattle.gabc_text.specs.Events.{codes_of}
 use Rattle.gabc_text.specs.TextRead.{view_in}
 use Rattle.gabc_text.specs.TextView.{ViewContent}
-use Rattle.gabc_text.specs.ViewFacts.{ViewFacts, view_facts}
+use Rattle.gabc_text.specs.ViewFacts.{view_facts}
 use Rattle.gabc_score.specs.Body.{has_text}
 use Rattle.gabc_score.specs.Events.{texts_by_definition}
 use Rattle.gabc_score.specs.Syllable.{UnplacedSyllable, PlacedSyllable}
@@ -29,8 +29,7 @@ use Rattle.gabc_write.proofs.plain.PlainCharacters.{is_plain, append, is_text, t
 
 module _ (begins : (t : List ℕ) → (view_facts (10 ∷ t)).word_start ≡ true) where
   feed_begins : (xs : List Char) → BeginsWithLf xs → (view_facts (codes_of xs)).word_start ≡ true
-  feed_begins [] h = absurd h
-  feed_begins (x ∷ xs) h = ap (λ (c : ℕ). (view_facts (c ∷ codes_of xs)).word_start) (eqb-true x.c 10 h) ∙ begins (codes_of xs)
+  feed_begins xs h = grind (arith, eqb-true)
 
   first_of : (units : List BodyUnit) (last : LastUnit) → BeginsWithLf (characters_from units last) → FirstTextBeginsWord (closed_units units last ++ last_units last)
   first_of (u ∷ units) last h = feed_begins (characters_in u ++ characters_from units last) h
@@ -72,14 +71,11 @@ module _ (lines : ℕ) (one : (u : ScoreUnit) (m : UnplacedSyllable) → HoldsUn
 
   -- a unit begins a word where its text does: the first one's does
   begins_as : (before after : List ScoreUnit) (u : ScoreUnit) → all ≡ before ++ u ∷ after → begins_word before u ≡ (view_in u.text).word_start
-  begins_as [] after u e = sym (subst FirstTextBeginsWord e first)
-  begins_as (b ∷ before) after u e = refl
+  begins_as before after u e = grind arith
 
   after : (before units : List ScoreUnit) (earlier ss : List PlacedSyllable) → all ≡ before ++ units → made ≡ earlier ++ ss → length earlier ≡ length before → length ss ≡ length units
       → (lines ≡ 0 → All IsSingle units) → After units ss
   after before [] earlier [] e f n m single = record { facts = []; are_syllables = tt; facts_are = tt; own = tt; texts = tt; bytes = feed; plain = λ h. is_text (10 ∷ []) refl }
-  after before [] earlier (s ∷ ss) e f n m single = absurd (omega (arith, m))
-  after before (u ∷ units) earlier [] e f n m single = absurd (omega (arith, m))
   after before (u ∷ units) earlier (s ∷ ss) e f n m single =
       let h = syllables.each before units u earlier ss s e f n in
       let p = one u s.made h.holds (λ z. All-head IsSingle u units (single z)) in
@@ -98,11 +94,10 @@ module _ (lines : ℕ) (one : (u : ScoreUnit) (m : UnplacedSyllable) → HoldsUn
             ∙ ap (λ (x : List ℕ). encodes (printed_syllable (view_facts u.text) p.snippets) ++ x) r.bytes ∙ sym (encodes-append (printed_syllable (view_facts u.text) p.snippets) (printed_body r.facts));
         plain = λ k. joined (printed_syllable (view_facts u.text) p.snippets) (printed_body r.facts) (p.plain k.0.0 k.0.1) (r.plain k.1);
       }
+  after before _ earlier _ e f n m single = absurd (omega (arith, m))
 
   first_is : (units : List ScoreUnit) (ss : List PlacedSyllable) (facts : List SyllableFacts) → FirstTextBeginsWord units → AreFactsOf units ss facts → FirstBeginsWord facts
-  first_is [] [] [] h g = tt
-  first_is (u ∷ units) (s ∷ ss) (f ∷ facts) h g = ap (λ (v : ViewFacts). v.word_start) g.0.0 ∙ h
-  first_is _ _ _ h g = absurd g
+  first_is units ss facts h g = grind arith
 
   pub are_printed : (lines ≡ 0 → All IsSingle all) → ArePrinted lines all made
   are_printed single =

@@ -1,5 +1,5 @@
 -- The text of a syllable may be held again after what stands before it, and what may be held with it is equivalent to that syllable.
-use Rattle.std.proofs.Common.{◌≡◌, ℕ, ◌+◌, ◌<◌, ◌≤◌, ◌==◌, ◌||◌, ◌&&◌, Bool, true, false, List, [], ◌∷◌, ◌++◌, length, get_or, map, is_some, encode_utf8_all, Option, Some, None, IfSome, refl, sym, ap, ap₂, subst, ◌∙◌, arith}
+use Rattle.std.proofs.Common.{◌≡◌, ℕ, ◌+◌, ◌<◌, ◌≤◌, ◌==◌, ◌||◌, ◌&&◌, Bool, List, [], ◌∷◌, ◌++◌, length, get_or, map, is_some, encode_utf8_all, Option, Some, IfSome, refl, sym, ap, ap₂, subst, ◌∙◌, arith}
 use Rattle.std.specs.List.{All, list_any}
 use Rattle.std.proofs.lemmas.List.{append_cancel_left}
 use Rattle.std.proofs.lemmas.List.Elements.{All-head, All-tail}
@@ -31,9 +31,7 @@ sounds_said s = (s.0 == 0) && is_some (first_note_or_clef (items_of s.1))
 
 sound_is_said : (kept : List ℕ) (ss : List Snippet) → All (IsWhole kept) ss → sounds_in kept ss ≡ list_any sounds_said (map (said_by kept) ss)
 sound_is_said kept [] h = refl
-sound_is_said kept (s ∷ ss) h =
-    ap (λ (t : List ℕ). ((s.line == 0) && is_some (first_note_or_clef (items_of t))) || sounds_in kept ss) (All-head (IsWhole kept) s ss h)
-    ∙ ap (λ (b : Bool). sounds_said (said_by kept s) || b) (sound_is_said kept ss (All-tail (IsWhole kept) s ss h))
+sound_is_said kept (s ∷ ss) h = grind (arith, sound_is_said kept ss (All-tail (IsWhole kept) s ss h), All-head, All-tail)
 
 same_sound : (n m : UnplacedSyllable) → HasWholeSnippets n → HasWholeSnippets m → SaysTheSame n m → sounds m ≡ sounds n
 same_sound n m whole_n whole_m says =
@@ -47,8 +45,7 @@ last_one xs x y e = ap (λ l. get_or l 0 x) (append_cancel_left xs (x ∷ []) (y
 -- ---- after what stands before it
 
 starts_again : (first : Bool) (m n : UnplacedSyllable) → n.text.word_start ≡ (first || m.text.word_start) → (first || n.text.word_start) ≡ n.text.word_start
-starts_again true m n e = sym e
-starts_again false m n e = refl
+starts_again first m n e = grind arith
 
 module _ (limits : Limits) (before : Before) (m : UnplacedSyllable) (own : IsReadFromItsText before.nabc_lines before.macros (as_it_stands (before.syllables == 0) m)) where
   abbrev first : Bool
@@ -76,20 +73,7 @@ module _ (limits : Limits) (before : Before) (m : UnplacedSyllable) (own : IsRea
     again_after = after_is read.again read.says read.same_text
 
     again_may_be_held : MayBeHeld limits before own.text read.again
-    again_may_be_held =
-        record {
-          read = record {
-            before = opened.before;
-            leaves = opened.leaves;
-            none_earlier = read.none_earlier;
-            one = read.one;
-            few = λ n small. let on_the_way = read.few_on_the_way n small in omega (arith, on_the_way, few);
-            warnings = read.warnings;
-          };
-          kept = let kept = read.few in omega (arith, kept, few);
-          short = subst (λ (t : List ℕ). length t ≤ limits.syllable) (sym again_after) short;
-          file = subst (λ (t : List ℕ). before.canonical + length t + 1 ≤ limits.input) (sym again_after) (omega (arith, file));
-        }
+    again_may_be_held = grind (arith, read, few, again_after)
 
     pub may_be_held : (n : UnplacedSyllable) × MayBeHeld limits before own.text n
     may_be_held = (read.again, again_may_be_held)
@@ -127,5 +111,4 @@ module _ (limits : Limits) (before : Before) (m : UnplacedSyllable) (own : IsRea
 
 pub held_by_its_text : (limits : Limits) (before : Before) (o : Option UnplacedSyllable) → CanBeOpen before.spans → IfSome o (IsReadWhereItStands before.nabc_lines before.macros)
     → IfSome o (IsHeldWithin limits (preceding_of before)) → IfSome o (MayBeHeldByItsText limits before)
-held_by_its_text limits before None opened own within = tt
-held_by_its_text limits before (Some m) opened own within = by_its_text limits before m (own (before.syllables == 0)) opened within.short within.file
+held_by_its_text limits before o opened own within = grind (arith, by_its_text)

@@ -1,5 +1,5 @@
 -- Held syllables that are equivalent and say the same are written alike.
-use Rattle.std.proofs.Common.{◌≡◌, ℕ, ◌||◌, Bool, false, List, [], ◌∷◌, ◌++◌, cond, Option, Some, None, IfSome, sym, ap, ◌∙◌}
+use Rattle.std.proofs.Common.{◌≡◌, ℕ, Bool, Option, Some, None, IfSome, arith}
 use Rattle.std.proofs.lemmas.List.{append_cancel_left}
 use Rattle.gabc_score.specs.Canonical.{canonical, starts_word}
 use Rattle.gabc_score.specs.HeldAside.{HoldTheSame, IsEquivalentSyllable}
@@ -12,15 +12,7 @@ use Rattle.gabc_write.specs.SetDown.{SayTheSame, AreWrittenAlike}
 
 -- what stands after the LF before a word is the same
 canonical_alike : (first : Bool) (m n : UnplacedSyllable) → IsEquivalentSyllable first m n → (starts : Bool) → canonical starts m ≡ canonical starts n
-canonical_alike first m n h starts = ap (λ (t : List ℕ). cond starts (10 ∷ []) [] ++ t) after
-  where
-    begins : Bool
-    begins = first || m.text.word_start
-
-    after : canonical false m ≡ canonical false n
-    after =
-        append_cancel_left (cond begins (10 ∷ []) []) (canonical false m) (canonical false n)
-        (h.canonical ∙ ap (λ (b : Bool). canonical b n) (sym h.starts))
+canonical_alike first m n h starts = grind (arith, append_cancel_left)
 
 module _ (whole : (lines : ℕ) (n : UnplacedSyllable) → HoldsSomeUnit lines n → HasWholeSnippets n)
     (dump : (first : Bool) (m n : UnplacedSyllable) (position : Position) → HasWholeSnippets m → HasWholeSnippets n → SayTheSame first (Some m) (Some n)
@@ -28,9 +20,8 @@ module _ (whole : (lines : ℕ) (n : UnplacedSyllable) → HoldsSomeUnit lines n
   pub written_alike : (first : Bool) (lines others : ℕ) (o p : Option UnplacedSyllable) → IfSome o (HoldsSomeUnit lines) → IfSome p (HoldsSomeUnit others)
       → HoldTheSame first o p → SayTheSame first o p → AreWrittenAlike o p
   written_alike first lines others None None a b h says = tt
-  written_alike first lines others None (Some n) a b h says = absurd h
-  written_alike first lines others (Some m) None a b h says = absurd h
   written_alike first lines others (Some m) (Some n) a b h says = λ position. record {
     canonical = canonical_alike first m n h (starts_word position);
     dump = dump first m n position (whole lines m a) (whole others n b) says;
   }
+  written_alike first lines others _ _ a b h says = absurd h

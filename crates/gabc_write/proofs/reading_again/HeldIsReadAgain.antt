@@ -1,5 +1,5 @@
 -- The syllable that a stage over a score holds is read again from its own text, and its text is one syllable.
-use Rattle.std.proofs.Common.{◌≡◌, ℕ, ◌+◌, ◌<◌, ◌≤◌, ◌^◌, ◌||◌, Bool, true, false, List, [], length, Option, Some, None, IfSome, refl, subst, arith}
+use Rattle.std.proofs.Common.{◌≡◌, ℕ, ◌+◌, ◌<◌, ◌≤◌, ◌^◌, ◌||◌, Bool, true, false, List, [], length, Option, Some, None, IfSome, refl, arith}
 use Rattle.std.proofs.lemmas.List.Elements.{All-weaker}
 use Rattle.std.specs.List.{All}
 use Rattle.gabc_places.specs.declared.limits.Limits.{Limits}
@@ -30,6 +30,4 @@ module _ (lines macros : ℕ) where
 
   pub written_as_one : (held : Option UnplacedSyllable) (given : List PlacedSyllable) → IfSome held (IsReadWhereItStands lines macros) → All (λ (p : PlacedSyllable). held ≡ Some p.made) given
       → All (λ (p : PlacedSyllable). IsWrittenAsOne lines macros p.made) given
-  written_as_one held given own are =
-      All-weaker (λ (p : PlacedSyllable). held ≡ Some p.made) (λ (p : PlacedSyllable). IsWrittenAsOne lines macros p.made)
-      (λ p is. as_one p.made (subst (λ (o : Option UnplacedSyllable). IfSome o (IsReadWhereItStands lines macros)) is own)) given are
+  written_as_one held given own are = grind (arith, All-weaker, as_one)

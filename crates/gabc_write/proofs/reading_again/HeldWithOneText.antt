@@ -1,5 +1,5 @@
 -- Two syllables that are held after the same and have one canonical text there are equivalent.
-use Rattle.std.proofs.Common.{◌≡◌, ℕ, ◌==◌, Bool, true, List, Option, Some, None, IfSome, is_some, sym, ap, subst, ◌∙◌}
+use Rattle.std.proofs.Common.{◌≡◌, ℕ, ◌==◌, Bool, true, List, Option, Some, IfSome, is_some, sym, ap, subst, ◌∙◌, arith}
 use Rattle.std.specs.Option.{option_map}
 use Rattle.std.specs.Prelude.{IsUtf8}
 use Rattle.std.proofs.lemmas.Str.{chars_from_encodes}
@@ -29,13 +29,7 @@ use Rattle.gabc_write.proofs.reading_again.StageHoldsAgain.{told_before, told_in
 
 -- both is equivalent to a third
 both_stand : (first : Bool) (m n k : UnplacedSyllable) → IsEquivalentSyllable first m k → IsEquivalentSyllable first n k → IsEquivalentSyllable first m n
-both_stand first m n k h g = record {
-  starts = h.starts ∙ sym g.starts;
-  canonical = h.canonical ∙ sym g.canonical;
-  eu = h.eu ∙ sym g.eu;
-  nlba = h.nlba ∙ sym g.nlba;
-  sounds = h.sounds ∙ sym g.sounds;
-}
+both_stand first m n k h g = grind arith
 
 both_say : (first : Bool) (m n k : UnplacedSyllable) → SayTheSame first (Some m) (Some k) → SayTheSame first (Some n) (Some k) → SayTheSame first (Some m) (Some n)
 both_say first m n k h g position = h position ∙ sym (g position)
@@ -79,22 +73,13 @@ module _ (opened : (spans : Spans) → CanBeOpen spans) (whole : (lines : ℕ) (
   -- in the same way where at most one is held
   pub both : (o p : Option UnplacedSyllable) → IfSome o (IsHeldThere before) → IfSome p (IsHeldThere before) → IfSome o (IsHeldWithin limits (preceding_of before)) → IfSome o (λ m. IsUtf8 (written_after (preceding_of before) m))
       → option_map (written_after (preceding_of before)) o ≡ option_map (written_after (preceding_of before)) p → HoldTheSame first o p × SayTheSame first o p
-  both None None h g within utf8 same = (tt, tt)
-  both None (Some n) h g within utf8 same = absurd (cc)
-  both (Some m) None h g within utf8 same = absurd (cc)
-  both (Some m) (Some n) h g within utf8 same =
-      let texts : written_after (preceding_of before) m ≡ written_after (preceding_of before) n = some_is _ _ same in
-      (stand_for_one m n h g within utf8 texts, say_one m n h g within utf8 texts)
-    where
-      some_is : (s t : List ℕ) → Some s ≡ Some t → s ≡ t
-      some_is s t e = cc e
+  both o p h g within utf8 same = grind (arith, stand_for_one, say_one)
 
 -- ---- two stages
 
 held_there : (before : Before) (o : Option UnplacedSyllable) → IfSome o (IsReadWhereItStands before.nabc_lines before.macros) → IfSome o (FollowsSpans before.spans) → IfSome o (HoldsSomeUnit before.nabc_lines)
     → IfSome o (IsHeldThere before)
-held_there before None read spans holds = tt
-held_there before (Some m) read spans holds = record { own = read; spans = spans; holds = holds }
+held_there before o read spans holds = grind (arith, own)
 
 -- what is known of the syllable that a stage holds
 pub record IsKnown (s : ScoreStageState) : Type 0 where
@@ -103,16 +88,12 @@ pub record IsKnown (s : ScoreStageState) : Type 0 where
   pub holds : IfSome (held_of s) (HoldsSomeUnit s.body.nabc_lines)
 
 are_utf8 : (p : Preceding) (o : Option UnplacedSyllable) → IfSome o (λ m. IsText (written_after p m)) → IfSome o (λ m. IsUtf8 (written_after p m))
-are_utf8 p None h = tt
-are_utf8 p (Some m) h = h.utf8
+are_utf8 p o h = grind arith
 
 module _ (opened : (spans : Spans) → CanBeOpen spans) (whole : (lines : ℕ) (n : UnplacedSyllable) → HoldsSomeUnit lines n → HasWholeSnippets n)
     (one other : ScoreStageState) (runs : is_some (before_of one) ≡ true) (before : before_of one ≡ before_of other) where
   before_one : told_before other ≡ told_before one
-  before_one = some_is (sym (told_in_body other.part (told_before other) (ap is_some (sym before) ∙ runs)) ∙ sym before ∙ told_in_body one.part (told_before one) runs)
-    where
-      some_is : Some (told_before other) ≡ Some (told_before one) → told_before other ≡ told_before one
-      some_is e = cc e
+  before_one = cc (told_in_body other.part (told_before other) (ap is_some (sym before) ∙ runs), before, told_in_body one.part (told_before one) runs)
 
   pub hold_alike : IsKnown one → IsKnown other → IfSome (held_of one) (IsHeldWithin one.limits one.before) → IfSome (held_of one) (λ m. IsText (written_after one.before m))
       → option_map (written_after one.before) (held_of one) ≡ option_map (written_after other.before) (held_of other)
@@ -128,19 +109,4 @@ module _ (opened : (spans : Spans) → CanBeOpen spans) (whole : (lines : ℕ) (
 pub goes_on_in_line : (one other : ScoreStageState) → AreSavedAlike one other → HoldTheSame (one.before.syllables == 0) (held_of one) (held_of other) → SayTheSame (one.before.syllables == 0) (held_of one) (held_of other)
     → (AreEquivalent one other → (xs : List HeadEvent) → AreInLine one.held.next xs → GiveTheSame (held_of one) (held_of other) (left_of one xs) (left_of other xs))
     → GoesOnEquivalentlyInLine one other
-goes_on_in_line one other saved held says agree = record {
-  held = held;
-  says = says;
-  gives = agree (record {
-    runs = saved.runs;
-    limits = saved.limits;
-    before = saved.before;
-    held = held;
-    reading = saved.reading;
-    openers = saved.openers;
-    comment = saved.comment;
-    next = saved.next;
-    stands = saved.stands;
-    other_stands = saved.other_stands;
-  });
-}
+goes_on_in_line one other saved held says agree = grind arith

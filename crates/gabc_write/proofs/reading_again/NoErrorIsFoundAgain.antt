@@ -1,14 +1,14 @@
 -- What is found in a canonical file are warnings.
-use Rattle.std.proofs.Common.{◌≡◌, ℕ, List, [], ◌∷◌, Bool, true, false, cond, Some, Ok, refl, sym, subst, codes}
+use Rattle.std.proofs.Common.{◌≡◌, ℕ, List, [], ◌∷◌, false, Some, Ok, refl, sym, subst, arith}
 use Rattle.std.specs.List.{All}
 use Rattle.std.proofs.lemmas.List.Elements.{All-nil, All-cons}
 use Rattle.gabc_places.specs.declared.limits.Limits.{Limits}
 use Rattle.gabc_places.specs.declared.place.Place.{Place}
 use Rattle.gabc_places.specs.declared.place.Char.{Char}
 use Rattle.gabc_headers.specs.declared.heads.Heads.{Heads}
-use Rattle.gabc_headers.specs.Book.{nabc_lines_of, has_header, macros_of}
+use Rattle.gabc_headers.specs.Book.{nabc_lines_of, macros_of}
 use Rattle.gabc_headers.specs.Heads.{heads_of}
-use Rattle.gabc_headers.specs.HeadsAgain.{nameless, heads_again}
+use Rattle.gabc_headers.specs.HeadsAgain.{heads_again}
 use Rattle.gabc_text.specs.Events.{codes_of}
 use Rattle.gabc_text.specs.View.{findings}
 use Rattle.gabc_text.specs.ViewFacts.{has_error}
@@ -18,7 +18,7 @@ use Rattle.gabc_score.specs.declared.ending.InputEnding.TheVariants.{Whole}
 use Rattle.gabc_score.specs.Events.{next_line}
 use Rattle.gabc_score.specs.FoundInParts.{TextWarns, SnippetsWarn, UnitsWarn}
 use Rattle.gabc_score.specs.Score.{score_of}
-use Rattle.gabc_score.specs.SyllablesOfUnits.{snippets_in, characters_from, score_unit, IsBodyCut}
+use Rattle.gabc_score.specs.SyllablesOfUnits.{IsBodyCut}
 use Rattle.gabc_score.specs.Units.{EndedPart, BodyUnit, LastUnit, JustText, BodyCutting}
 use Rattle.gabc_write.specs.SyllableAgain.{AreSnippetsAgain}
 use Rattle.gabc_write.specs.BodyAgain.{SyllableFacts, SayAgain}
@@ -26,11 +26,7 @@ use Rattle.gabc_write.specs.FileAgain.{printed_file, IsFileAgain}
 
 -- that there is no header `name` is a warning
 heads_warn : (book : List (List ℕ × List ℕ)) → All IsWarning (heads_again book).findings
-heads_warn book = by (has_header (codes "name") book)
-  where
-    by : (b : Bool) → All IsWarning (cond b [] (nameless book ∷ []))
-    by true = All-nil IsWarning
-    by false = All-cons IsWarning (nameless book) [] refl (All-nil IsWarning)
+heads_warn book = grind (arith, All-nil, All-cons)
 
 -- nothing is found in an LF
 lf_warns : TextWarns (10 ∷ [])
@@ -45,9 +41,7 @@ module _ (text_warns : (at : Place) (t : List ℕ) → has_error (findings at t)
   units_warn : (units : List BodyUnit) (last : LastUnit) (facts : List SyllableFacts) → SayAgain lines macros units last facts → UnitsWarn lines macros units last
   units_warn [] last facts h = tt
   units_warn (u ∷ units) last [] h = absurd h
-  units_warn (u ∷ units) last (f ∷ facts) h =
-      let after = characters_from units last in
-      (((λ at. text_warns at (score_unit u after).text (h.0.errors at)), snippets_warn 0 (snippets_in u) after f.snippets h.0.snippets), units_warn units last facts h.1)
+  units_warn (u ∷ units) last (f ∷ facts) h = grind (arith, units_warn units last facts h.1, snippets_warn)
 
 pub file_warns : (text_warns : (at : Place) (t : List ℕ) → has_error (findings at t) ≡ false → All IsWarning (findings at t))
     → (score_warns : (limits : Limits) (ending : InputEnding) (t : List ℕ) (heads : Heads) (cut : BodyCutting) (units : List BodyUnit) (last : List Char)

@@ -1,5 +1,5 @@
 -- Where a canonical file is read again, no limit is passed.
-use Rattle.std.proofs.Common.{◌≡◌, ℕ, ◌+◌, ◌≤◌, ◌<◌, ◌^◌, List, [], ◌∷◌, ◌++◌, length, length-append, Bool, true, false, cond, codes, Some, None, refl, sym, ap, subst, ◌∙◌, arith}
+use Rattle.std.proofs.Common.{◌≡◌, ℕ, ◌+◌, ◌≤◌, ◌<◌, ◌^◌, List, [], ◌∷◌, ◌++◌, length, length-append, cond, codes, Some, None, refl, sym, ap, subst, ◌∙◌, arith}
 use Rattle.std.specs.List.{All}
 use Rattle.std.proofs.lemmas.List.Elements.{All-nil, All-cons, All-head, All-tail, All-weaker}
 use Rattle.std.proofs.lemmas.Str.{encodes-append}
@@ -11,7 +11,6 @@ use Rattle.gabc_headers.specs.Book.{nabc_lines_of, macros_of}
 use Rattle.gabc_headers.specs.Canonical.{canonical_heads}
 use Rattle.gabc_text.specs.Events.{codes_of}
 use Rattle.gabc_text.specs.Printed.{print, text_tokens, translation_tokens, text_of_tokens}
-use Rattle.gabc_text.specs.View.{kept}
 use Rattle.gabc_text.specs.ViewFacts.{ViewFacts}
 use Rattle.gabc_score.specs.declared.ending.InputEnding.TheVariants.{Whole}
 use Rattle.gabc_score.specs.Canonical.{canonical_in_place}
@@ -21,7 +20,7 @@ use Rattle.gabc_score.specs.Syllable.{PlacedSyllable}
 use Rattle.gabc_score.specs.Units.{BodyUnit, LastUnit, JustText, BodyCutting, IsCut}
 use Rattle.gabc_score.specs.SyllablesOfUnits.{ScoreUnit, score_unit, characters_from, closed_units, score_units, AreSyllablesOf, body_characters, IsBodyCut}
 use Rattle.gabc_score.specs.WithinLimits.{CanonicalWithin, KeepsWithin}
-use Rattle.gabc_write.specs.SyllableAgain.{barred, printed_syllable, SaysAgain}
+use Rattle.gabc_write.specs.SyllableAgain.{printed_syllable, SaysAgain}
 use Rattle.gabc_write.specs.BodyAgain.{SyllableFacts, printed_body, SayAgain, FirstTextBeginsWord, ArePrintedTexts, AreOwnFacts, ArePrinted}
 use Rattle.gabc_write.specs.CanonicalFile.{canonical_text_of, score_text}
 use Rattle.gabc_write.specs.FileAgain.{printed_file, IsFileAgain}
@@ -38,67 +37,48 @@ AllShort limit facts = All (λ (f : SyllableFacts). size (printed_syllable f.vie
 pub printed_short : (limit : ℕ) (syllables : List PlacedSyllable) (facts : List SyllableFacts) → ArePrintedTexts syllables facts
     → All (λ (s : PlacedSyllable). length (canonical_in_place s) ≤ limit) syllables → AllShort limit facts
 printed_short limit [] [] h k = All-nil (λ (f : SyllableFacts). size (printed_syllable f.view f.snippets) ≤ limit)
-printed_short limit [] (f ∷ facts) h k = absurd h
-printed_short limit (s ∷ syllables) [] h k = absurd h
 printed_short limit (s ∷ syllables) (f ∷ facts) h k =
     All-cons (λ (f : SyllableFacts). size (printed_syllable f.view f.snippets) ≤ limit) f facts
     (subst (λ (t : List ℕ). length t ≤ limit) h.0 (All-head (λ (s : PlacedSyllable). length (canonical_in_place s) ≤ limit) s syllables k))
     (printed_short limit syllables facts h.1 (All-tail (λ (s : PlacedSyllable). length (canonical_in_place s) ≤ limit) s syllables k))
+printed_short limit _ _ h k = absurd h
 
 texts_short : (limit : ℕ) (syllables : List PlacedSyllable) (facts : List SyllableFacts) → ArePrintedTexts syllables facts
     → AllShort limit facts → All (λ (s : PlacedSyllable). length (canonical_in_place s) ≤ limit) syllables
 texts_short limit [] [] h k = All-nil (λ (s : PlacedSyllable). length (canonical_in_place s) ≤ limit)
-texts_short limit [] (f ∷ facts) h k = absurd h
-texts_short limit (s ∷ syllables) [] h k = absurd h
 texts_short limit (s ∷ syllables) (f ∷ facts) h k =
     All-cons (λ (s : PlacedSyllable). length (canonical_in_place s) ≤ limit) s syllables
     (subst (λ (t : List ℕ). length t ≤ limit) (sym h.0) (All-head (λ (f : SyllableFacts). size (printed_syllable f.view f.snippets) ≤ limit) f facts k))
     (texts_short limit syllables facts h.1 (All-tail (λ (f : SyllableFacts). size (printed_syllable f.view f.snippets) ≤ limit) f facts k))
+texts_short limit _ _ h k = absurd h
 
 -- what is within limits is within larger ones
 pub within_larger : (limits larger : Limits) (head : ℕ) (syllables : List PlacedSyllable) → AreNoLess limits larger → CanonicalWithin limits head syllables → CanonicalWithin larger head syllables
-within_larger limits larger head syllables no_less w = record {
-  texts = All-weaker (λ (s : PlacedSyllable). length (canonical_in_place s) ≤ limits.syllable) (λ (s : PlacedSyllable). length (canonical_in_place s) ≤ larger.syllable)
-      (λ s h. omega (arith, h, no_less.syllable)) syllables w.texts;
-  file = omega (arith, w.file, no_less.input);
-}
+within_larger limits larger head syllables no_less w = grind (arith, All-weaker)
 
 -- ---- what units keep
 
 -- the kept text of a printed text is as long as that: its LF is kept as a blank
 kept_size : (v : ViewFacts) → size (cond v.word_start (codes " ") [] ++ text_of_tokens (text_tokens v ++ translation_tokens v.translation)) ≡ size (print v)
 unfolding encode
-kept_size v = by v.word_start refl
-  where
-    by : (b : Bool) → v.word_start ≡ b → size (cond v.word_start (codes " ") [] ++ text_of_tokens (text_tokens v ++ translation_tokens v.translation)) ≡ size (print v)
-    by true e = rw e refl
-    by false e = rw e refl
+kept_size v = grind arith
 
 module _ (lines macros limit : ℕ) where
   pub one_keeps : (u : BodyUnit) (after : List Char) (v : ViewFacts) (ss : List (List ℕ)) → SaysAgain lines macros u after v ss → size (printed_syllable v ss) ≤ limit → KeepsWithin limit (score_unit u after)
-  one_keeps u after v ss h few =
-      let text : size (kept (score_unit u after).text) ≡ size (print v) = ap size h.kept ∙ kept_size v in
-      let notes : size (score_unit u after).notes ≡ size (40 ∷ (barred ss ++ 41 ∷ [])) = ap size h.notes in
-      let all : size (printed_syllable v ss) ≡ size (print v) + size (40 ∷ (barred ss ++ 41 ∷ [])) =
-      ap length (encodes-append (print v) (40 ∷ (barred ss ++ 41 ∷ []))) ∙ length-append (encodes (print v)) (encodes (40 ∷ (barred ss ++ 41 ∷ []))) in
-      omega arith
+  one_keeps u after v ss h few = grind (arith, kept_size, encodes-append, length-append)
 
   all_keep : (units : List BodyUnit) (last : LastUnit) (facts : List SyllableFacts) → SayAgain lines macros units last facts → AllShort limit facts → All (KeepsWithin limit) (closed_units units last)
   all_keep [] last [] h k = All-nil (KeepsWithin limit)
-  all_keep [] last (f ∷ facts) h k = absurd h
-  all_keep (u ∷ units) last [] h k = absurd h
   all_keep (u ∷ units) last (f ∷ facts) h k =
       All-cons (KeepsWithin limit) (score_unit u (characters_from units last)) (closed_units units last)
       (one_keeps u (characters_from units last) f.view f.snippets h.0 (All-head (λ (f : SyllableFacts). size (printed_syllable f.view f.snippets) ≤ limit) f facts k))
       (all_keep units last facts h.1 (All-tail (λ (f : SyllableFacts). size (printed_syllable f.view f.snippets) ≤ limit) f facts k))
+  all_keep _ last _ h k = absurd h
 
 -- ---- the file
 
 file_size : (book : List (List ℕ × List ℕ)) (syllables : List PlacedSyllable) → length (score_text book syllables) ≡ size (canonical_heads book) + length (canonical_text_of syllables) + 1
-file_size book syllables =
-    let a : length (score_text book syllables) ≡ size (canonical_heads book) + length (canonical_text_of syllables ++ codes "\n") = length-append (encodes (canonical_heads book)) (canonical_text_of syllables ++ codes "\n") in
-    let b : length (canonical_text_of syllables ++ codes "\n") ≡ length (canonical_text_of syllables) + 1 = length-append (canonical_text_of syllables) (codes "\n") in
-    omega arith
+file_size book syllables = grind (arith, length-append)
 
 -- the canonical file of a score that is within the limits is no longer than the input may be
 pub file_fits : (limits : Limits) (book : List (List ℕ × List ℕ)) (syllables : List PlacedSyllable) → CanonicalWithin limits (size (canonical_heads book)) syllables → length (score_text book syllables) ≤ limits.input

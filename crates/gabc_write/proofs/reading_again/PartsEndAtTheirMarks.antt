@@ -1,5 +1,5 @@
 -- Where the end of a part is emitted, there the part ends in the cutting of a body.
-use Rattle.std.proofs.Common.{◌≡◌, ℕ, suc, List, [], ◌∷◌, ◌++◌, length, length-append, take, Bool, true, false, ◌||◌, if◌then◌else◌, Option, Some, None, refl, sym, ap, subst, ◌∙◌, append-nil, arith}
+use Rattle.std.proofs.Common.{◌≡◌, ℕ, suc, List, [], ◌∷◌, ◌++◌, length, length-append, take, Bool, true, false, if◌then◌else◌, Option, Some, None, refl, sym, ap, subst, ◌∙◌, append-nil, arith}
 use Rattle.std.specs.List.{list_any}
 use Rattle.gabc_places.proofs.NothingAfterAnEnd.{both_empty}
 use Rattle.gabc_notes.proofs.grammar.LawsOfEventsByPoint.{ends_append}
@@ -25,20 +25,15 @@ use Rattle.gabc_score.specs.Units.{Mark, Opens, Next, Closes, EndsAfter}
 
 text_ended : (events : List TextEvent) → list_any is_text_end (events ++ text_out.Ended text_end.Notes ∷ []) ≡ true
 text_ended [] = refl
-text_ended (x ∷ events) = by (is_text_end x) (text_ended events)
-  where
-    by : (b : Bool) → list_any is_text_end (events ++ text_out.Ended text_end.Notes ∷ []) ≡ true → (b || list_any is_text_end (events ++ text_out.Ended text_end.Notes ∷ [])) ≡ true
-    by true e = refl
-    by false e = e
+text_ended (x ∷ events) = grind (arith, text_ended events)
 
 text_after : (lines : ℕ) (before : List (List TextEvent)) (l : List TextEvent) (after : List (List TextEvent)) (xs : List Char) → ends_in (concat_of before) ≡ []
     → length before ≡ length xs → list_any is_text_end l ≡ true → EndsAfter lines (InText (before ++ l ∷ after)) xs Opens
 text_after lines [] l after [] e n h = ap (λ (b : Bool). if b then Some Opens else None) h
-text_after lines [] l after (x ∷ xs) e n h = absurd (omega (arith, n))
-text_after lines (b ∷ before) l after [] e n h = absurd (omega (arith, n))
 text_after lines (b ∷ before) l after (x ∷ xs) e n h =
     let o = ends_apart b (concat_of before) e in
     (ap (λ (z : Bool). if z then Some Opens else None) (none_ends b o.0), text_after lines before l after xs o.1 (omega (arith, n)) h)
+text_after lines _ l after _ e n h = absurd (omega (arith, n))
 
 -- a text that leaves a `(` and what follows ends there
 pub text_ends : (lines : ℕ) (at : Place) (t rest : List ℕ) (xs : List Char) → EndsOnce at (t ++ 40 ∷ rest) → after_tokens (t ++ 40 ∷ rest) ≡ 40 ∷ rest → length xs ≡ length t
@@ -77,32 +72,11 @@ one_mark : (lines line : ℕ) (opened : Place) (how : NoteEnd) (n : ℕ) (events
 one_mark lines line opened how n [] e = absurd (cc)
 one_mark lines line opened how n (note_out.Kept x ∷ events) e = one_mark lines line opened how n events e
 one_mark lines line opened how n (note_out.Found f ∷ events) e = one_mark lines line opened how n events e
-one_mark lines line opened how n (note_out.Ended end m ∷ events) e =
-    let h = heads e in
-    let o = next_none events (tails e) in
-    subst (λ (x : NoteEnd). (if list_any is_next (note_out.Ended end m ∷ events) then Some (Next (next_line lines line) opened) else if list_any is_close (note_out.Ended end m ∷ events) then Some Closes else None) ≡ mark_of lines line opened x) h
-    (by end o.0 o.1)
-  where
-    pairs : (end, m) ∷ ends_of events ≡ (how, n) ∷ [] → ◌≡◌ {A = NoteEnd × ℕ} (end, m) (how, n)
-    pairs e = cc
-
-    heads : (end, m) ∷ ends_of events ≡ (how, n) ∷ [] → end ≡ how
-    heads e = ap (λ (x : NoteEnd × ℕ). x.0) (pairs e)
-
-    tails : (end, m) ∷ ends_of events ≡ (how, n) ∷ [] → ends_of events ≡ []
-    tails e = cc
-
-    by : (end : NoteEnd) → list_any is_next events ≡ false → list_any is_close events ≡ false
-        → (if list_any is_next (note_out.Ended end m ∷ events) then Some (Next (next_line lines line) opened) else if list_any is_close (note_out.Ended end m ∷ events) then Some Closes else None) ≡ mark_of lines line opened end
-    by note_end.Next a b = refl
-    by note_end.Close a b = rw (a) refl
-    by (note_end.Cut p) a b = rw (a, b) refl
+one_mark lines line opened how n (note_out.Ended end m ∷ events) e = grind (arith, next_none)
 
 -- the lists before have no end, and that of the mark has one
 pub snippet_ends : (lines line : ℕ) (opened : Place) (mark : Mark) (lists : List (List NoteEvent)) (xs : List Char) (how : NoteEnd) (n : ℕ) → mark_of lines line opened how ≡ Some mark
     → ends_of (concat_of (take (length xs) lists)) ≡ [] → ends_of (concat_of (take (suc (length xs)) lists)) ≡ (how, n) ∷ [] → EndsAfter lines (InNotes line opened lists) xs mark
-snippet_ends lines line opened mark [] [] how n m e f = absurd (cc)
-snippet_ends lines line opened mark [] (x ∷ xs) how n m e f = absurd (cc)
 snippet_ends lines line opened mark (l ∷ lists) [] how n m e f = one_mark lines line opened how n l (sym (ap ends_of (append-nil l)) ∙ f) ∙ m
 snippet_ends lines line opened mark (l ∷ lists) (x ∷ xs) how n m e f =
     let o = both_empty (ends_of l) (ends_of (concat_of (take (length xs) lists))) (sym (ends_append l (concat_of (take (length xs) lists))) ∙ e) in
@@ -110,3 +84,4 @@ snippet_ends lines line opened mark (l ∷ lists) (x ∷ xs) how n m e f =
     let later : ends_of (concat_of (take (suc (length xs)) lists)) ≡ (how, n) ∷ [] =
     sym (ap (λ (z : List (NoteEnd × ℕ)). z ++ ends_of (concat_of (take (suc (length xs)) lists))) o.0) ∙ sym (ends_append l (concat_of (take (suc (length xs)) lists))) ∙ f in
     (rw (none.0, none.1) refl, snippet_ends lines line opened mark lists xs how n m o.1 later)
+snippet_ends lines line opened mark _ _ how n m e f = absurd (cc)

@@ -27,11 +27,7 @@ open_by lines (b ∷ before) after (x ∷ xs) e n =
     (ap (λ (z : Bool). if z then Some Opens else None) (none_ends b o.0), open_by lines before after xs o.1 (omega (arith, n)))
 
 text_open : (lines : ℕ) (at : Place) (t : List ℕ) (xs : List Char) → EndsOnce at t → after_tokens t ≡ [] → length xs ≡ length t → Endless lines (InText (events_by_point at t)) xs
-text_open lines at t xs ends none n =
-    let whole : length t ≡ length (ends.prefix ++ ends.rest) = ap (length {A = ℕ}) ends.text_is in
-    let nothing : length ends.rest ≡ length {A = ℕ} [] = ap (length {A = ℕ}) (ends.rest_is ∙ none) in
-    let long : length ends.before ≡ length xs = omega (arith, whole, nothing, length-append ends.prefix ends.rest, ends.one_each, n) in
-    subst (λ (lists : List (List TextEvent)). Endless lines (InText lists) xs) (sym ends.events_are) (open_by lines ends.before _ xs ends.none_before long)
+text_open lines at t xs ends none n = grind (arith, length-append, open_by)
 
 print_begins : (v : ViewFacts) → v.word_start ≡ true → (x : List ℕ) × (print v ≡ 10 ∷ x)
 print_begins v e = (_, ap (λ (b : Bool). text_of_tokens ((word_break b ++ text_tokens v) ++ translation_tokens v.translation)) e)

@@ -1,6 +1,5 @@
 -- A printed syllable is one unit in front of whatever follows.
-use Rattle.std.proofs.Common.{◌≡◌, ℕ, zero, suc, nat_lt, List, [], ◌∷◌, ◌++◌, length, Bool, true, false, cond, refl, sym, ap, subst, ◌∙◌, append_assoc, append-nil, arith, codes}
-use Rattle.std.proofs.lemmas.Bool.Decides.{nat_tests}
+use Rattle.std.proofs.Common.{◌≡◌, ℕ, List, [], ◌∷◌, ◌++◌, length, Bool, true, false, cond, refl, sym, ap, subst, ◌∙◌, append_assoc, append-nil, arith, codes}
 use Rattle.gabc_text.proofs.KeptCharacters.{codes_placed}
 use Rattle.gabc_score.proofs.syllables_of_units.UnitsGiveSyllables.{units_whole}
 use Rattle.gabc_places.specs.declared.place.Place.{Place}
@@ -11,7 +10,7 @@ use Rattle.gabc_patterns.specs.LongestItems.{IsSnippet}
 use Rattle.gabc_text.specs.View.{kept, findings}
 use Rattle.gabc_text.specs.ViewFacts.{view_facts, has_error}
 use Rattle.gabc_text.specs.Printed.{print, text_tokens, translation_tokens, text_of_tokens}
-use Rattle.gabc_text.specs.Events.{codes_of, after_tokens, events_by_point}
+use Rattle.gabc_text.specs.Events.{codes_of, after_tokens}
 use Rattle.gabc_text.specs.Ends.{EndsOnce}
 use Rattle.gabc_notes.specs.Table.{gabc}
 use Rattle.gabc_notes.specs.declared.stage.NoteEnd.{NoteEnd}
@@ -19,7 +18,7 @@ use Rattle.gabc_notes.specs.Ends.{IsMarkOf}
 use Rattle.gabc_notes.specs.ReadAgain.{IsReadAgain}
 use Rattle.gabc_nabc.specs.Table.{nabc}
 use Rattle.gabc_nabc.specs.ReadAgain.{IsNabcReadAgain}
-use Rattle.gabc_score.specs.Events.{InText, texts_by_definition, text_from, snippet_from, after_mark}
+use Rattle.gabc_score.specs.Events.{texts_by_definition, text_from, snippet_from, after_mark}
 use Rattle.gabc_score.specs.Units.{Opens, Closes, BodyUnit, LastUnit, CutPart, cut_part, snippets_with, last_characters, units_pieces, whole, EndsAfter, Cuts}
 use Rattle.gabc_score.specs.SyllablesOfUnits.{with_ends, snippets_in, characters_in}
 use Rattle.gabc_write.specs.SyllableAgain.{barred, printed_syllable, AreSnippets, AreSnippetsFrom, AreUnitsFrom, IsOneUnit}
@@ -38,11 +37,7 @@ module _ (ends_once : (at : Place) (t : List ℕ) → EndsOnce at t)
     (nabc_again : (at : Place) (how : NoteEnd) (t rest : List ℕ) (mark : ℕ) → IsSnippet nabc t → IsMarkOf true how mark → IsNabcReadAgain at t mark rest)
     (lines macros : ℕ) where
   several : (ss : List (List ℕ)) → (lines ≡ 0 → length ss ≡ 1) → Several gabc_again nabc_again lines macros ss
-  several ss h s t us e = by lines refl
-    where
-      by : (n : ℕ) → lines ≡ n → nat_lt 0 lines ≡ true
-      by zero f = absurd (let g : length (s ∷ t ∷ us) ≡ 1 = sym (ap (length {A = List ℕ}) e) ∙ h f in omega (arith, g))
-      by (suc n) f = let g : nat_lt 0 (suc n) ≡ true = grind (arith, nat_tests) in ap (nat_lt 0) f ∙ g
+  several ss h s t us e = grind arith
 
   module _ (at : Place) (t : List ℕ) (s : List ℕ) (ss : List (List ℕ)) (rest : List ℕ) (single : lines ≡ 0 → length (s ∷ ss) ≡ 1) (each : AreSnippetsFrom lines 0 (s ∷ ss)) where
     abbrev text : List ℕ
@@ -100,10 +95,7 @@ module _ (ends_once : (at : Place) (t : List ℕ) → EndsOnce at t)
         ap (λ (x : List ℕ). 40 ∷ x) (ap codes_of (sym spelled_all) ∙ codes_placed notes (barred (s ∷ ss) ++ 41 ∷ []))
 
     text_cut : (begins : Place) → EndsAfter lines (text_from texts_by_definition begins (placed_characters_from at (all ++ rest))) unit.text.characters Opens
-    text_cut begins =
-        let e : codes_of (placed_characters_from at (all ++ rest)) ≡ text ++ 40 ∷ later = codes_placed at (all ++ rest) ∙ text_is in
-        subst (λ (x : List ℕ). EndsAfter lines (InText (events_by_point begins x)) unit.text.characters Opens) (sym e)
-        (text_ends lines begins text later unit.text.characters (ends_once begins (text ++ 40 ∷ later)) (ends t later) (length_placed at text))
+    text_cut begins = grind (arith, codes_placed, text_is, text_ends, length_placed)
 
     one_more : (begins : Place) (units : List BodyUnit) (last : LastUnit) → AreUnitsFrom lines macros (after_mark unit.final.end.place) after units last
         → AreUnitsFrom lines macros begins (placed_characters_from at (all ++ rest)) (unit ∷ units) last

@@ -1,5 +1,5 @@
 -- The canonical file of a score is a printed file.
-use Rattle.std.proofs.Common.{◌≡◌, ◌≢◌, ℕ, zero, suc, ◌-◌, ◌<◌, ◌^◌, ◌≤◌, List, [], ◌∷◌, ◌++◌, take, length, Bool, true, false, if◌then◌else◌, Option, Some, None, Result, Ok, Err, refl, sym, ap, subst, ◌∙◌, arith}
+use Rattle.std.proofs.Common.{◌≡◌, ◌≢◌, ℕ, zero, suc, ◌-◌, ◌<◌, ◌^◌, ◌≤◌, List, [], ◌∷◌, ◌++◌, take, length, Bool, true, Option, Some, None, Ok, refl, sym, ap, subst, ◌∙◌, arith}
 use Rattle.std.specs.List.{All}
 use Rattle.std.specs.Char.{IsScalar}
 use Rattle.std.proofs.lemmas.List.Elements.{All-nil, All-cons, All-head, All-tail, All-take, All-drop}
@@ -13,19 +13,16 @@ use Rattle.gabc_places.specs.LargerLimits.{AreNoLess}
 use Rattle.gabc_places.specs.declared.place.Char.{Char}
 use Rattle.gabc_places.specs.declared.code.Fault.{Fault}
 use Rattle.gabc_headers.specs.declared.heads.Heads.{Heads}
-use Rattle.gabc_headers.specs.declared.heads.HeadFault.{HeadFault}
 use Rattle.gabc_headers.specs.Book.{nabc_lines_of, macros_of}
 use Rattle.gabc_headers.specs.Canonical.{canonical_heads}
 use Rattle.gabc_headers.specs.Heads.{heads_of}
 use Rattle.gabc_text.specs.Events.{codes_of}
-use Rattle.gabc_text.specs.TextRead.{view_in}
 use Rattle.gabc_score.specs.declared.ending.InputEnding.{InputEnding}
 use Rattle.gabc_score.specs.declared.ending.InputEnding.TheVariants.{Whole, Broken, At}
-use Rattle.gabc_score.specs.Body.{has_text}
 use Rattle.gabc_score.specs.Events.{Texts, texts_by_definition}
-use Rattle.gabc_score.specs.Score.{heads_text, after_heads, score_by, score_of}
+use Rattle.gabc_score.specs.Score.{heads_text, after_heads, score_of}
 use Rattle.gabc_score.specs.Syllable.{PlacedSyllable}
-use Rattle.gabc_score.specs.Units.{BodyUnit, LastUnit, JustText, OpenNotes, Units, BodyCutting, IsCut}
+use Rattle.gabc_score.specs.Units.{BodyUnit, LastUnit, Units, BodyCutting, IsCut}
 use Rattle.gabc_score.specs.SyllablesOfUnits.{ScoreUnit, with_ends, snippets_in, characters_in, last_in, characters_from, unit_characters, closed_units, last_units, score_units, count_within, units_within, AreSyllablesOf, body_characters, IsBodyCut, AreBeforeBodyStop}
 use Rattle.gabc_write.specs.PlainText.{IsText, AreUnitTexts}
 use Rattle.gabc_places.specs.Text.{decoded_of}
@@ -60,12 +57,7 @@ last_plain [] last h = h
 last_plain (u ∷ units) last h = last_plain units last (halves (characters_in u) (characters_from units last) h).1
 
 last_texts : (last : LastUnit) → plain_characters (last_in last) → AreUnitTexts (last_units last)
-last_texts (OpenNotes text nexts xs) h = tt
-last_texts (JustText xs) h = by (has_text (view_in (codes_of xs)))
-  where
-    by : (b : Bool) → AreUnitTexts (if b then record { text = codes_of xs; notes = []; snippets = [] } ∷ [] else [])
-    by true = ((is_text (codes_of xs) h, is_text [] refl), tt)
-    by false = tt
+last_texts last h = grind (arith, is_text)
 
 texts_append : (us vs : List ScoreUnit) → AreUnitTexts us → AreUnitTexts vs → AreUnitTexts (us ++ vs)
 texts_append [] vs h k = k
@@ -78,24 +70,18 @@ texts_taken (suc n) [] h = tt
 texts_taken (suc n) (u ∷ us) h = (h.0, texts_taken n us h.1)
 
 unit_texts : (units : Option Units) → plain_characters (unit_characters units) → AreUnitTexts (score_units units)
-unit_texts None h = tt
-unit_texts (Some u) h = texts_append (closed_units u.closed u.last) (last_units u.last) (closed_texts u.closed u.last h) (last_texts u.last (last_plain u.closed u.last h))
+unit_texts units h = grind (arith, texts_append, closed_texts, last_texts, last_plain)
 
 within_texts : (n : ℕ) (units : Option Units) → plain_characters (unit_characters units) → AreUnitTexts (units_within n units)
-within_texts n None h = tt
-within_texts n (Some u) h = texts_taken (count_within n u.closed) (closed_units u.closed u.last) (closed_texts u.closed u.last h)
+within_texts n units h = grind (arith, texts_taken, closed_texts)
 
 -- ---- the first of them
 
 first_taken : (n : ℕ) (us vs : List ScoreUnit) → FirstTextBeginsWord (us ++ vs) → FirstTextBeginsWord (take n us)
-first_taken zero [] vs h = tt
-first_taken zero (u ∷ us) vs h = tt
-first_taken (suc n) [] vs h = tt
-first_taken (suc n) (u ∷ us) vs h = h
+first_taken n us vs h = grind arith
 
 first_within : (n : ℕ) (units : Option Units) → FirstTextBeginsWord (score_units units) → FirstTextBeginsWord (units_within n units)
-first_within n None h = tt
-first_within n (Some u) h = first_taken (count_within n u.closed) (closed_units u.closed u.last) (last_units u.last) h
+first_within n units h = grind (arith, first_taken)
 
 all_left : (us vs : List ScoreUnit) → All IsSingle (us ++ vs) → All IsSingle us
 all_left [] vs h = All-nil IsSingle
@@ -120,11 +106,7 @@ record HeadsAre (limits : Limits) (t : List ℕ) (book : List (List ℕ × List 
   book_is : heads.book ≡ book
 
 heads_are : (limits : Limits) (ending : InputEnding) (t : List ℕ) (book : List (List ℕ × List ℕ)) → (score_of limits ending t).book ≡ Some book → HeadsAre limits t book
-heads_are limits ending t book = by (heads_of limits t) refl
-  where
-    by : (r : Result Heads HeadFault) → heads_of limits t ≡ r → (score_by limits ending t r).book ≡ Some book → HeadsAre limits t book
-    by (Ok heads) e h = record { heads = heads; read = e; book_is = cc }
-    by (Err stop) e h = absurd (cc)
+heads_are limits ending t book = grind arith
 
 module _ (one : (texts : Texts) (lines macros : ℕ) (xs : List Char) → (cut : BodyCutting) × IsCut texts lines macros xs cut)
     (single : (macros : ℕ) (xs : List Char) (cut : BodyCutting) → IsCut texts_by_definition 0 macros xs cut → All (λ (u : ScoreUnit). length u.snippets ≤ 1) (score_units cut.units))

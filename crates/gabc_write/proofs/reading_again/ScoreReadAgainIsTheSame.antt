@@ -1,5 +1,5 @@
 -- The score of a canonical file that passes no limit says the same, and has the same canonical file.
-use Rattle.std.proofs.Common.{◌≡◌, ◌≢◌, ℕ, ◌<◌, ◌^◌, ◌≤◌, List, [], ◌∷◌, ◌++◌, map, length, Some, None, refl, sym, ap, ap₂, subst, ◌∙◌}
+use Rattle.std.proofs.Common.{◌≡◌, ◌≢◌, ℕ, ◌<◌, ◌^◌, ◌≤◌, List, [], ◌∷◌, ◌++◌, map, length, Some, None, refl, sym, ap, ap₂, subst, ◌∙◌, arith}
 use Rattle.std.specs.List.{All}
 use Rattle.std.proofs.lemmas.Str.{encodes-append}
 use lib.Utf8.{encodes}
@@ -13,7 +13,7 @@ use Rattle.gabc_score.specs.Events.{texts_by_definition, next_line}
 use Rattle.gabc_score.specs.Score.{score_by, score_of}
 use Rattle.gabc_score.specs.Syllable.{PlacedSyllable}
 use Rattle.gabc_score.specs.Units.{EndedPart, BodyUnit, LastUnit, JustText, BodyCutting, IsCut}
-use Rattle.gabc_score.specs.SyllablesOfUnits.{ScoreUnit, snippets_in, characters_from, closed_units, score_units, AreSyllablesOf, body_characters, IsBodyCut}
+use Rattle.gabc_score.specs.SyllablesOfUnits.{ScoreUnit, closed_units, score_units, AreSyllablesOf, body_characters, IsBodyCut}
 use Rattle.gabc_write.specs.SyllableAgain.{kept_snippets, AreSnippetsAgain}
 use Rattle.gabc_write.specs.BodyAgain.{SyllableFacts, SayAgain, FirstTextBeginsWord, AreOwnFacts, ArePrinted, AreFactsOf, printed_body}
 use Rattle.gabc_write.specs.FileAgain.{printed_file, IsFileAgain}
@@ -25,10 +25,9 @@ module _ (lines macros : ℕ) where
   pub kept_again : (line : ℕ) (es : List EndedPart) (after : List Char) (ss : List (List ℕ)) → AreSnippetsAgain lines macros line es after ss
       → kept_snippets lines line (map (λ (e : EndedPart). e.characters) es) ≡ ss
   kept_again line [] after [] h = refl
-  kept_again line [] after (s ∷ ss) h = absurd h
-  kept_again line (e ∷ es) after [] h = absurd h
   kept_again line (e ∷ es) after (s ∷ ss) h =
       ap₂ (λ (x : List ℕ) (xs : List (List ℕ)). x ∷ xs) h.0.kept (kept_again (next_line lines line) es after ss h.1)
+  kept_again line _ after _ h = absurd h
 
   pub some_parts : (nexts : List EndedPart) (final : EndedPart) → map (λ (e : EndedPart). e.characters) (nexts ++ final ∷ []) ≢ []
   some_parts [] final e = absurd (cc)
@@ -41,11 +40,7 @@ module _ (lines macros : ℕ) where
   same_facts [] last (f ∷ facts) others h k = absurd h
   same_facts (u ∷ units) last [] others h k = absurd h
   same_facts (u ∷ units) last (f ∷ facts) [] h k = absurd k
-  same_facts (u ∷ units) last (f ∷ facts) (g ∷ others) h k =
-      let view : g.view ≡ f.view = k.0.0 ∙ h.0.view_stays in
-      let snippets : g.snippets ≡ f.snippets = k.0.1 (some_parts u.nexts u.final) ∙ kept_again 0 (snippets_in u) (characters_from units last) f.snippets h.0.snippets in
-      let one : g ≡ f = ap₂ (λ v (ss : List (List ℕ)). record { view = v; snippets = ss }) view snippets in
-      ap₂ (λ (x : SyllableFacts) (xs : List SyllableFacts). x ∷ xs) one (same_facts units last facts others h.1 k.1)
+  same_facts (u ∷ units) last (f ∷ facts) (g ∷ others) h k = grind (arith, same_facts units last facts others h.1 k.1, some_parts, kept_again)
 
 -- ---- the score
 

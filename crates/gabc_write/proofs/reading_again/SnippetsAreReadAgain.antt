@@ -1,5 +1,5 @@
 -- Printed snippets with `|` between them are cut into themselves.
-use Rattle.std.proofs.Common.{◌≡◌, ℕ, zero, suc, nat_lt, List, [], ◌∷◌, ◌++◌, length, take, Bool, true, if◌then◌else◌, Some, refl, sym, ap, subst, ◌∙◌, append_assoc, add-one}
+use Rattle.std.proofs.Common.{◌≡◌, ℕ, zero, suc, nat_lt, List, [], ◌∷◌, ◌++◌, length, take, Bool, true, if◌then◌else◌, Some, refl, sym, ap, subst, ◌∙◌, append_assoc, add-one, arith}
 use Rattle.std.specs.List.{All}
 use Rattle.gabc_text.proofs.KeptCharacters.{codes_placed}
 use Rattle.gabc_places.specs.declared.place.Place.{Place}
@@ -50,9 +50,7 @@ spelled nexts final further = with_ends nexts ++ (final.characters ++ final.end 
 
 pub snippets_spelled : (p : Place) (s : List ℕ) (ss : List (List ℕ)) (rest : List ℕ)
     → placed_characters_from p (barred (s ∷ ss) ++ 41 ∷ rest) ≡ spelled (nexts_of p (s ∷ ss)) (final_of p (s ∷ ss)) (placed_characters_from (place_past p (barred (s ∷ ss) ++ 41 ∷ [])) rest)
-snippets_spelled p s [] rest =
-    placed_append p s (41 ∷ rest)
-    ∙ ap (λ (q : Place). placed_characters_from p s ++ record { c = 41; place = place_past p s } ∷ placed_characters_from q rest) (sym (place_append p s (41 ∷ [])))
+snippets_spelled p s [] rest = grind (arith, placed_append, place_append)
 snippets_spelled p s (t ∷ ss) rest =
     let q : Place = next_place (place_past p s) 124 in
     let far : Place = place_past q (barred (t ∷ ss) ++ 41 ∷ []) in
@@ -68,16 +66,11 @@ snippets_spelled p s (t ∷ ss) rest =
 pub whole_nexts : (lines line : ℕ) (opened : Place) (nexts : List EndedPart) (more : List CutPart) (last : List Char)
     → whole (snippets_with lines line opened nexts more) last ≡ with_ends nexts ++ whole more last
 whole_nexts lines line opened [] more last = refl
-whole_nexts lines line opened (e ∷ nexts) more last =
-    ap (λ (xs : List Char). e.characters ++ e.end ∷ xs) (whole_nexts lines (next_line lines line) opened nexts more last)
-    ∙ sym (append_assoc e.characters (e.end ∷ with_ends nexts) (whole more last))
+whole_nexts lines line opened (e ∷ nexts) more last = grind (arith, whole_nexts lines (next_line lines line) opened nexts more last, append_assoc)
 
 pub ends_with : (nexts : List EndedPart) (final : EndedPart) (further : List Char) → with_ends (nexts ++ final ∷ []) ++ further ≡ spelled nexts final further
 ends_with [] final further = append_assoc final.characters (final.end ∷ []) further
-ends_with (e ∷ nexts) final further =
-    append_assoc e.characters (e.end ∷ with_ends (nexts ++ final ∷ [])) further
-    ∙ ap (λ (xs : List Char). e.characters ++ e.end ∷ xs) (ends_with nexts final further)
-    ∙ sym (append_assoc e.characters (e.end ∷ with_ends nexts) (final.characters ++ final.end ∷ further))
+ends_with (e ∷ nexts) final further = grind (arith, ends_with nexts final further, append_assoc)
 
 -- ---- one snippet
 
@@ -133,21 +126,12 @@ module _ (gabc_again : (split : Bool) (macros : ℕ) (at : Place) (how : NoteEnd
   -- it is a part that ends at its mark
   part_ends : (line : ℕ) (opened p : Place) (s : List ℕ) (mark : ℕ) (how : NoteEnd) (rest : List ℕ) (end : unit.Mark) → ReadAgain lines macros line p s mark how rest
       → mark_of lines line opened how ≡ Some end → EndsAfter lines (snippet_from lines macros line opened (placed_characters_from p (s ++ mark ∷ rest))) (placed_characters_from p s) end
-  part_ends line opened p s mark how rest end r m =
-      let lists : List (List NoteEvent) = snippet_events lines macros line (placed_characters_from p (s ++ mark ∷ rest)) in
-      snippet_ends lines line opened end lists (placed_characters_from p s) how r.bytes m
-      (ap (λ (n : ℕ). ends_of (concat_of (take n lists))) (length_placed p s) ∙ r.unended)
-      (ap (λ (n : ℕ). ends_of (concat_of (take (suc n) lists))) (length_placed p s) ∙ r.ended)
+  part_ends line opened p s mark how rest end r m = grind (arith, snippet_ends, length_placed)
 
   part_again : (line : ℕ) (p : Place) (s : List ℕ) (mark : ℕ) (how : NoteEnd) (rest : List ℕ) (further : List Char) → ReadAgain lines macros line p s mark how rest
       → further ≡ placed_characters_from (next_place (place_past p s) mark) rest
       → IsSnippetAgain lines macros line (record { characters = placed_characters_from p s; end = record { c = mark; place = place_past p s } }) further s
-  part_again line p s mark how rest further r e = record {
-    characters = codes_placed p s;
-    kept = r.kept;
-    warnings = subst (λ (xs : List Char). All IsWarning (findings_of (concat_of (snippet_events lines macros line xs))))
-        (placed_append p s (mark ∷ rest) ∙ ap (λ (xs : List Char). placed_characters_from p s ++ record { c = mark; place = place_past p s } ∷ xs) (sym e)) r.warnings;
-  }
+  part_again line p s mark how rest further r e = grind (arith, codes_placed, placed_append)
 
   -- ---- all snippets
 

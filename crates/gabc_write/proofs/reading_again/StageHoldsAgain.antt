@@ -1,12 +1,11 @@
 -- A stage that stands after the same holds by its text what is equivalent to the syllable that is held.
-use Rattle.std.proofs.Common.{◌≡◌, ℕ, Bool, true, false, List, Option, Some, IfSome, is_some, refl, sym, ap, subst, ◌∙◌}
+use Rattle.std.proofs.Common.{◌≡◌, ℕ, Bool, true, false, List, Option, Some, IfSome, is_some, refl, sym, ap, subst, ◌∙◌, arith}
 use Rattle.std.specs.Prelude.{IsUtf8, ◌==◌}
 use Rattle.std.specs.Str.{chars}
 use Rattle.std.proofs.lemmas.Str.{chars_from_encodes}
 use Rattle.gabc_places.specs.declared.limits.Limits.{Limits}
 use Rattle.gabc_score.specs.declared.before.Before.{Before}
 use Rattle.gabc_score.specs.declared.score_machine.ScorePart.{ScorePart}
-use Rattle.gabc_score.specs.declared.score_machine.ScorePart.TheVariants as score_part
 use Rattle.gabc_score.specs.HeldAgain.{MayBeHeld}
 use Rattle.gabc_score.specs.HeldAside.{HoldTheSame, IsEquivalentSyllable}
 use Rattle.gabc_score.specs.Holding.{HasWholeSnippets}
@@ -27,9 +26,7 @@ told_before s = before_with s.body s.before
 
 -- in the body a stage reports what stands before
 pub told_in_body : {A : Type 0} → (p : ScorePart) (a : A) → is_some (in_body p a) ≡ true → in_body p a ≡ Some a
-told_in_body score_part.Heads a h = absurd (cc h)
-told_in_body score_part.Body a h = refl
-told_in_body score_part.Over a h = absurd (cc h)
+told_in_body p a h = grind arith
 
 pub some_held : (P : UnplacedSyllable → Type 0) (o : Option UnplacedSyllable) (m : UnplacedSyllable) → o ≡ Some m → IfSome o P → P m
 some_held P o m is h = subst (λ (x : Option UnplacedSyllable). IfSome x P) is h
@@ -39,10 +36,7 @@ module _ (told old : ScoreStageState) (runs : is_some (before_of told) ≡ true)
   before_told = told_in_body told.part (told_before told) runs
 
   before_old : told_before old ≡ told_before told
-  before_old = some_is (ap (λ (p : ScorePart). in_body p (told_before old)) (sym stands.begins.body) ∙ stands.before_is)
-    where
-      some_is : Some (told_before old) ≡ Some (told_before told) → told_before old ≡ told_before told
-      some_is e = cc e
+  before_old = cc (ap (λ (p : ScorePart). in_body p (told_before old)) (sym stands.begins.body) ∙ stands.before_is)
 
   module _ (m : UnplacedSyllable) (is : held_of told ≡ Some m) (within : IsHeldWithin told.limits told.before m) (held : List ℕ) (text : held ≡ written_after told.before m) where
     -- the text may be held there

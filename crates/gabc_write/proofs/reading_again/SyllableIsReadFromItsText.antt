@@ -60,9 +60,8 @@ same_past opening closing n m was h =
 
 as_many : (lines macros line : ℕ) (es : List EndedPart) (after : List Char) (ss : List (List ℕ)) → AreSnippetsAgain lines macros line es after ss → length es ≡ length ss
 as_many lines macros line [] after [] h = refl
-as_many lines macros line [] after (s ∷ ss) h = absurd h
-as_many lines macros line (e ∷ es) after [] h = absurd h
 as_many lines macros line (e ∷ es) after (s ∷ ss) h = ap suc (as_many lines macros (next_line lines line) es after ss h.1)
+as_many lines macros line _ after _ h = absurd h
 
 -- ---- the LF before a first syllable
 
@@ -81,25 +80,15 @@ unfolding encode
 with_line_feed v ss e = rw e refl
 
 said_as_first : (v : ViewFacts) (ss : List (List ℕ)) (m : UnplacedSyllable) → IsSaidBy v ss m → canonical true m ≡ encodes (printed_syllable (record v { word_start = true }) ss)
-said_as_first v ss m h = by m.text.word_start refl
-  where
-    by : (b : Bool) → m.text.word_start ≡ b → canonical true m ≡ encodes (printed_syllable (record v { word_start = true }) ss)
-    by true e =
-        ap (λ (b : Bool). canonical b m) (sym e) ∙ h.bytes
-        ∙ ap (λ (b : Bool). encodes (printed_syllable (record v { word_start = b }) ss)) (sym h.starts ∙ e)
-    by false e =
-        ap (λ (bytes : List ℕ). 10 ∷ bytes) (ap (λ (b : Bool). canonical b m) (sym e) ∙ h.bytes)
-        ∙ sym (with_line_feed v ss (sym h.starts ∙ e))
+said_as_first v ss m h = grind (arith, with_line_feed)
 
 said_where_it_stands : (first : Bool) (v : ViewFacts) (ss : List (List ℕ)) (m : UnplacedSyllable) → IsSaidBy v ss m
     → canonical (first || m.text.word_start) m ≡ encodes (printed_syllable (record v { word_start = first || m.text.word_start }) ss)
-said_where_it_stands true v ss m h = said_as_first v ss m h
-said_where_it_stands false v ss m h = h.bytes ∙ ap (λ (b : Bool). encodes (printed_syllable (record v { word_start = b }) ss)) (sym h.starts)
+said_where_it_stands first v ss m h = grind (arith, said_as_first)
 
 view_for : (begins : (t : List ℕ) → view_facts (10 ∷ t) ≡ record (view_facts t) { word_start = true }) (first : Bool) (t : List ℕ)
     → view_facts (text_for first t) ≡ record (view_facts t) { word_start = first || (view_facts t).word_start }
-view_for begins true t = begins t
-view_for begins false t = refl
+view_for begins first t = grind arith
 
 module _ (starts : (t : List ℕ) → (view_in t).word_start ≡ (view_facts t).word_start) (centres : (t : List ℕ) → (view_in t).centre ≡ (view_facts t).centre)
     (printed_text : (whole t : List ℕ) → StandsForView whole (view_in t) t → canonical_text (view_in t) (encodes whole) ≡ encodes (text_of_tokens (text_tokens (view_facts t))))

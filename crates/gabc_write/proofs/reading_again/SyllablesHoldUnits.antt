@@ -10,7 +10,7 @@ use Rattle.gabc_places.specs.declared.place.Char.{Char}
 use Rattle.gabc_headers.specs.Book.{nabc_lines_of}
 use Rattle.gabc_score.specs.declared.ending.InputEnding.{InputEnding}
 use Rattle.gabc_score.specs.declared.snippets.Snippet.{Snippet}
-use Rattle.gabc_score.specs.Holding.{ReadSnippet, HoldsNoNotes, Holds, HoldsWithNotes, HoldsParts, lines_by, lines_of}
+use Rattle.gabc_score.specs.Holding.{HoldsNoNotes, Holds, HoldsWithNotes, HoldsParts, lines_by, lines_of}
 use Rattle.gabc_score.specs.Score.{score_of}
 use Rattle.gabc_score.specs.Syllable.{UnplacedSyllable, PlacedSyllable}
 use Rattle.gabc_score.specs.SyllablesOfUnits.{ScoreUnit, NotesAre}
@@ -38,12 +38,7 @@ there P (z ∷ xs) ys x h = there P xs ys x (All-tail P z (xs ++ x ∷ ys) h)
 
 -- a syllable has as many snippets as its unit, or one without notes
 few : (lines : ℕ) (u : ScoreUnit) (xss : List (List Char)) (whole : List ℕ) (snippets : List Snippet) → u.snippets ≡ xss → NotesAre lines u xss whole snippets → IsSingle u → length snippets ≤ 1
-few lines u [] whole snippets e n single = let one : length snippets ≡ 1 = ap (length {A = Snippet}) n.snippets_are in omega (arith, one)
-few lines u (xs ∷ xss) whole snippets e n single =
-    let all : List ReadSnippet = n.holds.earlier ++ n.holds.last ∷ [] in
-    let many : length snippets ≡ length u.snippets =
-    ap (length {A = Snippet}) n.holds.snippets_are ∙ length-map all (λ (s : ReadSnippet). s.snippet) ∙ sym (length-map all (λ (s : ReadSnippet). s.characters)) ∙ ap (length {A = List Char}) n.characters_are in
-    omega (arith, many, single)
+few lines u xss whole snippets e n single = grind (arith, length-map)
 
 module _ (units_are : (limits : Limits) (ending : InputEnding) (t : List ℕ) (book : List (List ℕ × List ℕ)) → length (encodes t) < 2 ^ 63
     → (score_of limits ending t).book ≡ Some book → UnitsAre t book (score_of limits ending t).syllables)

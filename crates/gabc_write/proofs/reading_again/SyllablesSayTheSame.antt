@@ -1,5 +1,5 @@
 -- Syllables of units that say the same, say the same.
-use Rattle.std.proofs.Common.{◌≡◌, ℕ, suc, ◌+◌, ◌%◌, List, [], ◌∷◌, ◌++◌, map, filter, length, length-append, Bool, true, false, IsTrue, ◌↔◌, Option, Some, None, codes, refl, sym, ap, ap₂, subst, ◌∙◌, append_assoc, arith}
+use Rattle.std.proofs.Common.{◌≡◌, ℕ, suc, ◌+◌, ◌%◌, List, [], ◌∷◌, ◌++◌, map, filter, length, length-append, Bool, true, IsTrue, ◌↔◌, Option, Some, None, codes, refl, sym, ap, ap₂, subst, ◌∙◌, append_assoc, arith}
 use Rattle.std.specs.List.{flat_map}
 use Rattle.std.specs.Option.{option_map}
 use Rattle.std.proofs.lemmas.Grind.{flat_map-append}
@@ -8,7 +8,7 @@ use Rattle.gabc_places.specs.declared.place.Span.{Span}
 use Rattle.gabc_places.specs.declared.place.Char.{Char}
 use Rattle.gabc_text.specs.declared.view.Piece.{Piece}
 use Rattle.gabc_text.specs.TextView.{ViewContent}
-use Rattle.gabc_text.specs.Canonical.{listed_styles, canonical_text}
+use Rattle.gabc_text.specs.Canonical.{canonical_text}
 use Rattle.gabc_text.specs.Printed.{text_tokens, text_of_tokens}
 use Rattle.gabc_text.specs.TextRead.{view_in}
 use Rattle.gabc_text.specs.View.{PieceFacts}
@@ -83,28 +83,22 @@ notes_lined lines u (xs ∷ xss) whole snippets h =
 lined_is : (lines i : ℕ) (bytes : List ℕ) (xs : List Snippet) → AreLined lines i xs
     → map (λ (x : Snippet). (x.line, slice x.span bytes)) xs ≡ lined lines i (map (λ (x : Snippet). slice x.span bytes) xs)
 lined_is lines i bytes [] h = refl
-lined_is lines i bytes (x ∷ xs) h =
-    ap₂ (λ (n : ℕ) (rest : List (ℕ × List ℕ)). (n, slice x.span bytes) ∷ rest) h.0 (lined_is lines (suc i) bytes xs h.1)
+lined_is lines i bytes (x ∷ xs) h = grind (arith, lined_is lines (suc i) bytes xs h.1)
 
 module _ (starts : (t : List ℕ) → (view_in t).word_start ≡ (view_facts t).word_start) (centres : (t : List ℕ) → (view_in t).centre ≡ (view_facts t).centre)
     (canonical : (whole t : List ℕ) → StandsForView whole (view_in t) t → canonical_text (view_in t) (encodes whole) ≡ encodes (text_of_tokens (text_tokens (view_facts t))))
     (bytes : (text : List ℕ) (span : Span) (part : List ℕ) → StandsFor text span part → slice span (encodes text) ≡ encodes part) (lines : ℕ) where
   pieces_said : (whole : List ℕ) (ps : List Piece) (qs : List PieceFacts) → ArePiecesOf whole ps qs → map (meaning_of_piece (encodes whole)) ps ≡ map piece_of_facts qs
   pieces_said whole [] [] h = refl
-  pieces_said whole [] (q ∷ qs) h = absurd h
-  pieces_said whole (p ∷ ps) [] h = absurd h
   pieces_said whole (p ∷ ps) (q ∷ qs) h =
-      let one : meaning_of_piece (encodes whole) p ≡ piece_of_facts q =
-      ap (λ k. record { kind = k; styles = listed_styles p.styles; text = slice p.span (encodes whole) }) h.0.kind_is
-      ∙ ap (λ ss. record { kind = q.kind; styles = ss; text = slice p.span (encodes whole) }) h.0.styles_are
-      ∙ ap (λ (b : List ℕ). record { kind = q.kind; styles = q.styles; text = b }) (bytes whole p.span (kept_of_piece q) h.0.stands) in
+      let one : meaning_of_piece (encodes whole) p ≡ piece_of_facts q = λ i. record { kind = h.0.kind_is i; styles = h.0.styles_are i; text = bytes whole p.span (kept_of_piece q) h.0.stands i } in
       ap₂ (λ (x : PieceMeaning) (xs : List PieceMeaning). x ∷ xs) one (pieces_said whole ps qs h.1)
+  pieces_said whole _ _ h = absurd h
 
   translation_said : (whole : List ℕ) (o : Option Span) (q : Option (List ℕ)) → IsTranslation whole o q → option_map (λ (s : Span). slice s (encodes whole)) o ≡ option_map encodes q
   translation_said whole None None h = refl
-  translation_said whole None (Some t) h = absurd h
-  translation_said whole (Some s) None h = absurd h
   translation_said whole (Some s) (Some t) h = ap (λ (b : List ℕ). Some b) (bytes whole s t h)
+  translation_said whole _ _ h = absurd h
 
   pub one_said : (u : ScoreUnit) (s : PlacedSyllable) (f : SyllableFacts) → HoldsUnit lines u s.made → f.view ≡ view_facts u.text
       → map (λ (x : Snippet). slice x.span s.made.kept) s.made.snippets ≡ map encodes f.snippets → meaning_of s ≡ said_by lines f s.position s.made.eu s.made.nlba
@@ -154,8 +148,7 @@ module _ (starts : (t : List ℕ) → (view_in t).word_start ≡ (view_facts t).
 
   module _ (all : List ScoreUnit) (made : List PlacedSyllable) (syllables : AreSyllablesOf lines all made) (first : FirstTextBeginsWord all) where
     begins_as : (before after : List ScoreUnit) (u : ScoreUnit) → all ≡ before ++ u ∷ after → begins_word before u ≡ (view_facts u.text).word_start
-    begins_as [] after u e = sym (subst FirstTextBeginsWord e first)
-    begins_as (b ∷ before) after u e = starts u.text
+    begins_as before after u e = grind arith
 
     are_said : (before units : List ScoreUnit) (earlier ss : List PlacedSyllable) (seen facts : List SyllableFacts) → all ≡ before ++ units → made ≡ earlier ++ ss → length earlier ≡ length before
         → tags_in before ≡ all_tags seen → AreFactsOf units ss facts → AreSaid seen facts ss
@@ -181,10 +174,7 @@ module _ (starts : (t : List ℕ) → (view_in t).word_start ≡ (view_facts t).
   -- ---- two readings
 
   same_bool : (P : Type 0) (a b : Bool) → IsTrue a ↔ P → IsTrue b ↔ P → a ≡ b
-  same_bool P true true h k = refl
-  same_bool P true false h k = absurd (let e = k.1 (h.0 refl) in cc)
-  same_bool P false true h k = absurd (let e = h.1 (k.0 refl) in cc)
-  same_bool P false false h k = refl
+  same_bool P a b h k = grind arith
 
   same_said : (before facts : List SyllableFacts) (ss ts : List PlacedSyllable) → AreSaid before facts ss → AreSaid before facts ts → AreSame ss ts
   same_said before [] [] [] h k = refl
@@ -192,18 +182,10 @@ module _ (starts : (t : List ℕ) → (view_in t).word_start ≡ (view_facts t).
   same_said before [] (s ∷ ss) ts h k = absurd h
   same_said before (f ∷ facts) [] ts h k = absurd h
   same_said before (f ∷ facts) (s ∷ ss) [] h k = absurd k
-  same_said before (f ∷ facts) (s ∷ ss) (t ∷ ts) h k =
-      let position = position_by f.view.word_start (next_begins facts) in
-      let eu : s.made.eu ≡ t.made.eu = same_bool _ s.made.eu t.made.eu h.0.eu_is k.0.eu_is in
-      let nlba : s.made.nlba ≡ t.made.nlba = same_bool _ s.made.nlba t.made.nlba h.0.nlba_is k.0.nlba_is in
-      let one : meaning_of s ≡ meaning_of t = h.0.said_is ∙ ap₂ (said_by lines f position) eu nlba ∙ sym k.0.said_is in
-      ap₂ (λ (x : SyllableMeaning) (xs : List SyllableMeaning). x ∷ xs) one (same_said (before ++ f ∷ []) facts ss ts h.1 k.1)
+  same_said before (f ∷ facts) (s ∷ ss) (t ∷ ts) h k = grind (arith, same_said (before ++ f ∷ []) facts ss ts h.1 k.1, same_bool)
 
   first_text : (units : List ScoreUnit) (ss : List PlacedSyllable) (facts : List SyllableFacts) → AreFactsOf units ss facts → FirstBeginsWord facts → FirstTextBeginsWord units
-  first_text [] ss facts h g = tt
-  first_text (u ∷ units) [] facts h g = absurd h
-  first_text (u ∷ units) (s ∷ ss) [] h g = absurd h
-  first_text (u ∷ units) (s ∷ ss) (f ∷ facts) h g = sym (ap (λ (v : ViewFacts). v.word_start) h.0.0) ∙ g
+  first_text units ss facts h g = grind arith
 
   -- syllables of which the same is said
   pub are_same : (units others : List ScoreUnit) (ss ts : List PlacedSyllable) (facts : List SyllableFacts) → AreSyllablesOf lines units ss → AreSyllablesOf lines others ts

@@ -1,4 +1,4 @@
-use Rattle.std.proofs.Common.{rules, ◌≡◌, ℕ, List, codes, refl, sym, ap, ◌∙◌}
+use Rattle.std.proofs.Common.{rules, ◌≡◌, ℕ, List, codes, refl, sym, ap, ◌∙◌, arith}
 use Rattle.std.specs.Fmt.{digits}
 use Rattle.gabc_notes.specs.declared.note.Shape.TheVariants as shape
 use Rattle.gabc_neumes.specs.declared.glyph.Base.{Base}
@@ -51,9 +51,7 @@ returns-in-Plain-Pes-eq2 g c =
     c.put-in-Plain-Pes-eq2.ensures ∙ ap (g.S.Put.taken c.args.out.now) (pes ∙ line_is c.args.kind Pes c.args.count 2 here.is-0 here.is-1 here.is-2)
 
 pub returns-in-Plain-Clivis-eq2 : goal.returns-in-Plain-Clivis-eq2
-returns-in-Plain-Clivis-eq2 g c =
-    let here = c.in-Plain-Clivis-eq2 in
-    c.put-in-Plain-Clivis-eq2.ensures ∙ ap (g.S.Put.taken c.args.out.now) (clivis ∙ line_is c.args.kind Clivis c.args.count 2 here.is-0 here.is-1 here.is-2)
+returns-in-Plain-Clivis-eq2 g c = grind (arith, clivis, line_is)
 
 pub returns-in-Plain-Torculus-eq3 : goal.returns-in-Plain-Torculus-eq3
 returns-in-Plain-Torculus-eq3 g c =

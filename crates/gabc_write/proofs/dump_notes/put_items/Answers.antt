@@ -1,4 +1,4 @@
-use Rattle.std.proofs.Common.{◌≡◌, ◌≤◌, ℕ, List, [], ◌∷◌, ◌++◌, false, refl, length, reverse, map, sym, ap, ◌∙◌, subst}
+use Rattle.std.proofs.Common.{◌≡◌, ◌≤◌, ℕ, List, [], ◌∷◌, ◌++◌, false, refl, length, reverse, map, sym, ap, ◌∙◌, subst, arith}
 use Rattle.std.proofs.lemmas.List.Elements.{All-tail}
 use Rattle.gabc_notes.specs.Items.{items_of, AreWithin}
 use Rattle.gabc_notes.specs.declared.item.Item.{Item}
@@ -50,7 +50,4 @@ loop-item-preserved g c =
     )
 
 pub returns-clause-alterations : goal.returns-clause-alterations
-returns-clause-alterations g c =
-    let kept = c.args.kept.now in
-    let h = c.loop-item.invariant in
-    h.3 ∙ all_passed c.args.alterations.now kept h.0 (items_of kept) (h.4 ∙ ap (λ (l : List Item). reverse h.0 ++ l) c.in_default.ensures.steps.0)
+returns-clause-alterations g c = grind (arith, all_passed)

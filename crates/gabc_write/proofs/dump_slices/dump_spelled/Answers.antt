@@ -2,7 +2,7 @@ use Rattle.std.proofs.Common.{◌++◌, ◌∙◌, ap, sym, arith}
 use Rattle.gabc_neumes.specs.InForce.{InForce, passed}
 use Rattle.gabc_score.specs.RegularSyllable.{with_lines}
 use Rattle.gabc_write.specs.DumpOfSyllables.{first_line_by, first_steps, line_of_text}
-use Rattle.gabc_write.specs.machine.DumpOfTexts.{line_of_bracketed, lines_of_texts, steps_of_texts}
+use Rattle.gabc_write.specs.machine.DumpOfTexts.{line_of_bracketed, lines_of_texts}
 use Rattle.gabc_write.proofs.DumpOfSpelledSyllables.{all_lines, few, kept_few, kept_utf8, steps_are, texts}
 use Rattle.gabc_write.proofs.dump_slices.dump_spelled.Goals as goal
 
@@ -27,13 +27,7 @@ returns-clause-put g c = λ s h.
     ∙ ap (g.S.Put.taken c.args.out.now) (sym (all_lines r s h c.args.text.now c.args.translation.now c.requires.texts c.args.number c.args.alterations.now))
 
 pub returns-clause-alterations : goal.returns-clause-alterations
-returns-clause-alterations g c = λ s h.
-    let r = c.args.syllable in
-    let ts = texts r s h in
-    c.put_spelled_snippets.ensures.alterations ts (c.snippets.ensures h.spelling)
-    ∙ ap (λ (f : InForce). passed f (steps_of_texts ts)) c.pass_position.ensures
-    ∙ c.steps_are_passed_one_by_one.ensures.forth c.args.alterations.now (first_steps r.position) (steps_of_texts ts)
-    ∙ ap (passed c.args.alterations.now) (sym (steps_are r s h))
+returns-clause-alterations g c = grind (arith, steps_are)
 
 pub returns-clause-short : goal.returns-clause-short
 returns-clause-short g c = λ s h.

@@ -1,4 +1,4 @@
-use Rattle.std.proofs.Common.{◌≡◌, ◌<◌, ◌+◌, ℕ, List, [], ◌∷◌, ◌++◌, All, string_bytes, take, drop, get_or, length, add-one, append-nil, ap, sym, ◌∙◌, subst}
+use Rattle.std.proofs.Common.{◌≡◌, ◌<◌, ◌+◌, ℕ, List, [], ◌∷◌, ◌++◌, All, string_bytes, take, drop, get_or, length, add-one, append-nil, ap, sym, ◌∙◌, subst, arith}
 use Rattle.std.proofs.Math.Seq.{drop-cons}
 use Rattle.std.proofs.lemmas.List.{take_more}
 use Rattle.std.proofs.lemmas.Grind.{flat_map-append}
@@ -24,8 +24,7 @@ steps_more kept snippets i l =
 lines_from : (f : InForce) (kept : List ℕ) (snippets : List Snippet) (i : ℕ) → i < length snippets
     → lines_of_snippets f kept (drop i snippets)
     ≡ lines_of_snippet f kept (get_or snippets i none) ++ lines_of_snippets (passed f (steps_of_snippet kept (get_or snippets i none))) kept (drop (i + 1) snippets)
-lines_from f kept snippets i l =
-    ap (lines_of_snippets f kept) (drop-cons snippets i none l ∙ ap (λ (n : ℕ). get_or snippets i none ∷ drop n snippets) (sym (add-one i)))
+lines_from f kept snippets i l = grind (arith, drop-cons, add-one)
 
 pub loop-snippet-preserved : goal.loop-snippet-preserved
 loop-snippet-preserved g c =
