@@ -1,5 +1,5 @@
 -- The bytes of a field are read as this field, whatever follows them.
-use Rattle.std.proofs.Common.{◌≡◌, ℕ, ◌^◌, ◌<◌, ◌≤◌, Bool, true, false, ltb, eqb, List, [], ◌∷◌, ◌++◌, length, map, Option, Some, None, IsUtf8, refl, sym, ap, ◌∙◌, arith, append_assoc, length-append, codes}
+use Rattle.std.proofs.Common.{◌≡◌, ℕ, ◌^◌, ◌<◌, ◌≤◌, Bool, false, eqb, List, [], ◌∷◌, ◌++◌, length, map, Option, Some, None, IsUtf8, refl, ap, ◌∙◌, arith, append_assoc, length-append, codes}
 use Rattle.std.proofs.lemmas.Bool.{le-ltb, le-leb, ne_eqb}
 use Rattle.std.proofs.lemmas.List.{length-map, take_at, drop_at}
 use Rattle.std.specs.Int.{w16, w32, w64}
@@ -7,10 +7,8 @@ use Rattle.std.specs.Prelude.{IfSome}
 use Rattle.gabc_places.specs.Limits.{AreLimits}
 use Rattle.gabc_places.specs.declared.place.Place.{Place}
 use Rattle.gabc_neumes.specs.declared.sound.Alter.{Alter}
-use Rattle.gabc_neumes.specs.declared.sound.Alter.TheVariants as alter
 use Rattle.gabc_neumes.specs.declared.sound.Clef.{Clef}
 use Rattle.gregorio_jobs.specs.declared.job.Format.{Format}
-use Rattle.gregorio_jobs.specs.declared.job.Format.TheVariants as format
 use Rattle.gregorio_state.specs.StateBytes.{number_bytes, flag_bytes, text_bytes, place_bytes, opener_bytes, spans_number, format_number, clef_bytes, alter_number}
 use Rattle.gregorio_state.specs.machine.Reading.{number_at, front_at, flag_at, format_at, spans_at, text_at, pending_at, place_at, opener_of, opener_at, clef_at, alter_of, alters_of, alters_at, after_tag, limits_at, last_text}
 use Rattle.gregorio_state.proofs.NumbersAreRead.{wide_16, wide_32, wide_64, number_again}
@@ -27,24 +25,19 @@ again_64 n rest lt = number_again w64 (2 ^ 64) wide_64 n rest lt
 
 pub flag_again : (f : Bool) (rest : List ℕ) → flag_at (flag_bytes f ++ rest) ≡ Some (f, rest)
 unfolding flag_at
-flag_again true rest = refl
-flag_again false rest = refl
+flag_again f rest = grind arith
 
 pub format_again : (f : Format) (rest : List ℕ) → format_at (format_number f ∷ rest) ≡ Some (f, rest)
 unfolding format_at
-format_again format.Gabc rest = refl
-format_again format.Dump rest = refl
+format_again f rest = grind arith
 
 pub spans_again : (eu nlba : Bool) (rest : List ℕ) → spans_at (spans_number eu nlba ∷ rest) ≡ Some (record { eu = eu; nlba = nlba }, rest)
 unfolding spans_at
-spans_again true true rest = refl
-spans_again false true rest = refl
-spans_again _ _ rest = refl
+spans_again eu nlba rest = grind arith
 
 front_again : (front rest : List ℕ) → front_at (length front) (front ++ rest) ≡ Some (front, rest)
 unfolding front_at
-front_again front rest =
-    let long : ltb (length (front ++ rest)) (length front) ≡ false = le-ltb _ _ (omega (arith, length-append front rest)) in rw (long, take_at front rest (length front) refl, drop_at front rest (length front) refl) refl
+front_again front rest = grind (arith, le-ltb, length-append, take_at, drop_at)
 
 pub text_again : (t rest : List ℕ) → IsUtf8 t → length t < 2 ^ 32 → text_at (text_bytes t ++ rest) ≡ Some (t, rest)
 unfolding text_at
@@ -56,8 +49,7 @@ pending_again p rest = front_again p rest
 
 pub place_again : (p : Place) (rest : List ℕ) → p.line < 2 ^ 64 → p.column < 2 ^ 64 → place_at (place_bytes p ++ rest) ≡ Some (p, rest)
 unfolding place_at
-place_again p rest line column =
-    ap place_at (append_assoc (number_bytes w64 p.line) (number_bytes w64 p.column) rest) ∙ rw (again_64 p.line (number_bytes w64 p.column ++ rest) line, again_64 p.column rest column) refl
+place_again p rest line column = grind (arith, append_assoc, again_64)
 
 pub record FitsPlace (p : Place) : Type 0 where
   pub first : 1 ≤ p.line
@@ -74,17 +66,10 @@ opener_again (Some p) rest fits = rw (place_again p rest fits.line fits.column, 
 
 pub clef_again : (c : Option Clef) (rest : List ℕ) → clef_at (clef_bytes c ++ rest) ≡ Some (c, rest)
 unfolding clef_at flag_at
-clef_again None rest = refl
-clef_again (Some c) rest = by_flags c.f c.flat
-  where
-    by_flags : (f flat : Bool) → clef_at (clef_bytes (Some (record { f = f; flat = flat; line = c.line })) ++ rest) ≡ Some (Some (record { f = f; flat = flat; line = c.line }), rest)
-    by_flags true true = refl
-    by_flags false true = refl
-    by_flags _ _ = refl
+clef_again c rest = grind arith
 
 alter_again : (a : Alter) → alter_of (alter_number a) ≡ Some a
-alter_again alter.None = refl
-alter_again _ = refl
+alter_again a = grind arith
 
 each_again : (alters : List Alter) → alters_of (map alter_number alters) ≡ Some alters
 each_again [] = refl
@@ -92,13 +77,7 @@ each_again (a ∷ alters) = rw (alter_again a, each_again alters) refl
 
 pub alters_again : (alters : List Alter) (rest : List ℕ) → length alters ≡ 15 → alters_at (map alter_number alters ++ rest) ≡ Some (alters, rest)
 unfolding alters_at
-alters_again alters rest len = rw (front, each_again alters) refl
-  where
-    numbers : length (map alter_number alters) ≡ 15
-    numbers = length-map alters alter_number ∙ len
-
-    front : front_at 15 (map alter_number alters ++ rest) ≡ Some (map alter_number alters, rest)
-    front = ap (λ (n : ℕ). front_at n (map alter_number alters ++ rest)) (sym numbers) ∙ front_again (map alter_number alters) rest
+alters_again alters rest len = grind (arith, each_again, length-map, front_again)
 
 pub tag_again : (rest : List ℕ) → after_tag (codes "GSAV" ++ 3 ∷ rest) ≡ Some rest
 unfolding after_tag
@@ -110,16 +89,4 @@ end_again t u lt = rw (text_again t [] u lt) refl
 
 pub limits_again : (header syllable input : ℕ) (rest : List ℕ) → AreLimits header syllable input → limits_at (number_bytes w32 header ++ (number_bytes w32 syllable ++ (number_bytes w32 input ++ rest))) ≡ Some ((header, syllable, input), rest)
 unfolding limits_at
-limits_again header syllable input rest fits =
-    rw (
-      again_32 header (number_bytes w32 syllable ++ (number_bytes w32 input ++ rest)) (omega (arith, fits.header_most)),
-      again_32 syllable (number_bytes w32 input ++ rest) (omega (arith, fits.syllable_most)),
-      again_32 input rest (omega (arith, fits.input_most)),
-      le-leb 64 header fits.header_least,
-      le-leb header 16777216 fits.header_most,
-      le-leb 64 syllable fits.syllable_least,
-      le-leb syllable 16777216 fits.syllable_most,
-      le-leb 64 input fits.input_least,
-      le-leb input 4294967295 fits.input_most,
-    )
-    refl
+limits_again header syllable input rest fits = grind (arith, again_32, le-leb)

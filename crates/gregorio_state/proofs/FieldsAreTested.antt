@@ -31,8 +31,7 @@ text_tested bytes u = (
 )
 
 none_is : (a : Alter) → is_none a ≡ true → a ≡ alter.None
-none_is alter.None e = refl
-none_is _ e = absurd cc
+none_is a e = grind arith
 
 each_none : (alters : List Alter) → list_all is_none alters ≡ true → alters ≡ replicate (length alters) alter.None
 each_none [] e = refl

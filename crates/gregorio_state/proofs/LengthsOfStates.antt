@@ -1,6 +1,6 @@
 -- How long the bytes of a state are.
-use Rattle.std.proofs.Common.{◌≡◌, ℕ, ◌+◌, ◌*◌, ◌-◌, ◌^◌, ◌<◌, ◌≤◌, max, min, List, length, Option, Some, None, inl, inr, refl, ap, arith, length-append}
-use Rattle.std.proofs.Math.Nat.{le-max_left, le-max_right, max-le}
+use Rattle.std.proofs.Common.{◌≡◌, ℕ, ◌+◌, ◌*◌, ◌-◌, ◌<◌, ◌≤◌, max, List, length, Option, Some, None, inl, inr, refl, ap, arith, length-append}
+use Rattle.std.proofs.Math.Nat.{le-max_left, le-max_right}
 use Rattle.std.proofs.lemmas.List.{length-drop, length-map}
 use Rattle.std.proofs.lemmas.List.Concat.{length-flat_map}
 use Rattle.std.specs.Int.{w16, w32, w64}
@@ -54,8 +54,7 @@ opener_length None = place_length (record { line = 0; column = 0 })
 opener_length (Some p) = place_length p
 
 clef_length : (c : Option Clef) → length (clef_bytes c) ≡ 3
-clef_length None = refl
-clef_length (Some c) = refl
+clef_length c = grind arith
 
 -- ---- the length of all
 
@@ -80,8 +79,7 @@ score_length f heights =
 phase_length : (s : StateFields) (p : PhaseFields) → AreLimits s.header_limit s.syllable_limit s.input_limit → ArePhaseFields s p → length (phase_bytes p) ≤ max s.header_limit (2 * s.syllable_limit) + 83
 phase_length s (InHeaders t) limits fits =
     omega (arith, text_length t, within_length s.header_limit t limits.header_least fits.within, le-max_left s.header_limit (2 * s.syllable_limit))
-phase_length s (InScore f) limits fits =
-    omega (arith, score_length f fits.before.heights, fits.held.short, fits.kept_short, le-max_right s.header_limit (2 * s.syllable_limit))
+phase_length s (InScore f) limits fits = grind (arith, score_length, le-max_right)
 
 pub state_length : (s : StateFields) → AreStateFields s → length (state_bytes s) ≤ max s.header_limit (2 * s.syllable_limit) + 128
 state_length s fits =
@@ -99,13 +97,4 @@ state_length s fits =
 
 -- n bytes are counted one by one
 pub state_counted : (s : StateFields) → AreStateFields s → counted_with 0 (state_bytes s) ≡ length (state_bytes s)
-state_counted s fits = counted (length (state_bytes s)) (omega (arith, state_length s fits, max-le head twice))
-  where
-    counted : (n : ℕ) → n < 2 ^ 64 → 0 + min n (2 ^ 64 - 1 - 0) ≡ n
-    counted n h = omega (arith, h)
-
-    head : s.header_limit ≤ 33554432
-    head = omega (arith, fits.limits.header_most)
-
-    twice : 2 * s.syllable_limit ≤ 33554432
-    twice = omega (arith, fits.limits.syllable_most)
+state_counted s fits = omega (arith, state_length s fits, fits.limits.header_most, fits.limits.syllable_most)

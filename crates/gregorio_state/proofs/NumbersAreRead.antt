@@ -1,5 +1,5 @@
 -- Numbers are read back from their bytes, and bytes are those of the number that is read.
-use Rattle.std.proofs.Common.{◌≡◌, ℕ, ◌^◌, ◌<◌, ◌≤◌, ltb, false, List, ◌++◌, length, get_or, take, drop, Some, refl, sym, arith, inl, inr, length-append}
+use Rattle.std.proofs.Common.{◌≡◌, ℕ, ◌^◌, ◌<◌, ◌≤◌, List, ◌++◌, length, get_or, take, drop, Some, refl, sym, arith, inl, inr, length-append}
 use Rattle.std.specs.Int.{Width, w16, w32, w64, byte_len, from_be_bytes, to_be_bytes}
 use Rattle.std.proofs.lemmas.Bool.{cases_lt, le-ltb}
 use Rattle.std.proofs.lemmas.List.{take_at, drop_at, take-append-drop, length-take, get_or-take, get_or_past}
@@ -56,7 +56,4 @@ module _ (w : Width) (limit : ℕ) (wide : IsWide w limit) where
   -- a number that is written is read, whatever follows it
   pub number_again : (n : ℕ) (rest : List ℕ) → n < limit → number_at w (number_bytes w n ++ rest) ≡ Some (n, rest)
   unfolding number_bytes number_at
-  number_again n rest lt =
-      let len = wide.len n in
-      let long : ltb (length (to_be_bytes w n ++ rest)) (byte_len w) ≡ false = le-ltb _ _ (omega (arith, length-append (to_be_bytes w n) rest)) in
-      rw (long, take_at (to_be_bytes w n) rest (byte_len w) len, drop_at (to_be_bytes w n) rest (byte_len w) len, wide.again n lt) refl
+  number_again n rest lt = grind (arith, le-ltb, length-append, take_at, drop_at)

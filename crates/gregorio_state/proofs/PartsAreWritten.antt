@@ -1,5 +1,5 @@
 -- Parts that are put one after the other are put as one.
-use Rattle.std.proofs.Common.{◌≡◌, ℕ, List, [], ◌∷◌, ◌++◌, sym, ap, ◌∙◌}
+use Rattle.std.proofs.Common.{◌≡◌, ℕ, List, [], ◌∷◌, ◌++◌, sym, arith}
 use Rattle.std.proofs.lemmas.List.Concat.{flat_map-cons}
 use Rattle.gabc_places.specs.StageLaw.{concat_of}
 
@@ -11,5 +11,4 @@ each_taken taken s (part ∷ parts) = each_taken taken (taken s part) parts
 pub taken_as_one : {S : Type 0} (taken : S → List ℕ → S) → ((s : S) → taken s [] ≡ s) → ((s : S) (a b : List ℕ) → taken (taken s a) b ≡ taken s (a ++ b))
     → (s : S) (parts : List (List ℕ)) → each_taken taken s parts ≡ taken s (concat_of parts)
 taken_as_one taken nothing both s [] = sym (nothing s)
-taken_as_one taken nothing both s (part ∷ parts) =
-    taken_as_one taken nothing both (taken s part) parts ∙ both s part (concat_of parts) ∙ ap (taken s) (sym (flat_map-cons (λ (xs : List ℕ). xs) part parts))
+taken_as_one taken nothing both s (part ∷ parts) = grind (arith, taken_as_one taken nothing both (taken s part) parts, flat_map-cons)

@@ -1,13 +1,13 @@
 -- The bytes of a state are read as its fields.
-use Rattle.std.proofs.Common.{◌≡◌, ℕ, ◌^◌, ◌<◌, List, [], ◌∷◌, ◌++◌, length, map, Option, Some, None, inl, inr, refl, sym, ap, ◌∙◌, arith}
+use Rattle.std.proofs.Common.{◌≡◌, ℕ, ◌^◌, ◌<◌, List, [], ◌∷◌, ◌++◌, length, map, Option, Some, refl, sym, ap, ◌∙◌, arith}
 use Rattle.std.proofs.lemmas.List.{append-nil}
 use Rattle.std.specs.Int.{w32}
 use Rattle.std.specs.Prelude.{IfSome}
 use Rattle.gabc_places.specs.DecoderMachine.{IsReached}
 use Rattle.gabc_places.specs.declared.place.Place.{Place}
-use Rattle.gregorio_state.specs.Fields.{StateFields, ScoreFields, PhaseFields, InHeaders, InScore}
+use Rattle.gregorio_state.specs.Fields.{StateFields, ScoreFields, PhaseFields}
 use Rattle.gregorio_state.specs.StateBytes.{number_bytes, flag_bytes, text_bytes, place_bytes, opener_bytes, spans_number, format_number, clef_bytes, alter_number, score_bytes, phase_bytes, state_bytes}
-use Rattle.gabc_places.specs.PlacesInOrder.{LiesBefore, IsEarlier}
+use Rattle.gabc_places.specs.PlacesInOrder.{LiesBefore}
 use Rattle.gregorio_state.specs.Conditions.{AreScoreFields, ArePhaseFields, AreStateFields}
 use Rattle.gregorio_state.specs.machine.Lengths.{AreShort}
 use Rattle.gregorio_state.specs.machine.Reading.{score_of_bytes, phase_of_bytes, state_of_bytes}
@@ -15,15 +15,10 @@ use Rattle.gregorio_state.proofs.FieldsAreRead.{again_16, again_32, flag_again, 
 use Rattle.gregorio_state.proofs.LengthsOfStates.{short_texts}
 
 fits_before : (next p : Place) → next.line < 2 ^ 64 → LiesBefore next p → FitsPlace p
-fits_before next p lt b = record { first = b.line; line = by_order b.earlier; column = b.in_64_bits }
-  where
-    by_order : IsEarlier p next → p.line < 2 ^ 64
-    by_order (inl h) = omega (arith, h, lt)
-    by_order (inr h) = omega (arith, h.0, lt)
+fits_before next p lt b = grind arith
 
 opener_fits : (next : Place) (p : Option Place) → next.line < 2 ^ 64 → IfSome p (LiesBefore next) → IfSome p FitsPlace
-opener_fits next None lt h = tt
-opener_fits next (Some p) lt h = fits_before next p lt h
+opener_fits next p lt h = grind (arith, fits_before)
 
 score_again : (s : StateFields) (f : ScoreFields) → s.taken < 2 ^ 32 → s.place.line < 2 ^ 64 → s.input_limit < 2 ^ 32 → s.syllable_limit < 2 ^ 32 → AreScoreFields s f → score_of_bytes (score_bytes f) ≡ Some f
 unfolding score_of_bytes
@@ -56,8 +51,7 @@ score_again s f taken line input syllable fits =
     refl
 
 phase_again : (s : StateFields) (p : PhaseFields) → s.taken < 2 ^ 32 → s.place.line < 2 ^ 64 → s.input_limit < 2 ^ 32 → s.syllable_limit < 2 ^ 32 → AreShort p → ArePhaseFields s p → phase_of_bytes (phase_bytes p ++ []) ≡ Some p
-phase_again s (InHeaders t) taken line input syllable short fits = rw (end_again t fits.is_text.utf8 short) refl
-phase_again s (InScore f) taken line input syllable short fits = rw (append-nil (score_bytes f), score_again s f taken line input syllable fits) refl
+phase_again s p taken line input syllable short fits = grind (arith, end_again, append-nil, score_again)
 
 -- the numbers of a decoder are below 2 ^ 64
 place_fits : (s : StateFields) → s.taken < 2 ^ 32 → IsReached s.place (length s.pending) s.taken → (s.place.line < 2 ^ 64) × (s.place.column < 2 ^ 64)

@@ -1,5 +1,5 @@
 -- Whether an argument is there, by the rows of the matches.
-use Rattle.std.proofs.Common.{◌≡◌, ◌∙◌, Option, Some, None, refl, sym, ap}
+use Rattle.std.proofs.Common.{◌≡◌, ◌∙◌, Option, Some, None, refl, sym, ap, arith}
 use Rattle.std.specs.Prelude.{find, is_some, option_map, option_and_then}
 use Rattle.std.specs.Borrow.{Bor}
 use Rattle.std.specs.Str.{bytes_eq}
@@ -23,5 +23,4 @@ is_used-rows f id = ap is_from_words (go (find (λ e. bytes_eq e.0.now id) f.ent
 
 -- a text is there, after a reference or not
 pub is_some-texts : (o : Option (Bor Text)) → is_some (option_map (λ s. s.now) o) ≡ is_some o
-is_some-texts None = refl
-is_some-texts (Some s) = refl
+is_some-texts o = grind arith

@@ -1,5 +1,5 @@
 -- What words want, by what a parse of them gave.
-use Rattle.std.proofs.Common.{◌≡◌, ◌⊎◌, ◌∙◌, true, List, [], ◌∷◌, Err, inl, inr, refl, sym, ap, subst}
+use Rattle.std.proofs.Common.{◌≡◌, ◌⊎◌, ◌∙◌, true, List, [], ◌∷◌, Err, inl, inr, refl, sym, ap, subst, arith}
 use Rattle.clap.specs.Words.{App, IsAmong, Kinds, Row, Text, fault_of, is_simple, is_simple_and_free, matches_of}
 use Rattle.clap.specs.declared.error.ErrorKind.{ErrorKind}
 use Rattle.clap.specs.declared.error.ErrorKind.TheVariants.{OutOfMemory}
@@ -31,8 +31,7 @@ taken a ws words rows app same faults matches =
     ∙ sym (ap (λ (k : Kinds). answer_unless k (argument_values (matches_of gregorio_command words))) none)
 
 refusal_by_kind : (k : ErrorKind) → (refused_by k ≡ O0) ⊎ (refused_by k ≡ O1)
-refusal_by_kind OutOfMemory = inl refl
-refusal_by_kind k = inr refl
+refusal_by_kind k = grind arith
 
 -- the command refuses the words, or there is no memory
 pub refused : (a : App) (ws words : List Text) (k : ErrorKind) (r : Refusal) → a ≡ gregorio_command → ws ≡ words

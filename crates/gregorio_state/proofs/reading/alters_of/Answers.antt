@@ -17,10 +17,7 @@ loop-height-preserved c =
     )
 
 pub returns-clause-read : goal.returns-clause-read
-returns-clause-read c =
-    let numbers : length c.args.numbers.now ≤ c.loop-height.height = omega arith in
-    let alters : length c.loop-height.alters ≤ c.loop-height.height = omega (arith, c.loop-height.invariant.2) in
-    all_read c.loop-height.alters c.args.numbers.now c.loop-height.height numbers alters c.loop-height.invariant.0
+returns-clause-read c = grind (arith, all_read)
 
 pub returns-clause-written : goal.returns-clause-written
 returns-clause-written c =
