@@ -8,7 +8,7 @@ use Rattle.gabc_score.specs.declared.score_event.BorrowedSyllable.TheVariants.{F
 use Rattle.gabc_score.specs.declared.score_event.ScoreEvent.{ScoreEvent}
 use Rattle.gabc_score.specs.declared.score_machine.ScorePart.TheVariants as score_part
 use Rattle.gabc_score.specs.ScoreEvents.{ScoreOutput, Found, Stop, Syllable, End}
-use Rattle.gabc_score.specs.ScoreStage.{GivesAt, GivesLast, GivesOutputs, events_left, events_of, is_last_event}
+use Rattle.gabc_score.specs.ScoreStage.{GivesAt, GivesLast, GivesOutputs, events_left, is_last_event}
 use Rattle.gabc_score.specs.witness.ScoreStage.{ScoreStageState, left_of}
 use Rattle.gabc_score.proofs.score_events.OutputsOfLentSyllables.{then_more}
 use Rattle.gregorio.specs.declared.run_ending.RunEnding.{RunEnding}
@@ -19,7 +19,8 @@ use Rattle.gregorio.specs.machine.ScoreWriter.{ScoreWriterState, FitsEvents, IsS
 use Rattle.gregorio.proofs.PassedInHeads.{passed_in_heads}
 use Rattle.gregorio.proofs.OutputsOfEvents.{as_many_emitted, emitted_is, ends_at_last, nothing_left}
 use Rattle.gregorio.proofs.RoomForAnEvent.{event_has_room, event_in_room, lines_within, needed_for, nothing_over, one_within, room_after}
-use Rattle.gregorio.proofs.StreamsOfOutputs.{EndsAtLast, headed_stays, job_stays, second_empty}
+use Rattle.gregorio.proofs.StreamsOfOutputs.{EndsAtLast, headed_stays, job_stays}
+use Rattle.gabc_places.proofs.NothingAfterAnEnd.{both_empty}
 use Rattle.gregorio.proofs.pieces.WrittenGoesOn.{steady_past}
 
 -- ---- the outputs
@@ -27,8 +28,7 @@ use Rattle.gregorio.proofs.pieces.WrittenGoesOn.{steady_past}
 -- what a call emitted into an emptied room is the outputs that it gave
 outs_are : (outputs : List ScoreOutput) (r old new : BoundedList ScoreEvent) (events : List ScoreEvent) (s : ScoreStageState) → old ≡ record r { items = [] } → events ≡ new.items → GivesOutputs outputs old new s.first s.second
     → outputs_of_events s events ≡ outputs
-outs_are outputs r old new events s empty is emitted =
-    ap (outputs_of_events s) (is ∙ (ap (λ (l : BoundedList ScoreEvent). l.items) emitted.events ∙ ap (λ (l : BoundedList ScoreEvent). l.items ++ events_of outputs) empty)) ∙ emitted_is s outputs emitted.lent
+outs_are outputs r old new events s empty is emitted = grind (arith, emitted_is)
 
 -- after a stop or the end the stage gives nothing
 ends_where_emitted : (outputs : List ScoreOutput) (old new : BoundedList ScoreEvent) (s : ScoreStageState) → GivesOutputs outputs old new s.first s.second
@@ -99,7 +99,7 @@ module _ (score mid : ScoreStageState) (writer : RunWriterState) (now : ScoreWri
     pub silent_after : (IsSome writer.written.ended → IsSilent score) → IsSome new.written.ended → IsSilent mid
     silent_after before over =
         over_by_last (IsSilent mid) writer.written step.outputs ends
-        (λ some xs. second_empty step.outputs (concat_of (left_of mid xs)) (sym (ap (λ (lists : List (List ScoreOutput)). concat_of lists) (step.law xs)) ∙ before some (x ∷ xs)))
+        (λ some xs. (both_empty step.outputs (concat_of (left_of mid xs)) (sym (ap (λ (lists : List (List ScoreOutput)). concat_of lists) (step.law xs)) ∙ before some (x ∷ xs))).1)
         (subst (λ (v : RunWriterState). IsSome v.written.ended) new_is over)
 
     pub event_keeps_room : ((lines texts : ℕ) → IsInRoom mid.limits lines texts writer (outputs_of_events mid events) → IsInRoom mid.limits lines texts new [])
@@ -132,10 +132,7 @@ module _ (score mid : ScoreStageState) (writer : RunWriterState) (now : ScoreWri
   most_texts = length writer.out.items + texts_room writer.written.format score.limits.syllable step.outputs
 
   in_room : (lines texts : ℕ) → most_lines ≤ lines → most_texts ≤ texts → IsInRoom mid.limits lines texts writer (outputs_of_events mid events)
-  in_room lines texts more_lines more_texts =
-      subst (λ (limits : Limits). IsInRoom limits lines texts writer (outputs_of_events mid events)) (sym step.limits)
-      (subst (λ (outputs : List ScoreOutput). IsInRoom score.limits lines texts writer outputs) (sym emitted_last)
-      (record { lines = more_lines; texts = more_texts; within = step.lends.within }))
+  in_room lines texts more_lines more_texts = grind (arith, emitted_last)
 
   -- room is left for the last text after them
   texts_fit : most_texts + last_room ≤ writer.out.limit
@@ -184,13 +181,4 @@ module _ (score mid : ScoreStageState) (writer : RunWriterState) (now : ScoreWri
       })
 
   pub last_is_steady : (new : RunWriterState) → new ≡ past_end (past_outputs writer (outputs_of_events mid events)) → IsSteady now (record { score = mid; writer = new })
-  last_is_steady new writes =
-      let job = job_stays writer.written (outputs_of_events mid events) in
-      subst (λ (s : ScoreWriterState). IsSteady s (record { score = mid; writer = new })) view (record {
-        limits = step.limits;
-        format = ap (λ (v : RunWriterState). v.written.format) writes ∙ job.0;
-        name = ap (λ (v : RunWriterState). v.written.name) writes ∙ job.1.0;
-        all_warnings = ap (λ (v : RunWriterState). v.written.all_warnings) writes ∙ job.1.1.0;
-        out = ap (λ (v : RunWriterState). v.out.limit) writes;
-        messages = ap (λ (v : RunWriterState). v.messages.limit) writes;
-      })
+  last_is_steady new writes = grind (arith, job_stays)

@@ -1,9 +1,9 @@
 -- What is left of a text after bytes with which it begins.
-use Rattle.std.proofs.Common.{◌≡◌, ◌≢◌, ℕ, List, [], ◌∷◌, ◌++◌, Bool, true, Option, Some, None, MatchOption, Bor, inl, inr, refl, ap, sym, ◌∙◌}
+use Rattle.std.proofs.Common.{◌≡◌, ◌≢◌, ℕ, List, [], ◌∷◌, ◌++◌, Bool, true, Option, Some, None, MatchOption, Bor, refl, ap, sym, ◌∙◌, arith}
 use Rattle.std.specs.Prelude.{◌==◌, ◌↔◌, IsTrue, if◌then◌else◌}
 use Rattle.std.specs.Option.{option_map}
 use Rattle.std.proofs.lemmas.List.{append-nil}
-use Rattle.std.proofs.lemmas.Bool.Decides.{Decides-eqb, eqb_tells}
+use Rattle.std.proofs.lemmas.Bool.Decides.{Decides-eqb}
 use Rattle.gregorio.specs.machine.Comparison.{compared_with, left_past}
 
 left_at_one : (b : ℕ) (left : Option (List ℕ)) → (if b == b then left else None) ≡ left
@@ -14,14 +14,7 @@ left_after_front [] rest = refl
 left_after_front (b ∷ bytes) rest = left_at_one b (left_past bytes (bytes ++ rest)) ∙ left_after_front bytes rest
 
 one_more : (b c : ℕ) (left : Option (List ℕ)) (text more rest : List ℕ) → (left ≡ Some rest → text ≡ more) → (if b == c then left else None) ≡ Some rest → c ∷ text ≡ b ∷ more
-one_more b c left text more rest front is = elim (eqb_tells b c) [
-  | inl (test, same) ↦
-      let here : left ≡ Some rest = rw test at is in
-      let next : text ≡ more = front here in
-      let at : c ≡ b = sym same in
-      rw (at, next) refl
-  | inr (test, other) ↦ let none : None ≡ Some rest = rw test at is in absurd (cc none)
-]
+one_more b c left text more rest front is = grind arith
 
 pub front_of_left : (bytes text rest : List ℕ) → left_past bytes text ≡ Some rest → text ≡ bytes ++ rest
 front_of_left [] text rest is = cc is
@@ -29,8 +22,7 @@ front_of_left (b ∷ bytes) [] rest is = absurd (cc is)
 front_of_left (b ∷ bytes) (c ∷ text) rest is = one_more b c (left_past bytes text) text (bytes ++ rest) rest (front_of_left bytes text rest) is
 
 none_if : (o : Option (List ℕ)) → ((rest : List ℕ) → o ≡ Some rest → ⊥) → None ≡ o
-none_if None h = refl
-none_if (Some rest) h = absurd (h rest refl)
+none_if o h = grind arith
 
 pub left_is : (bytes text : List ℕ) (r : Option (Bor (List ℕ))) → MatchOption r ((rest : List ℕ) → text ≢ bytes ++ rest) (λ x. text ≡ bytes ++ x.now) → option_map (λ (x : Bor (List ℕ)). x.now) r ≡ left_past bytes text
 left_is bytes text None none = none_if (left_past bytes text) (λ rest is. none rest (front_of_left bytes text rest is))

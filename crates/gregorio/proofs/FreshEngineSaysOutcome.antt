@@ -1,5 +1,5 @@
 -- An engine that has taken nothing will write what a run writes of its whole input.
-use Rattle.std.proofs.Common.{◌≡◌, ℕ, ◌*◌, ◌≤◌, ◌<◌, ◌^◌, List, [], ◌∷◌, ◌++◌, length, take, Bool, true, false, Option, Some, None, is_some, Result, Ok, Err, IfSome, refl, sym, ap, ◌∙◌, arith, append-nil, encode_utf8_all}
+use Rattle.std.proofs.Common.{◌≡◌, ℕ, ◌*◌, ◌≤◌, ◌<◌, ◌^◌, List, [], ◌∷◌, ◌++◌, length, take, Bool, true, false, Option, is_some, Result, Ok, Err, IfSome, refl, sym, ap, ◌∙◌, arith, append-nil, encode_utf8_all}
 use Rattle.std.specs.Char.{IsScalar}
 use Rattle.std.specs.List.{All}
 use Rattle.std.specs.declared.hash.DefaultHasher.{DefaultHasher}
@@ -53,18 +53,12 @@ pub record GivesHeads (limits : Limits) (t : List ℕ) : Type 0 where
 
 pub given_are : (limits : Limits) (hasher : DefaultHasher) (ending : SourceEnding) (t : List ℕ) (stop : Option Fault) → GivesHeads limits t
     → head_events_left (fresh_stage limits hasher) ending (inputs_after [] t ++ fault_items stop) ≡ head_events limits (ending_by ending stop) t
-given_are limits hasher Ended t None g =
-    ap (λ (xs : List (Result Char Fault)). emitted_by true xs (events_left limits (reading []) xs)) (append-nil (inputs_after [] t)) ∙ sym g.whole
-given_are limits hasher Broken t None g =
-    ap (λ (xs : List (Result Char Fault)). emitted_by false xs (events_left limits (reading []) xs)) (append-nil (inputs_after [] t)) ∙ sym g.broken
-given_are limits hasher Ended t (Some fault) g = sym (g.stopped fault true)
-given_are limits hasher Broken t (Some fault) g = sym (g.stopped fault false)
+given_are limits hasher ending t stop g = grind (arith, append-nil)
 
 -- the book is that of the headers
 book_by : (limits : Limits) (e : InputEnding) (t : List ℕ) (r : Result Heads HeadFault) (read : List (List ℕ × List ℕ)) → ((heads : Heads) → r ≡ Ok heads → read ≡ heads.book)
     → IfSome (score_by limits e t r).book (λ book. read ≡ book)
-book_by limits e t (Ok heads) read is = is heads refl
-book_by limits e t (Err stopped) read is = tt
+book_by limits e t r read is = grind arith
 
 -- what holds of a text and a stage of scores that has taken nothing
 pub record ReadsText (limits : Limits) (score : ScoreStageState) (e : InputEnding) (t : List ℕ) : Type 0 where
@@ -120,25 +114,7 @@ module _ (below : LawsBelow) (job : Job) (limits : Limits) (hasher : DefaultHash
     (at_end : (bytes : List ℕ) → concat_of (decoder.events_left d bytes) ≡ known_at_end limits bytes)
     (fresh : (xs : List HeadEvent) → AreCountsBelow xs → left_of score xs ≡ score_outputs texts_by_stage limits xs) where
   reads : (e : InputEnding) (bytes : List ℕ) → ReadsText limits score e (text_of_bytes limits.input bytes)
-  reads e bytes =
-      let t = text_of_bytes limits.input bytes in
-      let most = limits.in_range.input_most in
-      let short : length (encode_utf8_all t) ≤ limits.input = below.short limits.input bytes in
-      let small : length (encode_utf8_all t) < 2 ^ 63 = omega (arith, short, most) in
-      let few : 2 * length (score_of limits e t).syllables ≤ limits.input = below.few limits e t in
-      record {
-        fresh = fresh;
-        counts = below.counts limits e t small;
-        outputs = below.outputs limits e t small;
-        score_is = record {
-          findings = below.findings limits e t;
-          syllables = below.syllables limits e t;
-          fault = below.fault limits e t;
-          end = below.end limits e t;
-        };
-        ends = nothing_after (outputs_of_text limits e t) (below.nothing_after limits (head_events limits e t));
-        few = omega (arith, few, most);
-      }
+  reads e bytes = grind (arith, nothing_after)
 
   pub streams_are : (bytes : List ℕ) (ending : SourceEnding)
       → (let items = emitted_by (is_whole ending) bytes (decoder.events_left d bytes) in

@@ -1,5 +1,5 @@
 -- The streams of what a stage of headers gives of a text, by what a score says of it that has taken nothing: first the headers, if they are whole.
-use Rattle.std.proofs.Common.{◌≡◌, ℕ, List, [], ◌∷◌, ◌++◌, map, drop, true, false, ◌||◌, Option, Some, None, is_some, Result, Ok, Err, inr, refl, sym, ap, ◌∙◌, append-nil}
+use Rattle.std.proofs.Common.{◌≡◌, ℕ, List, [], ◌∷◌, ◌++◌, map, true, false, ◌||◌, Option, Some, None, is_some, Result, refl, sym, ap, ◌∙◌, append-nil, arith}
 use Rattle.std.specs.List.{list_any}
 use Rattle.gabc_places.specs.StageLaw.{concat_of}
 use Rattle.gabc_places.specs.declared.code.Fault.{Fault}
@@ -12,7 +12,7 @@ use Rattle.gabc_headers.specs.declared.head_event.HeadEvent.TheVariants as head_
 use Rattle.gabc_headers.specs.HeadEvents.{event_of_book}
 use Rattle.gabc_score.specs.Events.{Texts}
 use Rattle.gabc_score.specs.declared.ending.InputEnding.{InputEnding}
-use Rattle.gabc_score.specs.Score.{score_by, head_fault_by}
+use Rattle.gabc_score.specs.Score.{score_by}
 use Rattle.gabc_score.specs.ScoreEvents.{ScoreOutput, Found, Stop, Syllable, End, score_outputs, stop_events, head_events_by, is_last}
 use Rattle.gregorio.specs.Outcome.{shown_line, is_error_finding}
 use Rattle.gregorio.specs.Streams.{Streams, after_bytes, heads_text}
@@ -52,12 +52,7 @@ module _ (texts : Texts) (limits : Limits) (read : List (List ℕ × List ℕ)) 
   heads_and_rest : (w : Written) (fs : List Finding) (book : List (List ℕ × List ℕ)) (rest : List HeadEvent)
       → (let from_heads = found_events fs ++ event_of_book book ∷ rest in
       streams_from (going_on false w) read from_heads (says from_heads) ≡ after_bytes (heads_text w.format read) [] (streams_in (going_on true w) (concat_of (says from_heads))))
-  heads_and_rest w [] book rest =
-      let text = heads_text w.format read in
-      let v = going_on true w in
-      let lists = drop 1 (says (event_of_book book ∷ rest)) in
-      ap (λ (l : List ℕ). after_bytes l [] (streams_from v read rest lists)) (append-nil text)
-      ∙ ap (λ (s : Streams). after_bytes text [] s) (in_body v read rest lists refl)
+  heads_and_rest w [] book rest = grind (arith, append-nil, in_body)
   heads_and_rest w (f ∷ fs) book rest =
       let from_heads = found_events fs ++ event_of_book book ∷ rest in
       let line = shown_line w.name w.all_warnings f in
@@ -70,7 +65,4 @@ module _ (texts : Texts) (limits : Limits) (read : List (List ℕ × List ℕ)) 
       → (let from_heads = head_events_by ending t r in
       let headed = is_some (score_by limits ending t r).book in
       streams_from (going_on false w) read from_heads (says from_heads) ≡ after_bytes (text_of_heads w read headed) [] (streams_in (going_on headed w) (concat_of (says from_heads))))
-  heads_first w ending t (Ok heads) = heads_and_rest w heads.findings heads.book _
-  heads_first w ending t (Err stop) =
-      let from_heads = head_events_by ending t (Err stop) in
-      without_heads (going_on false w) read from_heads (says from_heads) (inr (no_heads stop.findings (head_fault_by ending stop.at_end stop.fault)))
+  heads_first w ending t r = grind (arith, heads_and_rest, without_heads, no_heads)

@@ -1,5 +1,5 @@
 -- A text of headers that is pushed into a fresh stage, character by character.
-use Rattle.std.proofs.Common.{◌≡◌, ℕ, ◌||◌, List, [], ◌∷◌, ◌++◌, map, Bool, true, false, Result, Ok, Err, if◌then◌else◌, refl, ap, sym, subst, ◌∙◌}
+use Rattle.std.proofs.Common.{◌≡◌, ℕ, ◌||◌, List, [], ◌∷◌, ◌++◌, map, Bool, false, Result, Ok, Err, if◌then◌else◌, refl, ap, sym, subst, ◌∙◌, arith}
 use Rattle.std.specs.Char.{IsScalar}
 use Rattle.std.specs.List.{All, list_any}
 use Rattle.std.proofs.lemmas.List.Elements.{All-nil, All-push}
@@ -16,6 +16,7 @@ use Rattle.gabc_headers.specs.HeldText.{IsHeld, findings_held, inputs_of, text_i
 use Rattle.gabc_headers.specs.witness.HeadEvents.{HeaderStageState, HeadProgress, reading, after_headers, over, events_by, events_of_input, fresh_stage, new_findings, progress_after, progress_by, stage_after, stage_past}
 use Rattle.gregorio.specs.Outcome.{is_error_finding}
 use Rattle.gregorio.specs.machine.HeldHeaders.{HoldsSo, IsHeldSo, IsPushed, is_error_event}
+use Rattle.gregorio.proofs.pieces.TextOfHeaders.{IsFoundAfter}
 
 -- ---- errors among events
 
@@ -35,10 +36,6 @@ text_past (y ∷ xs) x = ap (λ (cs : List ℕ). y.c ∷ cs) (text_past xs x)
 
 -- ---- a character
 
-abbrev pub IsFoundAfter : Type 0
-IsFoundAfter = (limits : Limits) (t : List ℕ) (c : ℕ) → All IsScalar t → IsScalar c → IsHeld limits t → IsHeld limits (t ++ c ∷ [])
-    → findings_held limits (t ++ c ∷ []) ≡ findings_held limits t ++ new_findings limits t (t ++ c ∷ [])
-
 module _ (law : IsFoundAfter) (limits : Limits) (t : List ℕ) (x : Char) (scalars : All IsScalar t) (scalar : IsScalar x.c) (error : Bool) (before : IsHeld limits t)
     (errors : error ≡ list_any is_error_finding (findings_held limits t)) where
   abbrev longer : List ℕ
@@ -48,24 +45,15 @@ module _ (law : IsFoundAfter) (limits : Limits) (t : List ℕ) (x : Char) (scala
   more = new_findings limits t longer
 
   holds_more : IsHeld limits longer → IsHeldSo limits longer (error || list_any is_error_event (map (λ (f : Finding). head_event.Found f) more)) longer
-  holds_more held = record {
-    text = refl;
-    held = held;
-    errors = ap (λ (b : Bool). b || list_any is_error_event (map (λ (f : Finding). head_event.Found f) more)) errors
-        ∙ (ap (λ (b : Bool). list_any is_error_finding (findings_held limits t) || b) (found_errors more)
-        ∙ sym (ap (λ (fs : List Finding). list_any is_error_finding fs) (law limits t x.c scalars scalar before held)
-        ∙ list_any-append is_error_finding (findings_held limits t) more));
-  }
+  holds_more held = grind (arith, found_errors, list_any-append)
 
   holds_by_end : (stopped : HeadFault) (at_end : Bool) → heads_of limits longer ≡ Err stopped → stopped.at_end ≡ at_end
       → HoldsSo limits longer (error || list_any is_error_event (if at_end then map (λ (f : Finding). head_event.Found f) more else head_event.Stop stopped.fault ∷ []))
       (if at_end then reading longer else over)
-  holds_by_end stopped true is at_end = holds_more (record { stopped = stopped; heads = is; at_end = at_end })
-  holds_by_end stopped false is at_end = tt
+  holds_by_end stopped h is at_end = grind (arith, holds_more)
 
   holds_by : (r : Result Heads HeadFault) → heads_of limits longer ≡ r → HoldsSo limits longer (error || list_any is_error_event (events_by more r)) (progress_by longer r)
-  holds_by (Ok heads) is = tt
-  holds_by (Err stopped) is = holds_by_end stopped stopped.at_end is refl
+  holds_by r is = grind (arith, holds_by_end)
 
 module _ (law : IsFoundAfter) (limits : Limits) (t : List ℕ) (x : Char) (scalars : All IsScalar t) (scalar : IsScalar x.c) (error : Bool) where
   holds_on : (progress : HeadProgress) → HoldsSo limits t error progress
@@ -100,10 +88,4 @@ pushed_on law limits hasher t x old new error found scalar p is found_is =
     }
 
 pub none_pushed : (limits : Limits) (hasher : DefaultHasher) (h : HeaderStageState) → ((limits : Limits) → IsHeld limits []) → h ≡ fresh_stage limits hasher → IsPushed limits hasher [] h false
-none_pushed limits hasher h begins is = record {
-  xs = [];
-  text = refl;
-  scalars = All-nil IsScalar;
-  past = is;
-  holds = subst (λ (s : HeaderStageState). HoldsSo limits [] false s.progress) (sym is) (record { text = refl; held = begins limits; errors = refl });
-}
+none_pushed limits hasher h begins is = grind (arith, All-nil)

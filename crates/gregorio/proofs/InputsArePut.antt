@@ -1,5 +1,5 @@
 -- What an engine writes of an input in memory is put as it comes.
-use Rattle.std.proofs.Common.{◌≡◌, ℕ, ◌+◌, List, [], ◌++◌, take, drop, Option, take-append-drop, append_assoc, append-nil, refl, sym, ap, subst, ◌∙◌}
+use Rattle.std.proofs.Common.{◌≡◌, ℕ, ◌+◌, List, [], ◌++◌, take, drop, Option, take-append-drop, append_assoc, append-nil, refl, sym, ap, ◌∙◌, arith}
 use Rattle.std.proofs.lemmas.List.{drop-drop}
 use Rattle.gabc_places.specs.declared.code.Fault.{Fault}
 use Rattle.gabc_places.specs.declared.limits.Limits.{Limits}
@@ -25,8 +25,7 @@ left_past e f g input count k law forgets ending more =
 
 -- what waits is none of its job
 pub runs_where_taken : (f g : EngineState) (job : Job) (limits : Limits) → g ≡ record f { output = []; messages = [] } → RunsJob job limits f → RunsJob job limits g
-runs_where_taken f g job limits forgets runs =
-    subst (RunsJob job limits) (sym forgets) (record { limits_are = runs.limits_are; format = runs.format; name = runs.name; all_warnings = runs.all_warnings })
+runs_where_taken f g job limits forgets runs = grind arith
 
 module _ {A B : Type 0} (takes : A → List ℕ → A) (takes_too : B → List ℕ → B) where
   pub nothing_taken : (o : A) (m : B) (s : Streams) → TakeTheSame takes takes_too o m s o m s
@@ -36,18 +35,9 @@ module _ {A B : Type 0} (takes : A → List ℕ → A) (takes_too : B → List �
     -- they took what stands before the rest
     pub more_taken : (o p q : A) (m n r : B) (s t u : Streams) (output lines : List ℕ) → TakeTheSame takes takes_too o m s p n t → t ≡ after_bytes output lines u
         → q ≡ takes p output → r ≡ takes_too n lines → TakeTheSame takes takes_too o m s q r u
-    more_taken o p q m n r s t u output lines h parts i j = record {
-      output = ap (λ (x : A). takes x u.output) i ∙ (both p output u.output ∙ (ap (λ (x : Streams). takes p x.output) (sym parts) ∙ h.output));
-      lines = ap (λ (x : B). takes_too x u.messages) j ∙ (both_too n lines u.messages ∙ (ap (λ (x : Streams). takes_too n x.messages) (sym parts) ∙ h.lines));
-      status = ap (λ (x : Streams). x.status) (sym parts) ∙ h.status;
-      fault = ap (λ (x : Streams). x.fault) (sym parts) ∙ h.fault;
-    }
+    more_taken o p q m n r s t u output lines h parts i j = grind arith
 
   -- they took the last
   pub last_taken : (o p q : A) (m n r : B) (s t : Streams) (output lines : List ℕ) (status : Status) (fault : Option Fault) → TakeTheSame takes takes_too o m s p n t → t ≡ after_bytes output lines (ended_with status fault)
       → q ≡ takes p output → r ≡ takes_too n lines → (q ≡ takes o s.output) × (r ≡ takes_too m s.messages) × ((status ≡ s.status) × (fault ≡ s.fault))
-  last_taken o p q m n r s t output lines status fault h parts i j = (
-    i ∙ (ap (takes p) (sym (ap (λ (x : Streams). x.output) parts ∙ append-nil output)) ∙ h.output),
-    j ∙ (ap (takes_too n) (sym (ap (λ (x : Streams). x.messages) parts ∙ append-nil lines)) ∙ h.lines),
-    (sym (ap (λ (x : Streams). x.status) parts) ∙ h.status, sym (ap (λ (x : Streams). x.fault) parts) ∙ h.fault),
-  )
+  last_taken o p q m n r s t output lines status fault h parts i j = grind (arith, append-nil)

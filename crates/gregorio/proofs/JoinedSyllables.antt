@@ -1,46 +1,24 @@
 -- Syllables that are written joined, in canonical form.
-use Rattle.std.proofs.Common.{◌≡◌, ℕ, suc, ◌+◌, ◌-◌, ◌^◌, ◌≤◌, min, Bool, true, if◌then◌else◌, List, [], ◌∷◌, ◌++◌, length, map, arith, sym, ap, ◌∙◌, append_assoc, append-nil}
-use Rattle.gabc_places.specs.BoundedList.{extended_by}
+use Rattle.std.proofs.Common.{◌≡◌, ℕ, suc, ◌-◌, ◌^◌, ◌≤◌, Bool, true, List, [], ◌∷◌, ◌++◌, length, map, arith, sym, ap, ◌∙◌, append_assoc, append-nil}
 use Rattle.gabc_places.specs.StageLaw.{concat_of}
 use Rattle.gabc_score.specs.Canonical.{canonical_in_place}
 use Rattle.gabc_score.specs.GivesSyllables.{AreJoined, spelled_canonical}
 use Rattle.gabc_score.specs.ScoreEvents.{Syllable}
 use Rattle.gabc_score.specs.Syllable.{PlacedSyllable}
-use Rattle.gregorio_jobs.specs.declared.job.Format.{Format}
 use Rattle.gregorio_jobs.specs.declared.job.Format.TheVariants.{Gabc}
-use Rattle.gregorio.specs.Streams.{force_after, next_number, syllable_text}
 use Rattle.gregorio.specs.machine.OutputsOfARun.{one_then, past_none}
 use Rattle.gregorio.specs.machine.RunWriter.{RunWriterState, outputs_of_syllables, past_output, past_syllables, with_joined}
 
 -- a syllable by itself
 one_joined : (w : RunWriterState) (s : PlacedSyllable) → w.written.format ≡ Gabc → w.written.headed ≡ true → with_joined w (canonical_in_place s) 1 ≡ past_output w (Syllable s)
-one_joined w s canonical headed =
-    ap (λ (lines : List ℕ). record (with_joined w (canonical_in_place s) 1) { messages = record w.messages { items = lines } }) (sym (append-nil w.messages.items))
-    ∙ (ap (λ (f : Format). past true f) (sym canonical) ∙ ap (λ (b : Bool). past b w.written.format) (sym headed))
-  where
-    past : Bool → Format → RunWriterState
-    past b f = record w {
-      written = record w.written { count = if b then next_number w.written.count else w.written.count; force = if b then force_after f w.written.force s else w.written.force };
-      out = extended_by w.out (if b then syllable_text f (next_number w.written.count) w.written.force s else []);
-      messages = extended_by w.messages [];
-    }
+one_joined w s canonical headed = grind (arith, append-nil)
 
 none_joined : (w : RunWriterState) → w.written.count ≤ 2 ^ 64 - 1 → with_joined w [] 0 ≡ w
-none_joined w fits =
-    ap (λ (n : ℕ). record w { written = record w.written { count = n }; out = extended_by w.out [] }) (same w.written.count (2 ^ 64 - 1) fits)
-    ∙ ap (λ (text : List ℕ). record w { out = record w.out { items = text } }) (append-nil w.out.items)
-  where
-    same : (n most : ℕ) → n ≤ most → min (n + 0) most ≡ n
-    same n most fits = omega arith
+none_joined w fits = grind (arith, append-nil)
 
 -- one, and then others
 one_then_joined : (w : RunWriterState) (a b : List ℕ) (n : ℕ) → with_joined (with_joined w a 1) b n ≡ with_joined w (a ++ b) (suc n)
-one_then_joined w a b n =
-    ap (λ (m : ℕ). record w { written = record w.written { count = m }; out = extended_by (extended_by w.out a) b }) (same w.written.count (2 ^ 64 - 1))
-    ∙ ap (λ (text : List ℕ). record (with_joined w (a ++ b) (suc n)) { out = record w.out { items = text } }) (append_assoc w.out.items a b)
-  where
-    same : (count most : ℕ) → min (min (count + 1) most + n) most ≡ min (count + suc n) most
-    same count most = omega arith
+one_then_joined w a b n = grind (arith, append_assoc)
 
 all_joined : (w : RunWriterState) (ss : List PlacedSyllable) → w.written.format ≡ Gabc → w.written.headed ≡ true → w.written.count ≤ 2 ^ 64 - 1
     → with_joined w (concat_of (map canonical_in_place ss)) (length ss) ≡ past_syllables w ss
@@ -56,7 +34,4 @@ all_joined w (s ∷ ss) canonical headed fits =
 pub past_joined : (w : RunWriterState) (starts : Bool) (text : List ℕ) (count : ℕ) (ss : List PlacedSyllable) → AreJoined starts text count ss
     → w.written.format ≡ Gabc → w.written.headed ≡ true → w.written.count ≤ 2 ^ 64 - 1
     → with_joined w (spelled_canonical starts text) count ≡ past_syllables w ss
-past_joined w starts text count ss are canonical headed fits =
-    ap (λ (t : List ℕ). with_joined w t count) (sym are.canonical_is)
-    ∙ (ap (λ (n : ℕ). with_joined w (concat_of (map canonical_in_place ss)) n) (sym are.count_is)
-    ∙ all_joined w ss canonical headed fits)
+past_joined w starts text count ss are canonical headed fits = grind (arith, all_joined)

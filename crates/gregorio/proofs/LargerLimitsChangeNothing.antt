@@ -1,5 +1,5 @@
 -- Larger limits change nothing, where the input may be as long and nothing in it was too long.
-use Rattle.std.proofs.Common.{◌≡◌, ℕ, List, length, take, nat_lt, false, sym, ap, ◌∙◌}
+use Rattle.std.proofs.Common.{◌≡◌, ℕ, List, length, take, nat_lt, false, sym, ap, arith}
 use Rattle.std.specs.Option.{option_map}
 use Rattle.gabc_places.specs.declared.code.Code.{Code}
 use Rattle.gabc_places.specs.declared.decoded.Decoded.{Decoded}
@@ -9,26 +9,15 @@ use Rattle.gabc_places.specs.Place.{place_after}
 use Rattle.gabc_places.specs.Text.{decoded_of, stop_code_of, tail_of, text_of_bytes}
 use Rattle.gabc_headers.specs.TooLong.{is_stopped_too_long}
 use Rattle.gabc_score.specs.declared.ending.InputEnding as score
-use Rattle.gabc_score.specs.declared.score.Score.{Score}
 use Rattle.gabc_score.specs.Score.{score_of}
-use Rattle.gregorio.specs.declared.outcome.Outcome.{Outcome}
 use Rattle.gregorio.specs.declared.source_ending.SourceEnding.{SourceEnding}
-use Rattle.gregorio.specs.Outcome.{is_whole, ending_by, is_cut_short, outcome_of}
+use Rattle.gregorio.specs.Outcome.{is_whole, outcome_of}
 
 -- the text of an input depends on one limit
 abbrev decoded_within : ℕ → SourceEnding → List ℕ → Decoded
 decoded_within limit ending bytes =
     let text = text_of_bytes limit bytes in
     record { text = text; fault = option_map (λ (code : Code). record { place = place_after text; code = code }) (stop_code_of (nat_lt limit (length bytes)) (is_whole ending) (tail_of (take limit bytes))) }
-
--- what is made of a text, and of its score
-abbrev made_of : Limits → SourceEnding → Decoded → Outcome
-made_of limits ending decoded =
-    let score = score_of limits (ending_by ending decoded.fault) decoded.text in
-    record { score = score; broken = is_cut_short ending score.fault }
-
-abbrev made_by : SourceEnding → Score → Outcome
-made_by ending score = record { score = score; broken = is_cut_short ending score.fault }
 
 same_text : (limits larger : Limits) (ending : SourceEnding) (bytes : List ℕ) → limits.input ≡ larger.input
     → decoded_of larger (is_whole ending) bytes ≡ decoded_of limits (is_whole ending) bytes
@@ -38,7 +27,4 @@ pub same_outcome : ((limits larger : Limits) (ending : score.InputEnding) (t : L
     → is_stopped_too_long (score_of limits ending t).fault ≡ false → score_of larger ending t ≡ score_of limits ending t)
     → (limits larger : Limits) (ending : SourceEnding) (bytes : List ℕ) → AreNoLess limits larger → limits.input ≡ larger.input
     → is_stopped_too_long (outcome_of limits ending bytes).score.fault ≡ false → outcome_of larger ending bytes ≡ outcome_of limits ending bytes
-same_outcome same_score limits larger ending bytes no_less same not_long =
-    let decoded = decoded_of limits (is_whole ending) bytes in
-    ap (made_of larger ending) (same_text limits larger ending bytes same)
-    ∙ ap (made_by ending) (same_score limits larger (ending_by ending decoded.fault) decoded.text no_less same not_long)
+same_outcome same_score limits larger ending bytes no_less same not_long = grind (arith, same_text)

@@ -1,5 +1,5 @@
 -- The line `%%` alone is whole headers: a fresh stage into which it is pushed stands after them.
-use Rattle.std.proofs.Common.{◌≡◌, ℕ, List, [], ◌∷◌, ◌++◌, Bool, false, cond, nat_lt, Some, None, Ok, refl, ap, ◌∙◌, arith}
+use Rattle.std.proofs.Common.{◌≡◌, List, [], ◌∷◌, ◌++◌, Bool, false, cond, nat_lt, Some, None, Ok, refl, arith}
 use Rattle.std.proofs.lemmas.Bool.{le-ltb}
 use Rattle.std.specs.declared.hash.DefaultHasher.{DefaultHasher}
 use Rattle.gabc_places.specs.Findings.{earliest}
@@ -9,7 +9,7 @@ use Rattle.gabc_places.specs.declared.place.Char.{Char}
 use Rattle.gabc_headers.specs.HeldText.{inputs_of, text_in}
 use Rattle.gabc_headers.specs.Heads.{line_place, stop_at, too_long}
 use Rattle.gabc_headers.specs.witness.Heads.{heads_by}
-use Rattle.gabc_headers.specs.witness.HeadEvents.{HeadProgress, reading, after_headers, fresh_stage, progress_after, progress_by, progress_with, stage_at, stage_past}
+use Rattle.gabc_headers.specs.witness.HeadEvents.{reading, after_headers, fresh_stage, progress_by, progress_with, stage_past}
 use Rattle.gregorio.specs.machine.HeldHeaders.{after_mark}
 
 -- where no limit is passed
@@ -25,13 +25,10 @@ one_percent : (limits : Limits) → progress_with limits [] 37 ≡ reading (37 �
 one_percent limits = one_by (nat_lt limits.header 1) (le-ltb limits.header 1 (let h = limits.in_range.header_least in omega (arith, h)))
 
 two_percents : (limits : Limits) → progress_with limits (37 ∷ []) 37 ≡ after_headers []
-two_percents limits =
-    two_by (nat_lt limits.header 0) (nat_lt limits.input 3) (le-ltb limits.header 0 (omega arith)) (le-ltb limits.input 3 (let h = limits.in_range.input_least in omega (arith, h)))
+two_percents limits = grind (arith, two_by, le-ltb)
 
 after_two : (limits : Limits) (hasher : DefaultHasher) (x y : Char) → x.c ≡ 37 → y.c ≡ 37 → stage_past (fresh_stage limits hasher) (Ok x ∷ Ok y ∷ []) ≡ after_mark limits hasher
-after_two limits hasher x y one two =
-    ap (λ (p : HeadProgress). stage_at (stage_at (fresh_stage limits hasher) p) (progress_after limits p (Ok y))) (ap (λ (c : ℕ). progress_with limits [] c) one ∙ one_percent limits)
-    ∙ ap (λ (p : HeadProgress). stage_at (stage_at (fresh_stage limits hasher) (reading (37 ∷ []))) p) (ap (λ (c : ℕ). progress_with limits (37 ∷ []) c) two ∙ two_percents limits)
+after_two limits hasher x y one two = grind (arith, one_percent, two_percents)
 
 -- wherever its characters are said to stand
 pub mark_ends : (limits : Limits) (hasher : DefaultHasher) (xs : List Char) → text_in xs ≡ 37 ∷ 37 ∷ [] → stage_past (fresh_stage limits hasher) (inputs_of xs) ≡ after_mark limits hasher

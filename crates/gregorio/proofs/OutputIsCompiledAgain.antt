@@ -1,5 +1,5 @@
 -- An output whose headers are whole is compiled again as itself.
-use Rattle.std.proofs.Common.{◌≡◌, ◌≢◌, ℕ, ◌≤◌, ◌<◌, ◌^◌, List, [], ◌∷◌, ◌++◌, length, true, false, not, ◌||◌, Option, Some, None, is_some, IsSome, refl, sym, ap, subst, ◌∙◌, arith}
+use Rattle.std.proofs.Common.{◌≡◌, ◌≢◌, ℕ, ◌≤◌, ◌<◌, ◌^◌, List, [], ◌∷◌, length, true, false, ◌||◌, Option, Some, None, IsSome, refl, sym, ap, subst, ◌∙◌, arith}
 use Rattle.std.specs.Char.{IsScalar}
 use Rattle.std.specs.List.{All, list_any}
 use Rattle.std.proofs.lemmas.List.Elements.{All-head, All-tail}
@@ -18,11 +18,10 @@ use Rattle.gabc_score.specs.Holding.{HasWholeSnippets}
 use Rattle.gabc_score.specs.Score.{score_of}
 use Rattle.gabc_score.specs.Syllable.{PlacedSyllable}
 use Rattle.gabc_write.specs.CanonicalFile.{score_text}
-use Rattle.gabc_write.specs.DumpLines.{dump_heads, end_line}
 use Rattle.gabc_neumes.specs.InForce.{InForce, nothing_in_force}
 use Rattle.gabc_write.specs.DumpOfSyllables.{lines_of_syllables, dump_text}
 use Rattle.gabc_write.specs.FileAgain.{printed_file}
-use Rattle.gabc_write.specs.SyllableMeaning.{SyllableMeaning, meaning_of, AreSame}
+use Rattle.gabc_write.specs.SyllableMeaning.{AreSame}
 use Rattle.gabc_write.specs.PlainText.{IsText}
 use Rattle.gabc_write.specs.ScoreAgain.{IsScoreAgain}
 use Rattle.gregorio_jobs.specs.declared.job.Format.TheVariants.{Gabc, Dump}
@@ -36,12 +35,9 @@ use Rattle.gregorio.specs.Outcome.{is_whole, ending_by, is_cut_short, outcome_of
 abbrev IsWarning : Finding → Type 0
 IsWarning f = severity_of f.code ≡ Warning
 
-no_error : (f : Finding) → IsWarning f → is_error_finding f ≡ false
-no_error f h = ap is_error h
-
 no_errors : (fs : List Finding) → All IsWarning fs → list_any is_error_finding fs ≡ false
 no_errors [] h = refl
-no_errors (f ∷ fs) h = ap (λ b. b || list_any is_error_finding fs) (no_error f (All-head IsWarning f fs h)) ∙ no_errors fs (All-tail IsWarning f fs h)
+no_errors (f ∷ fs) h = ap (λ b. b || list_any is_error_finding fs) (ap is_error (All-head IsWarning f fs h)) ∙ no_errors fs (All-tail IsWarning f fs h)
 
 -- what is made of an input that ended, by its text
 abbrev pub made_of : Limits → Decoded → Outcome
@@ -53,19 +49,10 @@ made_of limits decoded =
 whole_status : (m : Outcome) → m.score.fault ≡ None → m.broken ≡ false → list_any is_error_finding m.score.findings ≡ false → status_of m ≡ Whole
 whole_status m f b e = ap (λ o. status_by o m.broken (list_any is_error_finding m.score.findings)) f ∙ ap (λ x. status_by None x (list_any is_error_finding m.score.findings)) b ∙ ap (λ x. status_by None false x) e
 
-not_cut_short : (limits : Limits) (decoded : Decoded) → (made_of limits decoded).broken ≡ false
-not_cut_short limits decoded = refl
-
 -- the dump of an outcome that is whole
 dump_is : (m : Outcome) (syllables : List PlacedSyllable) (book : List (List ℕ × List ℕ)) → m.score.fault ≡ None → m.broken ≡ false → m.score.book ≡ Some book
     → lines_of_syllables 1 nothing_in_force m.score.syllables ≡ lines_of_syllables 1 nothing_in_force syllables → AreSame m.score.syllables syllables → output_of Dump m ≡ dump_text true book syllables
-dump_is m syllables book f b h lines same =
-    let count : length m.score.syllables ≡ length syllables = sym (length-map m.score.syllables meaning_of) ∙ (ap (length {A = SyllableMeaning}) same ∙ length-map syllables meaning_of) in
-    let whole : is_read_whole m ≡ true = ap (λ o. not (is_some o || m.broken)) f ∙ ap (λ x. not (false || x)) b in
-    ap (λ x. output_by Dump x m.score.book m.score.syllables) whole
-    ∙ (ap (λ o. output_by Dump true o m.score.syllables) h
-    ∙ (ap (λ (t : List ℕ). dump_heads book ++ (t ++ end_line (length m.score.syllables))) lines
-    ∙ ap (λ n. dump_heads book ++ (lines_of_syllables 1 nothing_in_force syllables ++ end_line n)) count))
+dump_is m syllables book f b h lines same = grind (arith, length-map)
 
 module _ (plain : (limit : ℕ) (bytes : List ℕ) → All (λ c. (c ≢ 13) × (c ≢ 0xFEFF)) (text_of_bytes limit bytes)) (scalars : (limit : ℕ) (bytes : List ℕ) → All IsScalar (text_of_bytes limit bytes))
     (short : (limit : ℕ) (bytes : List ℕ) → length (encodes (text_of_bytes limit bytes)) ≤ limit)
@@ -89,17 +76,16 @@ module _ (plain : (limit : ℕ) (bytes : List ℕ) → All (λ c. (c ≢ 13) × 
       let output : output_of Gabc first ≡ score_text book first.score.syllables = ap (λ b. output_by Gabc (is_read_whole first) b first.score.syllables) h in
       let made : outcome_of larger Ended (output_of Gabc first) ≡ made_of larger (record { text = file; fault = None }) = ap (λ c. outcome_of larger Ended c) output ∙ ap (made_of larger) (s.decoded true) in
       let again = made_of larger (record { text = file; fault = None }) in
-      let fits = s.fits in
-      let file_small : length (encodes file) < 2 ^ 63 = omega (arith, ap (length {A = ℕ}) s.printed.bytes, fits, larger.in_range.input_most) in
+      let file_small : length (encodes file) < 2 ^ 63 = omega (arith, ap (length {A = ℕ}) s.printed.bytes, larger.in_range.input_most) in
       let how = ending_by ending (decoded_of limits (is_whole ending) bytes).fault in
       subst (IsOutcomeAgain first) (sym made) (record {
         fault = s.no_fault;
         errors = no_errors again.score.findings s.warnings;
-        status = whole_status again s.no_fault (not_cut_short larger (record { text = file; fault = None })) (no_errors again.score.findings s.warnings);
+        status = whole_status again s.no_fault refl (no_errors again.score.findings s.warnings);
         book = s.same.book_is ∙ sym h;
         syllables = s.same_meaning;
         output = ap (λ b. output_by Gabc (is_read_whole again) b again.score.syllables) s.same.book_is ∙ s.same_file ∙ sym output;
-        dump = λ other e. dump_is again first.score.syllables other s.no_fault (not_cut_short larger (record { text = file; fault = None })) (s.same.book_is ∙ sym h ∙ e)
+        dump = λ other e. dump_is again first.score.syllables other s.no_fault refl (s.same.book_is ∙ sym h ∙ e)
             (one_dump 1 nothing_in_force again.score.syllables first.score.syllables (between larger WholeInput file file_small) (between limits how text small) s.same_meaning) s.same_meaning;
       })
 

@@ -1,5 +1,5 @@
 -- The outputs of a stage are its events, with the syllables that it lends.
-use Rattle.std.proofs.Common.{◌≡◌, ℕ, zero, suc, List, [], ◌∷◌, ◌++◌, map, length, take, refl, sym, ap, ◌∙◌, append_assoc}
+use Rattle.std.proofs.Common.{◌≡◌, ℕ, suc, List, [], ◌∷◌, ◌++◌, map, length, take, refl, sym, ap, ◌∙◌, append_assoc, arith}
 use Rattle.gabc_places.specs.BoundedList.{BoundedList, extended_by}
 use Rattle.gabc_places.specs.StageLaw.{concat_of, EmitsNothing, StopsAtEnd}
 use Rattle.gabc_headers.specs.declared.head_event.HeadEvent.{HeadEvent}
@@ -14,17 +14,8 @@ use Rattle.gabc_score.specs.Syllable.{PlacedSyllable}
 use Rattle.gregorio.specs.machine.ScoreWriter.{outputs_of_events}
 use Rattle.gregorio.proofs.StreamsOfOutputs.{EndsAtLast, no_item}
 
-abbrev head_or : PlacedSyllable → List PlacedSyllable → PlacedSyllable
-head_or d [] = d
-head_or d (x ∷ xs) = x
-
-abbrev tail_of : List PlacedSyllable → List PlacedSyllable
-tail_of [] = []
-tail_of (x ∷ xs) = xs
-
 take_none : (n : ℕ) → take {A = PlacedSyllable} n [] ≡ []
-take_none zero = refl
-take_none (suc n) = refl
+take_none n = grind arith
 
 -- ---- the outputs
 
@@ -40,18 +31,14 @@ module _ (s : ScoreStageState) where
   emitted_second [] h = refl
   emitted_second (Found f ∷ outputs) h = ap (λ (l : List ScoreOutput). Found f ∷ l) (emitted_second outputs h)
   emitted_second (Stop fault ∷ outputs) h = ap (λ (l : List ScoreOutput). Stop fault ∷ l) (emitted_second outputs h)
-  emitted_second (Syllable x ∷ outputs) h =
-      ap (λ (y : PlacedSyllable). Syllable y ∷ outputs_of_events s (events_borrowed Second outputs)) (sym (ap (head_or x) h))
-      ∙ ap (λ (l : List ScoreOutput). Syllable x ∷ l) (emitted_none outputs (ap tail_of h ∙ take_none (length (syllables_in outputs))))
+  emitted_second (Syllable x ∷ outputs) h = grind (arith, emitted_none, take_none)
   emitted_second (End ∷ outputs) h = ap (λ (l : List ScoreOutput). End ∷ l) (emitted_second outputs h)
 
   pub emitted_is : (outputs : List ScoreOutput) → syllables_in outputs ≡ take (length (syllables_in outputs)) (s.first ∷ s.second ∷ []) → outputs_of_events s (events_of outputs) ≡ outputs
   emitted_is [] h = refl
   emitted_is (Found f ∷ outputs) h = ap (λ (l : List ScoreOutput). Found f ∷ l) (emitted_is outputs h)
   emitted_is (Stop fault ∷ outputs) h = ap (λ (l : List ScoreOutput). Stop fault ∷ l) (emitted_is outputs h)
-  emitted_is (Syllable x ∷ outputs) h =
-      ap (λ (y : PlacedSyllable). Syllable y ∷ outputs_of_events s (events_borrowed Second outputs)) (sym (ap (head_or x) h))
-      ∙ ap (λ (l : List ScoreOutput). Syllable x ∷ l) (emitted_second outputs (ap tail_of h))
+  emitted_is (Syllable x ∷ outputs) h = grind (arith, emitted_second)
   emitted_is (End ∷ outputs) h = ap (λ (l : List ScoreOutput). End ∷ l) (emitted_is outputs h)
 
 -- ---- how many
@@ -75,13 +62,9 @@ module _ {P : Type 0} (after : List HeadEvent → List (List ScoreEvent)) (old n
   pub ends_at_last : (lent : BorrowedSyllable) (before : List ScoreEvent) (outputs : List ScoreOutput) → new ≡ extended_by old (before ++ events_borrowed lent outputs) → EndsAtLast P outputs
   ends_at_last lent before [] e = tt
   ends_at_last lent before (Found f ∷ outputs) e = ends_at_last lent (before ++ event.Found f ∷ []) outputs (one_on before (event.Found f) (events_borrowed lent outputs) e)
-  ends_at_last lent before (Stop fault ∷ outputs) e =
-      let r = stops before (events_borrowed lent outputs) (event.Stop fault) e refl in
-      (none_emitted lent outputs r.0, score_is r.1)
+  ends_at_last lent before (Stop fault ∷ outputs) e = grind (arith, none_emitted)
   ends_at_last lent before (Syllable x ∷ outputs) e = ends_at_last Second (before ++ event.Syllable lent ∷ []) outputs (one_on before (event.Syllable lent) (events_borrowed Second outputs) e)
-  ends_at_last lent before (End ∷ outputs) e =
-      let r = stops before (events_borrowed lent outputs) event.End e refl in
-      (none_emitted lent outputs r.0, score_is r.1)
+  ends_at_last lent before (End ∷ outputs) e = grind (arith, none_emitted)
 
 nothing_emitted : (lists : List (List ScoreOutput)) → concat_of (map (λ outputs. events_of outputs) lists) ≡ [] → concat_of lists ≡ []
 nothing_emitted [] h = refl

@@ -1,5 +1,5 @@
 -- What an engine writes of pieces of an input, and sinks take.
-use Rattle.std.proofs.Common.{◌≡◌, ℕ, ◌+◌, ◌-◌, ◌<◌, ◌≤◌, List, [], ◌++◌, length, take, drop, take_all, take-add, take-append-drop, length-append, append-nil, length-drop, append_assoc, Option, Result, Ok, Err, ◌⊎◌, inl, inr, refl, sym, ap, ◌∙◌, subst, arith}
+use Rattle.std.proofs.Common.{◌≡◌, ℕ, ◌+◌, ◌-◌, ◌<◌, ◌≤◌, List, [], ◌++◌, length, take, drop, take_all, take-add, take-append-drop, length-append, append-nil, length-drop, append_assoc, Option, Result, ◌⊎◌, inl, inr, refl, sym, ap, ◌∙◌, subst, arith}
 use Rattle.std.proofs.Math.Seq.{take-append-add}
 use Rattle.std.proofs.lemmas.List.{take-append-le}
 use Rattle.std.proofs.KnownBytes.{Appends-nil, Appends-trans, Consumes-nil, Consumes-trans, Consumes-kept}
@@ -20,13 +20,11 @@ use Rattle.gregorio.specs.machine.Compile.{AreSent, AreCut, IsPromptAs, Knows, N
 
 -- what holds whatever is answered
 pub on_err_any : {A B C : Type 0} (r : Result A B) → C → OnErr r C
-on_err_any (Ok x) h = tt
-on_err_any (Err e) h = h
+on_err_any r h = grind arith
 
 -- one sink fails after what both took
 one_fails : (a b c d e f : Calls) → GoesOn a b → GoesOn d e → (FailsOnce b c × GoesOn e f) ⊎ (GoesOn b c × FailsOnce e f) → (FailsOnce a c × GoesOn d f) ⊎ (GoesOn a c × FailsOnce d f)
-one_fails a b c d e f h k (inl x) = inl (fails_after a b c h x.0, goes_on_after d e f k x.1)
-one_fails a b c d e f h k (inr x) = inr (goes_on_after a b c h x.0, fails_after d e f k x.1)
+one_fails a b c d e f h k g = grind (arith, fails_after, goes_on_after)
 
 -- where nothing waited these bytes were taken
 abbrev pub IsTaken : EngineState → EngineState → List ℕ → Type 0
@@ -47,16 +45,11 @@ nothing_waits_after f g h = subst NothingWaits (sym h) (record { output = refl; 
 
 -- after bytes of which this was written a point of the rest is a point
 is_point_after : (xs rest front : List ℕ) (ending at : SourceEnding) → IsPointOf rest ending front at → IsPointOf (xs ++ rest) ending (xs ++ front) at
-is_point_after xs rest front ending at (inl p) = inl (p.0, (ap (λ (l : List ℕ). xs ++ l) p.1.0 ∙ sym (append_assoc xs front p.0), p.1.1))
-is_point_after xs rest front ending at (inr p) = inr (ap (λ (l : List ℕ). xs ++ l) p.0, p.1)
+is_point_after xs rest front ending at h = grind (arith, append_assoc)
 
 -- a point before the end is one of more bytes, whatever ends them
 pub knows_longer : (e : EngineState) (xs rest : List ℕ) (ending : SourceEnding) (o l : List ℕ) → Knows e xs Broken o l → Knows e (xs ++ rest) ending o l
-knows_longer e xs rest ending o l k = record { front = k.front; at = k.at; is_point = by k.is_point; left = k.left; known = k.known; prompt = k.prompt }
-  where
-    by : IsPointOf xs Broken k.front k.at → IsPointOf (xs ++ rest) ending k.front k.at
-    by (inl p) = inl (p.0 ++ rest, (ap (λ (x : List ℕ). x ++ rest) p.1.0 ∙ append_assoc k.front p.0 rest, p.1.1))
-    by (inr p) = inl (rest, (ap (λ (x : List ℕ). x ++ rest) (sym p.0), p.1))
+knows_longer e xs rest ending o l k = grind (arith, append_assoc)
 
 -- after bytes of which this was written the same holds of what is known of the rest
 pub knows_after : (e f : EngineState) (xs rest : List ℕ) (ending : SourceEnding) (output lines : List ℕ) → f.written.format ≡ e.written.format
@@ -84,9 +77,8 @@ knows_here e f xs output lines p law = record {
 }
 
 -- both points of a sending are known
-none_or_all : (e : EngineState) (piece : List ℕ) (ending : SourceEnding) (xs ls : List ℕ) → Knows e piece ending [] [] → Knows e piece ending xs ls → (o l : List ℕ) → NoneOrAll xs ls o l → Knows e piece ending o l
-none_or_all e piece ending xs ls none all o l (inl p) = subst (λ (x : List ℕ). Knows e piece ending x l) (sym p.0) (subst (λ (x : List ℕ). Knows e piece ending [] x) (sym p.1) none)
-none_or_all e piece ending xs ls none all o l (inr p) = subst (λ (x : List ℕ). Knows e piece ending x l) (sym p.0) (subst (λ (x : List ℕ). Knows e piece ending xs x) (sym p.1) all)
+pub none_or_all : (e : EngineState) (piece : List ℕ) (ending : SourceEnding) (xs ls : List ℕ) → Knows e piece ending [] [] → Knows e piece ending xs ls → (o l : List ℕ) → NoneOrAll xs ls o l → Knows e piece ending o l
+none_or_all e piece ending xs ls none all o l h = grind arith
 
 pub prompt_on : (e f g : EngineState) → IsPromptAs e f → IsPromptAs f g → IsPromptAs e g
 prompt_on e f g p q = record { format = q.format ∙ p.format; prompt = subst (λ (x : Format). IsPrompt x (streams_left g Broken [])) p.format q.prompt }
@@ -94,12 +86,7 @@ prompt_on e f g p q = record { format = q.format ∙ p.format; prompt = subst (�
 module _ {A B : Type 0} (wrote : A → Option (List ℕ)) (went : A → Calls) (emitted : B → Option (List ℕ)) (went_too : B → Calls) where
   pub sent_on : (o p q : A) (m n r : B) (xs ls ys ks : List ℕ) → AreSent (used wrote went o p) (used emitted went_too m n) xs ls → AreSent (used wrote went p q) (used emitted went_too n r) ys ks
       → AreSent (used wrote went o q) (used emitted went_too m r) (xs ++ ys) (ls ++ ks)
-  sent_on o p q m n r xs ls ys ks s t = record {
-    written = Appends-trans (wrote o) (wrote p) (wrote q) xs ys s.written t.written;
-    messages_written = Appends-trans (emitted m) (emitted n) (emitted r) ls ks s.messages_written t.messages_written;
-    goes_on = goes_on_after (went o) (went p) (went q) s.goes_on t.goes_on;
-    messages_go_on = goes_on_after (went_too m) (went_too n) (went_too r) s.messages_go_on t.messages_go_on;
-  }
+  sent_on o p q m n r xs ls ys ks s t = grind (arith, Appends-trans, goes_on_after)
 
   -- a point of what follows is one after what was sent
   pub cut_after : (P Q : List ℕ → List ℕ → Type 0) (o p q : A) (m n r : B) (xs ls ys ks : List ℕ) → ((x l : List ℕ) → P x l → Q (xs ++ x) (ls ++ l))
@@ -124,30 +111,12 @@ module _ {A B : Type 0} (wrote : A → Option (List ℕ)) (went : A → Calls) (
 
   pub cut_longer : (P Q : List ℕ → List ℕ → Type 0) (o p : A) (m n : B) (xs ls ys ks : List ℕ) → ((x l : List ℕ) → P x l → Q x l) → AreCut P (used wrote went o p) (used emitted went_too m n) xs ls
       → AreCut Q (used wrote went o p) (used emitted went_too m n) (xs ++ ys) (ls ++ ks)
-  cut_longer P Q o p m n xs ls ys ks point c = record {
-    output_count = c.output_count;
-    lines_count = c.lines_count;
-    output_within = omega (arith, c.output_within, length-append xs ys);
-    lines_within = omega (arith, c.lines_within, length-append ls ks);
-    written = subst (Appends (wrote o) (wrote p)) (sym (take-append-le c.output_count xs ys c.output_within)) c.written;
-    messages_written = subst (Appends (emitted m) (emitted n)) (sym (take-append-le c.lines_count ls ks c.lines_within)) c.messages_written;
-    fails = c.fails;
-    order = record { output = c.order.output; lines = c.order.lines; is_point = point _ _ c.order.is_point; output_first = c.order.output_first; lines_then = c.order.lines_then };
-  }
+  cut_longer P Q o p m n xs ls ys ks point c = grind (arith, length-append, take-append-le)
 
   -- the output was sent, and the messages were cut
   pub cut_after_output : (o p : A) (m n : B) (xs ls : List ℕ) (count : ℕ) → count < length ls → Appends (wrote o) (wrote p) xs → Appends (emitted m) (emitted n) (take count ls) → GoesOn (went o) (went p) → FailsOnce (went_too m) (went_too n)
       → AreCut (NoneOrAll xs ls) (used wrote went o p) (used emitted went_too m n) xs ls
-  cut_after_output o p m n xs ls count less w t g f = record {
-    output_count = length xs;
-    lines_count = count;
-    output_within = omega arith;
-    lines_within = omega (arith, less);
-    order = record { output = xs; lines = ls; is_point = inr (refl, refl); output_first = omega arith; lines_then = omega (arith, less) };
-    written = subst (Appends (wrote o) (wrote p)) (sym (take_all (length xs) xs (omega arith))) w;
-    messages_written = t;
-    fails = inr (g, f);
-  }
+  cut_after_output o p m n xs ls count less w t g f = grind (arith, take_all)
 
   -- the output was cut, and no message was sent
   pub cut_in_output : (o p : A) (m : B) (xs ls : List ℕ) (count : ℕ) → count < length xs → Appends (wrote o) (wrote p) (take count xs) → FailsOnce (went o) (went p) → AreCut (NoneOrAll xs ls) (used wrote went o p) (used emitted went_too m m) xs ls
@@ -183,25 +152,14 @@ module _ {A B : Type 0} (wrote : A → Option (List ℕ)) (went : A → Calls) (
 
   pub cut_by : (o p q : A) (m n r : B) (e f : EngineState) (xs rest : List ℕ) (ending : SourceEnding) → IsFed (used wrote went o p) (used emitted went_too m n) e f xs
       → StreamsAreCut (used wrote went p q) (used emitted went_too n r) f ending rest → StreamsAreCut (used wrote went o q) (used emitted went_too m r) e ending (xs ++ rest)
-  cut_by o p q m n r e f xs rest ending a c =
-      let s = streams_left f ending rest in
-      subst (λ (y : Streams). AreCut (Knows e (xs ++ rest) ending) (used wrote went o q) (used emitted went_too m r) y.output y.messages) (sym (a.law rest ending))
-      (cut_after (Knows f rest ending) (Knows e (xs ++ rest) ending) o p q m n r a.output a.lines s.output s.messages (knows_after e f xs rest ending a.output a.lines a.prompt.format a.law) a.sent c)
+  cut_by o p q m n r e f xs rest ending a c = grind (arith, cut_after, knows_after)
 
   -- what a front of the rest of a piece brings is sent
   pub front_is_sent : (o p q : A) (m n r : B) (e f g h : EngineState) (piece rest : List ℕ) (count k : ℕ) → rest ≡ drop count piece
       → IsFed (used wrote went o p) (used emitted went_too m n) e f (take count piece) → NothingWaits f → TakesFront f rest k g
       → AreSent (used wrote went p q) (used emitted went_too n r) g.output g.messages → h ≡ record g { output = []; messages = [] }
       → IsFed (used wrote went o q) (used emitted went_too m r) e h (take (count + k) piece)
-  front_is_sent o p q m n r e f g h piece rest count k is a waits takes sent forgets =
-      subst (IsFed (used wrote went o q) (used emitted went_too m r) e h) (sym (take-add count k piece ∙ ap (λ (xs : List ℕ). take count piece ++ take k xs) (sym is)))
-      (fed_on o p q m n r e f h (take count piece) (take k rest) a (subst (λ (x : EngineState). IsFed (used wrote went p q) (used emitted went_too n r) f x (take k rest)) (sym forgets) (record {
-        output = g.output;
-        lines = g.messages;
-        sent = sent;
-        prompt = record { format = takes.format; prompt = subst (λ (x : Format). IsPrompt x (streams_left g Broken [])) takes.format takes.prompt };
-        law = taken_from f g rest k waits takes;
-      })))
+  front_is_sent o p q m n r e f g h piece rest count k is a waits takes sent forgets = grind (arith, take-add, fed_on, taken_from)
 
   -- a sink failed at what such a front brings
   pub front_is_cut : (o p q : A) (m n r : B) (e f g : EngineState) (piece rest : List ℕ) (count k : ℕ) (ending : SourceEnding) → rest ≡ drop count piece
@@ -256,19 +214,4 @@ module _ {A B : Type 0} (wrote : A → Option (List ℕ)) (went : A → Calls) (
 
     pub all_broken : (limit : ℕ) (s t u : C) (o p : A) (m n : B) (e f : EngineState) (count : ℕ) → IsFedFrom (used left reads_went s t) (used wrote went o p) (used emitted went_too m n) e f count
         → Keeps (left t) (left u) → FailsOnce (reads_went t) (reads_went u) → (reads_went u).made ≡ (reads_went t).made + 1 → count ≤ limit + 1 → IsFedAll limit (used left reads_went s u) (used wrote went o p) (used emitted went_too m n) e f Broken
-    all_broken limit s t u o p m n e f count a k fails once within =
-        let all : FailsOnce (reads_went s) (reads_went u) = fails_after (reads_went s) (reads_went t) (reads_went u) a.goes_on fails in
-        record {
-          bytes = a.bytes;
-          reads = record {
-            consumed = Consumes-kept (left s) (left t) (left u) a.bytes a.consumed k;
-            reads = omega (arith, a.reads, a.counted, once);
-            within = omega (arith, a.counted, within);
-            whole = λ no. cc;
-            stopped = λ no. cc;
-            broken = λ _. omega (arith, all.failures);
-            steady = λ no. cc;
-          };
-          in_time = all.none_late;
-          fed = a.fed;
-        }
+    all_broken limit s t u o p m n e f count a k fails once within = grind (arith, fails_after, Consumes-kept)

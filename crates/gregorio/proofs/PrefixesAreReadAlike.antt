@@ -14,14 +14,11 @@ use Rattle.gabc_score.specs.Score.{score_of}
 use Rattle.gabc_score.specs.SyllablesOfUnits.{body_characters, whole_prefix, IsBodyCut, AreBeforeBodyStop}
 use Rattle.gabc_score.specs.Syllable.{PlacedSyllable}
 use Rattle.gabc_score.specs.Units.{BodyCutting, IsCut}
-use Rattle.gabc_write.specs.CanonicalFile.{score_text}
-use Rattle.gabc_write.specs.DumpLines.{dump_heads, end_line}
-use Rattle.gabc_neumes.specs.InForce.{nothing_in_force}
-use Rattle.gabc_write.specs.DumpOfSyllables.{dump_text, lines_of_syllables}
+use Rattle.gabc_write.specs.DumpLines.{end_line}
 use Rattle.gregorio_jobs.specs.declared.job.Format.TheVariants.{Gabc, Dump}
 use Rattle.gregorio.specs.declared.outcome.Outcome.{Outcome}
 use Rattle.gregorio.specs.declared.source_ending.SourceEnding.{SourceEnding}
-use Rattle.gregorio.specs.declared.source_ending.SourceEnding.TheVariants.{Whole as Ended, Broken}
+use Rattle.gregorio.specs.declared.source_ending.SourceEnding.TheVariants.{Whole as Ended}
 use Rattle.gregorio.specs.PrefixOfAStop.{IsPrefixBeforeStop, IsOutcomeOfPrefix}
 use Rattle.gregorio.specs.Outcome.{ending_by, is_cut_short, is_read_whole, is_whole, outcome_of, output_by}
 use Rattle.gregorio.proofs.OutputIsCompiledAgain.{made_of}
@@ -29,32 +26,17 @@ use Rattle.gregorio.proofs.OutputIsCompiledAgain.{made_of}
 -- ---- a stopped run
 
 whole_where_ended : (ending : SourceEnding) (decoded fault : Option Fault) → ending_by ending decoded ≡ WholeInput → fault ≡ None → not (is_some fault || is_cut_short ending fault) ≡ true
-whole_where_ended Ended decoded fault e none = ap (λ (o : Option Fault). not (is_some o || is_cut_short Ended o)) none
-whole_where_ended Broken (Some other) fault e none = absurd (cc e)
-whole_where_ended Broken None fault e none = absurd (cc e)
+whole_where_ended ending decoded fault e none = grind arith
 
 -- ---- what is written
 
 canonical_alike : (a b : Bool) (one other : Option (List (List ℕ × List ℕ))) (ss ts : List PlacedSyllable) (book : List (List ℕ × List ℕ)) → one ≡ Some book → other ≡ Some book → ss ≡ ts
     → output_by Gabc a one ss ≡ output_by Gabc b other ts
-canonical_alike a b one other ss ts book h k same =
-    ap (λ (o : Option (List (List ℕ × List ℕ))). output_by Gabc a o ss) h
-    ∙ (ap (λ (l : List PlacedSyllable). score_text book l) same
-    ∙ sym (ap (λ (o : Option (List (List ℕ × List ℕ))). output_by Gabc b o ts) k))
+canonical_alike a b one other ss ts book h k same = grind arith
 
 dump_alike : (a b : Bool) (one other : Option (List (List ℕ × List ℕ))) (ss ts : List PlacedSyllable) (book : List (List ℕ × List ℕ)) → a ≡ true → b ≡ false → one ≡ Some book → other ≡ Some book → ss ≡ ts
     → output_by Dump a one ss ≡ output_by Dump b other ts ++ end_line (length ts)
-dump_alike a b one other ss ts book whole stopped h k same =
-    let last = end_line (length ts) in
-    let lines = lines_of_syllables 1 nothing_in_force ts in
-    let cut : output_by Dump b other ts ≡ dump_heads book ++ lines =
-    ap (λ (o : Option (List (List ℕ × List ℕ))). output_by Dump b o ts) k
-    ∙ (ap (λ (x : Bool). dump_text x book ts) stopped ∙ ap (λ (l : List ℕ). dump_heads book ++ l) (append-nil lines)) in
-    ap (λ (o : Option (List (List ℕ × List ℕ))). output_by Dump a o ss) h
-    ∙ (ap (λ (x : Bool). dump_text x book ss) whole
-    ∙ (ap (λ (l : List PlacedSyllable). dump_text true book l) same
-    ∙ (sym (append_assoc (dump_heads book) lines last)
-    ∙ ap (λ (l : List ℕ). l ++ last) (sym cut))))
+dump_alike a b one other ss ts book whole stopped h k same = grind (arith, stopped, append-nil, append_assoc)
 
 module _ (prefixes : (limits : Limits) (ended whole : Bool) (bytes : List ℕ) (n : ℕ) → (count : ℕ) × (decoded_of limits whole (take count bytes) ≡ record { text = take n (decoded_of limits ended bytes).text; fault = None }))
     (short : (limit : ℕ) (bytes : List ℕ) → length (encodes (text_of_bytes limit bytes)) ≤ limit)
@@ -76,9 +58,7 @@ module _ (prefixes : (limits : Limits) (ended whole : Bool) (bytes : List ℕ) (
   how = ending_by ending (decoded_of limits (is_whole ending) bytes).fault
 
   stopped : is_read_whole first ≡ false → ¬ ((how ≡ WholeInput) × (first.score.fault ≡ None))
-  stopped h = λ ended.
-      let whole = whole_where_ended ending (decoded_of limits (is_whole ending) bytes).fault first.score.fault ended.0 ended.1 in
-      absurd (cc (sym h ∙ whole))
+  stopped h = grind (arith, whole_where_ended)
 
   pub has_front : (book : List (List ℕ × List ℕ)) → is_read_whole first ≡ false → first.score.book ≡ Some book → (count : ℕ) × IsPrefixBeforeStop limits ending bytes book count
   has_front book cut_short h =

@@ -1,5 +1,5 @@
 -- Of what an engine saves no fault reports but the want of memory.
-use Rattle.std.proofs.Common.{◌≡◌, ℕ, ◌++◌, List, drop, length, take, Result, Err, refl, ap, subst, ◌∙◌}
+use Rattle.std.proofs.Common.{◌≡◌, ℕ, ◌++◌, List, drop, length, take, Result, Err, ap, subst, ◌∙◌, arith}
 use Rattle.std.proofs.Math.Seq.{take-append_seam}
 use Rattle.gabc_places.specs.declared.limits.Limits.{Limits}
 use Rattle.gregorio_jobs.specs.declared.job.Job.{Job}
@@ -20,6 +20,4 @@ module _ (job : Job) (limits : Limits) (s : StateFields) (bytes : List ℕ) (sav
   not_another a = a.other (subst (IsOfJob job limits) (once s a.s is.fields a.fields.fields saved a.is) of)
 
   pub memory : {A : Type 0} (fault : StateFault) → (◌≡◌ {A = Result A StateFault} (Err fault) (Err K1) → IsState bytes → ⊥) → (◌≡◌ {A = Result A StateFault} (Err fault) (Err K2) → IsOfAnother job limits bytes) → fault ≡ K0
-  memory K0 none other = refl
-  memory K1 none other = absurd (none refl (record { s = s; is = saved; fields = is }))
-  memory K2 none other = absurd (not_another (other refl))
+  memory fault none other = grind (arith, not_another)

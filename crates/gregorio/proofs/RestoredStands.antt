@@ -1,5 +1,5 @@
 -- The parts that are made from the fields of a state stand together as those of an engine that runs.
-use Rattle.std.proofs.Common.{◌≡◌, ℕ, ◌+◌, ◌*◌, ◌-◌, ◌≤◌, List, [], ◌∷◌, Bool, true, false, Option, Some, None, is_none, inl, refl, ap, sym, subst, ◌∙◌, arith}
+use Rattle.std.proofs.Common.{◌≡◌, ℕ, ◌+◌, ◌-◌, ◌≤◌, List, [], ◌∷◌, Bool, true, false, Option, None, inl, refl, ap, sym, subst, ◌∙◌, arith}
 use Rattle.std.proofs.lemmas.Bool.{and_parts, false≢true}
 use Rattle.std.proofs.lemmas.List.Elements.{All-cons, All-head, All-nil, All-tail}
 use Rattle.std.proofs.lemmas.Str.{encodes-chars, scalars-chars}
@@ -20,13 +20,11 @@ use Rattle.gabc_score.specs.Syllable.{UnplacedSyllable}
 use Rattle.gabc_score.specs.ScoreReports.{IsAt, held_of}
 use Rattle.gabc_score.specs.declared.score_machine.ScorePart.TheVariants as score_part
 use Rattle.gabc_score.specs.witness.ScoreStage.{ScoreStageState}
-use Rattle.gregorio_jobs.specs.declared.job.Format.{Format}
 use Rattle.gregorio_jobs.specs.declared.job.Job.{Job}
 use Rattle.gregorio_state.specs.Conditions.{AreHeaderFields, ArePhaseFields, AreScoreFields, AreStateFields}
 use Rattle.gregorio_state.specs.Fields.{PhaseFields, ScoreFields, StateFields, InHeaders, InScore}
-use Rattle.gregorio.specs.Saved.{GivesHeaders, held_count, phase_fields, score_fields}
+use Rattle.gregorio.specs.Saved.{GivesHeaders, held_count, phase_fields}
 use Rattle.gregorio.specs.SavedState.{IsOfJob}
-use Rattle.gregorio.specs.declared.run_ending.RunEnding.{RunEnding}
 use Rattle.gregorio.specs.Outcome.{input_name}
 use Rattle.gregorio.specs.witness.Engine.{EngineState, Written}
 use Rattle.gregorio.specs.machine.Engine.{IsEngine}
@@ -34,7 +32,6 @@ use Rattle.gregorio.specs.machine.HeldHeaders.{after_mark}
 use Rattle.gregorio.specs.machine.InStep.{AreInOnePart, HasForce}
 use Rattle.gregorio.specs.machine.Restored.{GoesOn, HasEmptyRooms, StandIn, StandSo, written_by}
 use Rattle.gregorio.specs.machine.Restoring.{IsSetDown}
-use Rattle.gregorio.specs.machine.RunWriter.{line_room, most_waiting, out_room}
 use Rattle.gregorio.specs.machine.ScoreWriter.{IsReserved, ScoreWriterState}
 use Rattle.gregorio.proofs.pieces.HeadersAreRead.{no_heads_are_short}
 
@@ -53,8 +50,7 @@ text_characters bytes is = characters (chars bytes) (scalars-chars bytes is.utf8
 -- ---- the syllables before the one that is held
 
 before_by : (o : Option UnplacedSyllable) (before all : ℕ) → (o ≡ None → before ≡ 0) → before + held_count o ≡ all → all - 1 ≡ before
-before_by None before all none is = let z = none refl in omega (arith, z, is)
-before_by (Some m) before all none is = omega (arith, is)
+before_by o before all none is = grind arith
 
 pub before_is : (s : StateFields) (f : ScoreFields) (score : ScoreStageState) → IsSetDown s f score → f.syllables - 1 ≡ score.before.syllables
 before_is s f score d = before_by (held_of score) score.before.syllables f.syllables (d.holds d.body) (ap (λ (g : ScoreFields). g.syllables) d.tells)
@@ -63,11 +59,7 @@ before_is s f score d = before_by (held_of score) score.before.syllables f.sylla
 
 module _ (job : Job) (s : StateFields) (limits : Limits) (is_job : IsOfJob job limits s) where
   force_by : (phase : PhaseFields) → ArePhaseFields s phase → HasForce (written_by job s phase)
-  force_by (InHeaders text) fields = record { untracked = λ gabc. refl; outset = λ none. refl }
-  force_by (InScore f) fields = record {
-    untracked = λ gabc. fields.before.untracked (is_job.format ∙ gabc);
-    outset = λ none. (fields.before.outset (omega (arith, none))).in_force;
-  }
+  force_by phase fields = grind arith
 
 -- ---- the engine
 
@@ -78,11 +70,7 @@ module _ (job : Job) (s : StateFields) (limits : Limits) (is_job : IsOfJob job l
 
   module _ (cr : is_after_cr decoder ≡ s.after_cr) where
     reserved : IsReserved w
-    reserved =
-        record {
-          out = subst (λ (l : Limits). out_room w.writer.written.format l + most_waiting l ≤ w.writer.out.limit) (sym limits_are) rooms.out;
-          messages = subst (λ (l : Limits). 128 * line_room w.writer.written.name + most_waiting l ≤ w.writer.messages.limit) (sym limits_are) rooms.messages;
-        }
+    reserved = grind arith
 
     input_is : s.input_limit ≡ w.score.limits.input
     input_is = is_job.limits_are.input ∙ ap (λ (l : Limits). l.input) (sym limits_are)
@@ -184,62 +172,14 @@ module _ (job : Job) (s : StateFields) (limits : Limits) (is_job : IsOfJob job l
 
 -- ---- what it reports
 
-abbrev fields_made : Format → Bool → ℕ → ℕ → ℕ → ℕ → Place → List ℕ → Bool → Bool → PhaseFields → StateFields
-fields_made format warnings header syllable input taken place pending cr error phase = record {
-  format = format;
-  all_warnings = warnings;
-  header_limit = header;
-  syllable_limit = syllable;
-  input_limit = input;
-  taken = taken;
-  place = place;
-  pending = pending;
-  after_cr = cr;
-  has_error = error;
-  phase = phase;
-}
-
--- fields that are the same, one by one
-same : (s : StateFields) (format : Format) (warnings : Bool) (header syllable input taken : ℕ) (place : Place) (pending : List ℕ) (cr error : Bool) (phase : PhaseFields) → format ≡ s.format
-    → warnings ≡ s.all_warnings → header ≡ s.header_limit → syllable ≡ s.syllable_limit → input ≡ s.input_limit → taken ≡ s.taken → place ≡ s.place → pending ≡ s.pending → cr ≡ s.after_cr
-    → error ≡ s.has_error → phase ≡ s.phase → fields_made format warnings header syllable input taken place pending cr error phase ≡ s
-same s format warnings header syllable input taken place pending cr error phase e1 e2 e3 e4 e5 e6 e7 e8 e9 e10 e11 =
-    let all : fields_made format warnings header syllable input taken place pending cr error phase
-    ≡ fields_made s.format s.all_warnings s.header_limit s.syllable_limit s.input_limit s.taken s.place s.pending s.after_cr s.has_error s.phase = cc in
-    all
-
 module _ (job : Job) (s : StateFields) (limits : Limits) (is_job : IsOfJob job limits s) (fields : AreStateFields s) (e : EngineState) (is_d : e.decoder ≡ resumed s.input_limit s.taken s.place s.pending s.after_cr)
     (cr : is_after_cr e.decoder ≡ s.after_cr) (limits_are : e.score.limits ≡ limits) (output : e.output ≡ []) (messages : e.messages ≡ []) where
   goes : (format : e.written.format ≡ job.format) → e.written.all_warnings ≡ job.all_warnings → e.written.errors ≡ s.has_error → e.written.name ≡ input_name job.input → e.written.ended ≡ None
       → phase_fields e.heads.progress e.written.force e.score ≡ s.phase → GoesOn job limits s e.heads.hasher e
-  goes format warnings errors name ended phase = record {
-    state = same s e.written.format e.written.all_warnings e.score.limits.header e.score.limits.syllable e.score.limits.input e.decoder.taken e.decoder.place e.decoder.pending
-        (is_after_cr e.decoder) e.written.errors (phase_fields e.heads.progress e.written.force e.score)
-        (format ∙ sym is_job.format)
-        (warnings ∙ sym is_job.all_warnings)
-        (ap (λ (l : Limits). l.header) limits_are ∙ sym is_job.limits_are.header)
-        (ap (λ (l : Limits). l.syllable) limits_are ∙ sym is_job.limits_are.syllable)
-        (ap (λ (l : Limits). l.input) limits_are ∙ sym is_job.limits_are.input)
-        (ap (λ (d : DecoderState). d.taken) is_d)
-        (ap (λ (d : DecoderState). d.place) is_d)
-        (ap (λ (d : DecoderState). d.pending) is_d)
-        cr
-        errors
-        phase;
-    job_is = record { limits_are = limits_are; format = format; name = name; all_warnings = warnings };
-    running = ap (λ (o : Option RunEnding). is_none o) ended;
-    waits = record { output = output; messages = messages };
-    hasher_is = refl;
-  }
+  goes format warnings errors name ended phase = grind arith
 
   goes_by : (phase : PhaseFields) → phase ≡ s.phase → ArePhaseFields s phase → StandIn s phase limits e.heads e.score → e.written ≡ written_by job s phase → GoesOn job limits s e.heads.hasher e
-  goes_by (InHeaders text) is are stand is_w =
-      goes (ap (λ (v : Written). v.format) is_w) (ap (λ (v : Written). v.all_warnings) is_w) (ap (λ (v : Written). v.errors) is_w) (ap (λ (v : Written). v.name) is_w) (ap (λ (v : Written). v.ended) is_w)
-      (ap (λ (h : HeaderStageState). phase_fields h.progress e.written.force e.score) stand.heads ∙ (ap (λ (bytes : List ℕ). InHeaders bytes) (encodes-chars text are.is_text.utf8) ∙ is))
-  goes_by (InScore f) is are stand is_w =
-      goes (ap (λ (v : Written). v.format) is_w) (ap (λ (v : Written). v.all_warnings) is_w) (ap (λ (v : Written). v.errors) is_w) (ap (λ (v : Written). v.name) is_w) (ap (λ (v : Written). v.ended) is_w)
-      (ap (λ (h : HeaderStageState). phase_fields h.progress e.written.force e.score) stand.heads
-      ∙ (ap (λ (v : Written). InScore (score_fields v.force e.score)) is_w ∙ (ap (λ (g : ScoreFields). InScore g) stand.set_down.tells ∙ is)))
+  goes_by phase is are stand is_w = grind (arith, goes, encodes-chars)
 
   pub goes_on : StandSo s limits e.heads e.score → e.written ≡ written_by job s s.phase → GoesOn job limits s e.heads.hasher e
   goes_on so is_w = goes_by s.phase refl fields.phase so.stand is_w

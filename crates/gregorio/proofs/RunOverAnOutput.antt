@@ -1,5 +1,5 @@
 -- A run over an output reads all of it, and writes it again.
-use Rattle.std.proofs.Common.{◌≡◌, ℕ, ◌+◌, ◌≤◌, List, ◌++◌, length, length-append, Option, Some, None, IsSome, refl, sym, ap, subst, ◌∙◌, append-nil, arith}
+use Rattle.std.proofs.Common.{◌≡◌, ℕ, ◌≤◌, List, length, length-append, Option, Some, IsSome, ap, subst, ◌∙◌, append-nil, arith}
 use Rattle.std.specs.Io.KnownBytes.{Appends, Consumes, IsAtEnd}
 use Rattle.gabc_places.specs.Calls.{Calls}
 use Rattle.gabc_places.specs.declared.limits.Limits.{Limits}
@@ -9,7 +9,7 @@ use Rattle.gregorio_jobs.specs.declared.job.Job.{Job}
 use Rattle.gregorio_jobs.specs.declared.job.Status.{Status}
 use Rattle.gregorio_jobs.specs.declared.job.Status.TheVariants.{Whole}
 use Rattle.gregorio.specs.declared.source_ending.SourceEnding.{SourceEnding}
-use Rattle.gregorio.specs.declared.source_ending.SourceEnding.TheVariants.{Whole as Ended, Broken}
+use Rattle.gregorio.specs.declared.source_ending.SourceEnding.TheVariants.{Whole as Ended}
 use Rattle.gregorio.specs.CanonicalAgain.{IsOutcomeAgain}
 use Rattle.gregorio.specs.Outcome.{outcome_of, output_of, status_of}
 use Rattle.gregorio.specs.Run.{Use, Done}
@@ -17,17 +17,11 @@ use Rattle.gregorio.specs.SourceBytes.{ReadsSource}
 
 -- bytes that are consumed to the end are all of them
 all_read : (bytes rest : List ℕ) (new : Option (List ℕ)) → Consumes (Some bytes) new rest → (length rest ≤ length bytes) × (IsAtEnd new → rest ≡ bytes)
-all_read bytes rest None h = absurd h
-all_read bytes rest (Some left) h =
-    let size : length bytes ≡ length rest + length left = ap length h ∙ length-append rest left in
-    (omega arith, λ none. sym (append-nil rest) ∙ ap (λ ys. rest ++ ys) (sym none) ∙ sym h)
+all_read bytes rest new h = grind (arith, length-append, append-nil)
 
 source_read : (limits : Limits) (bytes rest : List ℕ) (how : SourceEnding) (new : Option (List ℕ)) (calls_old calls_new : Calls) → length bytes ≤ limits.input → calls_new.failures ≡ calls_old.failures
     → ReadsSource (Some bytes) new calls_old calls_new limits.input rest how → (how ≡ Ended) × (rest ≡ bytes)
-source_read limits bytes rest Broken new calls_old calls_new short none r = absurd (omega (arith, r.broken refl, none))
-source_read limits bytes rest Ended new calls_old calls_new short none r =
-    let a = all_read bytes rest new r.consumed in
-    (refl, a.1 (r.whole refl (omega (arith, a.0))))
+source_read limits bytes rest how new calls_old calls_new short none r = grind (arith, all_read)
 
 module _ (again : (limits larger : Limits) (ending : SourceEnding) (bytes : List ℕ) → (let first = outcome_of limits ending bytes in AreNoLess limits larger → IsSome first.score.book → IsOutcomeAgain first (outcome_of larger Ended (output_of Gabc first))))
     (short : (limits : Limits) (ending : SourceEnding) (bytes : List ℕ) → length (output_of Gabc (outcome_of limits ending bytes)) ≤ limits.input) where

@@ -1,5 +1,5 @@
 -- How a run ends.
-use Rattle.std.proofs.Common.{◌≡◌, ℕ, ◌<◌, ◌≤◌, List, [], ◌++◌, length, append-nil, Bool, true, false, Option, None, ◌⊎◌, inl, inr, arith, refl, sym, ap, ◌∙◌, subst}
+use Rattle.std.proofs.Common.{◌≡◌, ℕ, ◌<◌, ◌≤◌, List, [], ◌++◌, length, append-nil, Bool, false, Option, ◌⊎◌, inl, inr, arith, refl, sym, ap, ◌∙◌, subst}
 use Rattle.std.specs.Io.KnownBytes.{Appends}
 use Rattle.std.specs.List.{list_any}
 use Rattle.gabc_places.specs.Calls.{Calls, NoneLate, GoesOn, FailsOnce}
@@ -25,11 +25,10 @@ use Rattle.gregorio.specs.SourceBytes.{ReadsSource}
 use Rattle.gregorio.specs.Outcome.{is_whole, ending_by, is_cut_short, outcome_of, status_by, status_of, is_error_finding}
 use Rattle.gregorio.specs.machine.Compile.{AreSent, AreCut, IsPromptAs, Knows, NoneOrAll, StreamsAreCut, IsFedAll, IsFedInPart, IsRun, SaysOutcomes}
 use Rattle.gregorio.proofs.pieces.BytesAreJoined.{with_both_after}
-use Rattle.gregorio.proofs.PiecesAreSent.{sent_on, cut_by, cut_longer}
+use Rattle.gregorio.proofs.PiecesAreSent.{sent_on, cut_by, cut_longer, none_or_all}
 
 done_by : (job : Job) (limits : Limits) (source out messages : Use) (o : Option Fault) (b e : Bool) → Done job limits source out messages (status_by o b e) → Compiles job limits source out messages (status_by o b e)
-done_by job limits source out messages None false true d = d
-done_by job limits source out messages _ _ _ d = d
+done_by job limits source out messages o b e d = grind arith
 
 -- what is made of an input, part by part
 pub outcome_by_parts : (limits : Limits) (ending : SourceEnding) (bytes : List ℕ) (ended : Bool) (decoded : Decoded) (how : score.InputEnding) (made : Score) (broken : Bool)
@@ -39,53 +38,38 @@ outcome_by_parts limits ending bytes ended decoded how made broken e d h m b = r
 
 -- a read fault comes of a source that failed
 broken_by : (ending : SourceEnding) (fault : Option Fault) (errors : Bool) → status_by fault (is_cut_short ending fault) errors ≡ ReadFault → ending ≡ Broken
-broken_by Ended None true s = cc
-broken_by _ _ _ s = cc
+broken_by ending fault errors s = grind arith
 
 read_fault_broken : (limits : Limits) (ending : SourceEnding) (bytes : List ℕ) → status_of (outcome_of limits ending bytes) ≡ ReadFault → ending ≡ Broken
-read_fault_broken limits ending bytes s =
-    let m = outcome_of limits ending bytes in
-    broken_by ending m.score.fault (list_any is_error_finding m.score.findings) s
+read_fault_broken limits ending bytes s = grind (arith, broken_by)
 
 -- no run that wrote all has the status of a sink's failure
 never_sunk : (fault : Option Fault) (broken errors : Bool) → status_by fault broken errors ≡ WriteFault → ⊥
-never_sunk None false true s = cc
-never_sunk _ _ _ s = cc
-
--- the status of a sink's failure is not that of a source's
-sunk_is_not_broken : WriteFault ≡ ReadFault → ⊥
-sunk_is_not_broken e = cc
+never_sunk fault broken errors s = grind arith
 
 -- one failure more
 a_failure_more : (a b c d : Calls) → (FailsOnce a b × GoesOn c d) ⊎ (GoesOn a b × FailsOnce c d) → (a.failures < b.failures) ⊎ (c.failures < d.failures)
-a_failure_more a b c d (inl x) = inl (omega (arith, x.0.failures))
-a_failure_more a b c d (inr x) = inr (omega (arith, x.1.failures))
+a_failure_more a b c d h = grind arith
 
 sinks_in_time : (a b c d : Calls) → (FailsOnce a b × GoesOn c d) ⊎ (GoesOn a b × FailsOnce c d) → NoneLate a b × NoneLate c d
-sinks_in_time a b c d (inl x) = (x.0.none_late, x.1.none_late)
-sinks_in_time a b c d (inr x) = (x.0.none_late, x.1.none_late)
+sinks_in_time a b c d h = grind arith
 
 -- a source that did not fail ended
 met_whole : (old new : Option (List ℕ)) (calls_old calls_new : Calls) (limit : ℕ) (bytes : List ℕ) (ending : SourceEnding) → ReadsSource old new calls_old calls_new limit bytes ending
     → calls_new.failures ≡ calls_old.failures → ending ≡ Ended
-met_whole old new calls_old calls_new limit bytes Ended r same = refl
-met_whole old new calls_old calls_new limit bytes Broken r same = absurd (omega (arith, r.broken refl, same))
-
-never_stopped : true ≡ false → ⊥
-never_stopped e = cc
+met_whole old new calls_old calls_new limit bytes ending r same = grind arith
 
 -- one that did not stop was not read to its end
 unmet_broken : (old new : Option (List ℕ)) (calls_old calls_new : Calls) (limit : ℕ) (bytes : List ℕ) (ending : SourceEnding) → ReadsSource old new calls_old calls_new limit bytes ending
     → calls_new.is_stopped ≡ false → length bytes ≤ limit → ending ≡ Broken
 unmet_broken old new calls_old calls_new limit bytes Broken r runs few = refl
 unmet_broken old new calls_old calls_new limit bytes Ended r runs few =
-    absurd (never_stopped (sym (r.stopped refl few) ∙ runs))
+    absurd (cc (r.stopped refl few, runs))
 
 -- one that failed is broken
 failed_broken : (old new : Option (List ℕ)) (calls_old calls_new : Calls) (limit : ℕ) (bytes : List ℕ) (ending : SourceEnding) → ReadsSource old new calls_old calls_new limit bytes ending
     → calls_old.failures < calls_new.failures → ending ≡ Broken
-failed_broken old new calls_old calls_new limit bytes Broken r more = refl
-failed_broken old new calls_old calls_new limit bytes Ended r more = absurd (let same = r.steady refl in omega (arith, same, more))
+failed_broken old new calls_old calls_new limit bytes ending r more = grind arith
 
 -- what an engine knows that says the outcomes of a job is known of the job
 is_known : (job : Job) (limits : Limits) (e : EngineState) (bytes : List ℕ) (ending : SourceEnding) (o l : List ℕ) → SaysOutcomes job limits e → (k : Knows e bytes ending o l)
@@ -107,12 +91,9 @@ prompt_itself e f p = subst (λ (x : Format). IsPrompt x (streams_left f Broken 
 -- at the end nothing of what is still written is known, or all
 known_at_end : (f g : EngineState) (ending : SourceEnding) (status : Status) → IsPrompt f.written.format (streams_left f Broken []) → streams_left f ending [] ≡ with_waiting g (ended_with status (fault_of g))
     → (o l : List ℕ) → NoneOrAll g.output g.messages o l → Knows f [] ending o l
-known_at_end f g ending status prompt last o l (inl none) =
-    subst (λ (x : List ℕ). Knows f [] ending x l) (sym none.0) (subst (λ (x : List ℕ). Knows f [] ending [] x) (sym none.1)
-    (record { front = []; at = Broken; is_point = inl ([], (refl, refl)); left = streams_left f Broken []; known = refl; prompt = prompt }))
-known_at_end f g ending status prompt last o l (inr all) =
-    subst (λ (x : List ℕ). Knows f [] ending x l) (sym all.0) (subst (λ (x : List ℕ). Knows f [] ending g.output x) (sym all.1)
-    (record { front = []; at = ending; is_point = inr (refl, refl); left = ended_with status (fault_of g); known = last; prompt = record { messages = refl; output = inl refl } }))
+known_at_end f g ending status prompt last =
+    none_or_all f [] ending g.output g.messages (record { front = []; at = Broken; is_point = inl ([], (refl, refl)); left = streams_left f Broken []; known = refl; prompt = prompt })
+    (record { front = []; at = ending; is_point = inr (refl, refl); left = ended_with status (fault_of g); known = last; prompt = record { messages = refl; output = inl refl } })
 
 -- a run that a sink's failure cut when these bytes were taken
 module _ (job : Job) (limits : Limits) (source out messages : Use) where
@@ -135,7 +116,7 @@ module _ (job : Job) (limits : Limits) (source out messages : Use) where
   is_run_cut : SinkCut job limits source out messages → NoneLate source.calls_old source.calls_new → IsRun job limits source out messages WriteFault
   is_run_cut c in_time = record {
     compiles = c;
-    read_fault = λ is. absurd (sunk_is_not_broken is);
+    read_fault = λ is. absurd (cc is);
     write_fault = λ is. a_failure_more _ _ _ _ c.fails;
     steady = λ is. absurd (is refl);
     in_time = (in_time, sinks_in_time _ _ _ _ c.fails);
@@ -153,7 +134,7 @@ module _ {A B C : Type 0} (wrote : A → Option (List ℕ)) (went : A → Calls)
         reads = omega (arith, a.reads);
         within = a.within;
         whole = λ no. cc;
-        met = λ runs stopped same. absurd (never_stopped (sym stopped ∙ (a.goes_on.is_stopped ∙ runs)));
+        met = λ runs stopped same. absurd (cc (stopped, a.goes_on.is_stopped, runs));
         unmet = λ _ _. refl;
         failed = λ _. refl;
       } in
@@ -176,9 +157,7 @@ module _ {A B C : Type 0} (wrote : A → Option (List ℕ)) (went : A → Calls)
 
     -- what an engine wrote of an input is its outcome's
     streams_are : streams_of_outcome job made ≡ after_bytes (a.fed.output ++ g.output) (a.fed.lines ++ g.messages) (ended_with status (fault_of g))
-    streams_are =
-        sym (all.all a.bytes ending) ∙ (ap (streams_left e ending) (sym (append-nil a.bytes)) ∙ (a.fed.law [] ending
-        ∙ (ap (after_bytes a.fed.output a.fed.lines) last ∙ sym (with_both_after a.fed.output a.fed.lines g.output g.messages (ended_with status (fault_of g))))))
+    streams_are = grind (arith, append-nil, with_both_after)
 
     ends_so : (streams_of_outcome job made).status ≡ status
     ends_so = ap (λ (y : Streams). y.status) streams_are

@@ -1,5 +1,5 @@
 -- The fields of a state are judged by its texts, under the limits that it reports.
-use Rattle.std.proofs.Common.{◌≡◌, ◌↔◌, Bool, Result, Ok, Err, IfOk, IsTrue, subst, sym}
+use Rattle.std.proofs.Common.{◌≡◌, ◌↔◌, Bool, Result, Ok, Err, IfOk, IsTrue, subst, sym, arith}
 use Rattle.gabc_places.specs.declared.limits.Limits.{Limits}
 use Rattle.gabc_headers.specs.witness.HeadEvents.{HeaderStageState}
 use Rattle.gabc_score.specs.witness.ScoreStage.{ScoreStageState}
@@ -37,5 +37,4 @@ module _ (s : StateFields) (own : Limits) (tells : ReportsLimits s own) (phase :
 
 -- what holds whatever is answered
 pub if_any : {A B C : Type 0} (r : Result A B) → C → IfOk r (λ x. C)
-if_any (Ok x) h = h
-if_any (Err e) h = tt
+if_any r h = grind arith

@@ -1,7 +1,7 @@
 -- The streams of what the score says, output by output, and with the headers.
-use Rattle.std.proofs.Common.{◌≡◌, ℕ, List, [], ◌∷◌, ◌++◌, drop, Bool, true, false, ◌||◌, ◌&&◌, not, Option, None, is_some, ◌⊎◌, inl, inr, refl, sym, ap, ◌∙◌, subst, append-nil, append_assoc}
-use Rattle.std.proofs.Math.Bool.{or_assoc, or-false}
-use Rattle.std.proofs.lemmas.Bool.{false≢true}
+use Rattle.std.proofs.Common.{◌≡◌, ℕ, List, [], ◌∷◌, ◌++◌, drop, Bool, true, false, ◌||◌, ◌&&◌, not, Option, None, is_some, ◌⊎◌, inl, inr, refl, sym, ap, ◌∙◌, subst, append-nil, append_assoc, arith}
+use Rattle.std.proofs.Math.Bool.{and-false, or_assoc, or-false, or-true}
+use Rattle.std.proofs.lemmas.Bool.{or_parts}
 use Rattle.std.specs.List.{flat_map, list_any}
 use Rattle.gabc_places.specs.StageLaw.{concat_of}
 use Rattle.gabc_headers.specs.declared.head_event.HeadEvent.{HeadEvent}
@@ -11,7 +11,7 @@ use Rattle.gabc_write.specs.Message.{line_of}
 use Rattle.gregorio.specs.declared.run_ending.RunEnding.{RunEnding}
 use Rattle.gregorio.specs.Outcome.{shown_line, fault_line, is_error_finding, status_by}
 use Rattle.gregorio.specs.Streams.{Streams, after_bytes, syllable_text, force_after, last_text, next_number, texts_after, count_after}
-use Rattle.gregorio.specs.witness.Engine.{Written, after_heads, after_output, after_outputs, ceased, ceased_ending, ceased_text, ended_by, ending_of_whole, fault_of_ending, first_list, if_headed, is_before_heads, is_heads, lines_of_output, lines_of_outputs, status_of_ending, streams_from, streams_in, text_of_heads, text_of_output, texts_of_outputs, writes_heads}
+use Rattle.gregorio.specs.witness.Engine.{Written, after_output, after_outputs, ceased, ceased_ending, ceased_text, ended_by, ending_of_whole, fault_of_ending, first_list, if_headed, is_before_heads, is_heads, lines_of_output, lines_of_outputs, status_of_ending, streams_from, streams_in, text_of_output, texts_of_outputs, writes_heads}
 use Rattle.gregorio.specs.machine.ScoreWriter.{IsOver}
 use Rattle.gregorio.proofs.pieces.BytesAreJoined.{with_both_after, same_streams}
 
@@ -40,17 +40,9 @@ EndsAtLast P (Stop fault ∷ outputs) = (outputs ≡ []) × P
 EndsAtLast P (Syllable s ∷ outputs) = EndsAtLast P outputs
 EndsAtLast P (End ∷ outputs) = (outputs ≡ []) × P
 
-abbrev is_empty : {X : Type 0} → List X → Bool
-is_empty [] = true
-is_empty (x ∷ xs) = false
-
 -- a list with an item is not empty
 pub no_item : {X P : Type 0} (x : X) (xs : List X) → x ∷ xs ≡ [] → P
-no_item x xs e = absurd (false≢true (ap is_empty e))
-
-pub second_empty : {X : Type 0} (xs ys : List X) → xs ++ ys ≡ [] → ys ≡ []
-second_empty [] ys h = h
-second_empty (x ∷ xs) ys h = no_item x (xs ++ ys) h
+no_item x xs e = absurd (cc e)
 
 -- the streams of a run that goes on, by what is found, the syllables, the stop and the end
 abbrev pub said : Written → List ScoreOutput → Streams
@@ -64,13 +56,9 @@ said w outputs = record {
 abbrev pub going_on : Bool → Written → Written
 going_on headed w = record w { headed = headed; ended = None }
 
-whole_status : (errors : Bool) → status_of_ending (ending_of_whole errors) ≡ status_by None false errors
-whole_status true = refl
-whole_status false = refl
-
-whole_fault : (errors : Bool) → fault_of_ending (ending_of_whole errors) ≡ None
-whole_fault true = refl
-whole_fault false = refl
+whole_is_said : (errors : Bool) → (status_of_ending (ending_of_whole errors) ≡ status_by None false errors) × (fault_of_ending (ending_of_whole errors) ≡ None)
+whole_is_said true = (refl, refl)
+whole_is_said false = (refl, refl)
 
 say : (P : Type 0) (headed : Bool) (w : Written) (outputs : List ScoreOutput) → EndsAtLast P outputs → streams_in (going_on headed w) outputs ≡ said (going_on headed w) outputs
 say P headed w [] ends = refl
@@ -94,7 +82,7 @@ say P headed w (Stop fault ∷ []) ends =
     (append-nil (line_of w.name fault.place fault.code ++ []) ∙ append-nil (line_of w.name fault.place fault.code)) refl refl
 say P headed w (End ∷ []) ends =
     same_streams _ _ (append-nil (if_headed (going_on headed w) (last_text w.format true w.count) ++ []) ∙ append-nil (if_headed (going_on headed w) (last_text w.format true w.count)))
-    refl (whole_status w.errors ∙ ap (status_by None false) (sym (or-false w.errors))) (whole_fault w.errors)
+    refl ((whole_is_said w.errors).0 ∙ ap (status_by None false) (sym (or-false w.errors))) (whole_is_said w.errors).1
 say P headed w (Stop fault ∷ (o ∷ outputs)) ends = no_item o outputs ends.0
 say P headed w (End ∷ (o ∷ outputs)) ends = no_item o outputs ends.0
 
@@ -118,55 +106,34 @@ job_stays w (End ∷ outputs) = job_stays (after_output w End) outputs
 pub headed_stays : (w : Written) (outputs : List ScoreOutput) → (after_outputs w outputs).headed ≡ w.headed
 headed_stays w outputs = (job_stays w outputs).1.1.1
 
-not_before : (headed : Bool) → not (headed || true) ≡ false
-not_before true = refl
-not_before false = refl
-
 -- where no headers are to be written, none are later
 never_later : (w : Written) (outputs : List ScoreOutput) → is_before_heads w ≡ false → is_before_heads (after_outputs w outputs) ≡ false
 never_later w [] h = h
 never_later w (Found f ∷ outputs) h = never_later (after_output w (Found f)) outputs h
-never_later w (Stop fault ∷ outputs) h = never_later (after_output w (Stop fault)) outputs (not_before w.headed)
+never_later w (Stop fault ∷ outputs) h = never_later (after_output w (Stop fault)) outputs (ap not (or-true w.headed))
 never_later w (Syllable s ∷ outputs) h = never_later (after_output w (Syllable s)) outputs h
-never_later w (End ∷ outputs) h = never_later (after_output w End) outputs (not_before w.headed)
+never_later w (End ∷ outputs) h = never_later (after_output w End) outputs (ap not (or-true w.headed))
 
 -- at an event at which no headers are written
 pub no_heads_at : (w : Written) (book : List (List ℕ × List ℕ)) (x : HeadEvent) (from_heads : List HeadEvent) (lists : List (List ScoreOutput)) → writes_heads w x ≡ false
     → streams_from w book (x ∷ from_heads) lists
     ≡ after_bytes (texts_of_outputs w (first_list lists)) (lines_of_outputs w (first_list lists)) (streams_from (after_outputs w (first_list lists)) book from_heads (drop 1 lists))
-no_heads_at w book x from_heads lists none =
-    let outputs = first_list lists in
-    let at : Written → List ℕ → Streams = λ v text. after_bytes (text ++ texts_of_outputs v outputs) (lines_of_outputs v outputs) (streams_from (after_outputs v outputs) book from_heads (drop 1 lists)) in
-    ap (λ (writes : Bool). at (after_heads w writes) (text_of_heads w book writes)) none
-    ∙ ap (λ (headed : Bool). at (record w { headed = headed }) []) (or-false w.headed)
-
-and-false : (b : Bool) → (b && false) ≡ false
-and-false true = refl
-and-false false = refl
+no_heads_at w book x from_heads lists none = grind (arith, or-false)
 
 -- none come that are to be written
 abbrev pub NoHeadsCome : Written → List HeadEvent → Type 0
 NoHeadsCome w from_heads = (is_before_heads w ≡ false) ⊎ (list_any is_heads from_heads ≡ false)
 
-pub first_false : (b c : Bool) → (b || c) ≡ false → b ≡ false
-first_false false c h = refl
-first_false true c h = h
-
 none_now : (w : Written) (x : HeadEvent) (from_heads : List HeadEvent) → NoHeadsCome w (x ∷ from_heads) → writes_heads w x ≡ false
 none_now w x from_heads (inl h) = ap (λ (b : Bool). is_heads x && b) h ∙ and-false (is_heads x)
-none_now w x from_heads (inr h) = ap (λ (b : Bool). b && is_before_heads w) (first_false (is_heads x) (list_any is_heads from_heads) h)
-
-pub second_false : (b c : Bool) → (b || c) ≡ false → c ≡ false
-second_false false c h = h
-second_false true c h = absurd (false≢true (sym h))
+none_now w x from_heads (inr h) = ap (λ (b : Bool). b && is_before_heads w) (or_parts (is_heads x) (list_any is_heads from_heads) h).0
 
 none_later : (w : Written) (x : HeadEvent) (from_heads : List HeadEvent) (outputs : List ScoreOutput) → NoHeadsCome w (x ∷ from_heads) → NoHeadsCome (after_outputs w outputs) from_heads
 none_later w x from_heads outputs (inl h) = inl (never_later w outputs h)
-none_later w x from_heads outputs (inr h) = inr (second_false (is_heads x) (list_any is_heads from_heads) h)
+none_later w x from_heads outputs (inr h) = inr (or_parts (is_heads x) (list_any is_heads from_heads) h).1
 
 pub concat_first : (lists : List (List ScoreOutput)) → concat_of lists ≡ first_list lists ++ concat_of (drop 1 lists)
-concat_first [] = refl
-concat_first (outputs ∷ lists) = refl
+concat_first lists = grind arith
 
 -- without headers, the streams are those of what the score says
 pub without_heads : (w : Written) (book : List (List ℕ × List ℕ)) (from_heads : List HeadEvent) (lists : List (List ScoreOutput)) → NoHeadsCome w from_heads
@@ -188,6 +155,6 @@ in_body w book from_heads lists headed = without_heads w book from_heads lists (
 pub over_is_last : (w : Written) (score : ScoreStageState) (how : RunEnding) → IsOver w score how → (book : List (List ℕ × List ℕ)) (from_heads : List HeadEvent)
     → streams_from w book from_heads (left_of score from_heads) ≡ ended_by how
 over_is_last w score how over book from_heads =
-    without_heads w book from_heads (left_of score from_heads) (inl (ap (λ (o : Option RunEnding). not (w.headed || is_some o)) over.ended ∙ not_before w.headed))
+    without_heads w book from_heads (left_of score from_heads) (inl (ap (λ (o : Option RunEnding). not (w.headed || is_some o)) over.ended ∙ ap not (or-true w.headed)))
     ∙ (ap (streams_in w) (over.silent from_heads)
     ∙ ap (λ (o : Option RunEnding). after_bytes [] [] (record (ended_by (ceased_ending o)) { output = ceased_text o w })) over.ended)

@@ -1,23 +1,16 @@
 -- What is written of an output stays in the room that is counted for it.
-use Rattle.std.proofs.Common.{◌≡◌, ℕ, ◌+◌, ◌≤◌, Bool, true, false, List, [], ◌∷◌, length, length-append, arith, ap}
+use Rattle.std.proofs.Common.{◌≡◌, ℕ, ◌≤◌, List, [], ◌∷◌, length, length-append, arith, ap}
 use Rattle.std.specs.List.{All}
 use Rattle.std.proofs.lemmas.List.Elements.{All-cons, All-head, All-nil, All-tail}
 use Rattle.gabc_places.specs.declared.limits.Limits.{Limits}
 use Rattle.gabc_score.specs.Canonical.{canonical_in_place}
 use Rattle.gabc_score.specs.NoNotes.{has_no_notes}
-use Rattle.gabc_score.specs.ScoreEvents.{ScoreOutput, Found, Stop, Syllable, End, syllables_in}
+use Rattle.gabc_score.specs.ScoreEvents.{ScoreOutput, Syllable, syllables_in}
 use Rattle.gabc_score.specs.Syllable.{PlacedSyllable}
 use Rattle.gregorio_jobs.specs.declared.job.Format.{Format}
-use Rattle.gregorio_jobs.specs.declared.job.Format.TheVariants.{Gabc, Dump}
 use Rattle.gabc_score.specs.ScoreStage.{IsWithin}
 use Rattle.gregorio.specs.witness.Engine.{Written, lines_of_output, text_of_output}
 use Rattle.gregorio.specs.machine.RunWriter.{RunWriterState, with_bytes, line_room, lines_room, syllable_len, text_room, texts_room, IsInRoom}
-
--- a shorter canonical text takes no more room
-longer : (format : Format) (no_notes : Bool) (n limit : ℕ) → n ≤ limit + 1 → syllable_len format no_notes n ≤ syllable_len format no_notes (limit + 1)
-longer Gabc no_notes n limit h = h
-longer Dump true n limit h = omega (arith, h)
-longer Dump false n limit h = omega (arith, h)
 
 -- how much of its room an output takes
 abbrev pub IsOutputShort : Limits → RunWriterState → ScoreOutput → Type 0
@@ -25,15 +18,11 @@ IsOutputShort limits w o = (length (lines_of_output w.written o) ≤ line_room w
 
 pub syllable_is_short : (limits : Limits) (w : RunWriterState) (s : PlacedSyllable) (outputs : List ScoreOutput) (a b : ℕ) → IsInRoom limits a b w (Syllable s ∷ outputs)
     → length (text_of_output w.written (Syllable s)) ≤ syllable_len w.written.format (has_no_notes s.made) (length (canonical_in_place s)) → IsOutputShort limits w (Syllable s)
-syllable_is_short limits w s outputs a b h short =
-    let within = All-head (IsWithin limits) s (syllables_in outputs) h.within in
-    (omega arith, omega (arith, short, longer w.written.format (has_no_notes s.made) (length (canonical_in_place s)) limits.syllable within.canonical))
+syllable_is_short limits w s outputs a b h short = grind (arith, All-head)
 
 others_within : (limits : Limits) (o : ScoreOutput) (outputs : List ScoreOutput) → All (IsWithin limits) (syllables_in (o ∷ outputs)) → All (IsWithin limits) (syllables_in outputs)
-others_within limits (Found f) outputs h = h
-others_within limits (Stop fault) outputs h = h
 others_within limits (Syllable s) outputs h = All-tail (IsWithin limits) s (syllables_in outputs) h
-others_within limits End outputs h = h
+others_within limits _ outputs h = h
 
 -- `v` is what is to be written after the output
 pub output_in_room : (limits : Limits) (a b : ℕ) (w : RunWriterState) (o : ScoreOutput) (outputs : List ScoreOutput) (v : Written) → v.name ≡ w.written.name → v.format ≡ w.written.format
@@ -50,14 +39,7 @@ output_in_room limits a b w o outputs v name format short h =
 -- ---- of several outputs
 
 first_within : (limits : Limits) (o : ScoreOutput) (outputs : List ScoreOutput) → All (IsWithin limits) (syllables_in (o ∷ outputs)) → All (IsWithin limits) (syllables_in (o ∷ []))
-first_within limits (Found f) outputs h = All-nil (IsWithin limits)
-first_within limits (Stop fault) outputs h = All-nil (IsWithin limits)
-first_within limits (Syllable s) outputs h = All-cons (IsWithin limits) s [] (All-head (IsWithin limits) s (syllables_in outputs) h) (All-nil (IsWithin limits))
-first_within limits End outputs h = All-nil (IsWithin limits)
+first_within limits o outputs h = grind (arith, All-nil, All-cons, All-head)
 
 pub first_in_room : (limits : Limits) (a b : ℕ) (w : RunWriterState) (o : ScoreOutput) (outputs : List ScoreOutput) → IsInRoom limits a b w (o ∷ outputs) → IsInRoom limits a b w (o ∷ [])
-first_in_room limits a b w o outputs h = record {
-  lines = omega (arith, h.lines);
-  texts = omega (arith, h.texts);
-  within = first_within limits o outputs h.within;
-}
+first_in_room limits a b w o outputs h = grind (arith, first_within)

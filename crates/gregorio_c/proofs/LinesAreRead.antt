@@ -3,7 +3,7 @@ use Rattle.std.proofs.Common.{◌≡◌, ℕ, zero, suc, ◌/◌, ◌%◌, ◌<�
 use Rattle.std.proofs.lemmas.Bool.{ne_eqb}
 use Rattle.std.specs.Fmt.{decimal, digits, digits_onto, digit_glyph}
 use Rattle.gabc_places.specs.declared.code.Code.{Code}
-use Rattle.gabc_places.specs.declared.code.Code.TheVariants.{E1, E2, E3, E4, E5, E6, W1, W2, W3, W4, W5, W6, W7, W8, W9, W10, W11, W12, F1, F2, F3, F4, F5, F6, F7}
+use Rattle.gabc_places.specs.declared.code.Code.TheVariants.{E1}
 use Rattle.gabc_places.specs.declared.place.Place.{Place}
 use Rattle.gabc_places.specs.Code.{severity_of}
 use Rattle.gabc_places.specs.Message.{code_text}
@@ -70,30 +70,7 @@ as_read m = record m { line = number_onto 0 (decimal m.line); column = number_on
 -- what stands after the place
 code_is_read : (code : Code) (line column : ℕ) (rest : List ℕ) → messages_in (in_field Column (record { line = line; column = column; severity = 0; code = 0 })) (codes ": " ++ (code_text code ++ (10 ∷ rest))) ≡ record { line = line; column = column; severity = severity_number (severity_of code); code = number_of code } ∷ messages_in before_line rest
 code_is_read E1 line column rest = refl
-code_is_read E2 line column rest = refl
-code_is_read E3 line column rest = refl
-code_is_read E4 line column rest = refl
-code_is_read E5 line column rest = refl
-code_is_read E6 line column rest = refl
-code_is_read W1 line column rest = refl
-code_is_read W2 line column rest = refl
-code_is_read W3 line column rest = refl
-code_is_read W4 line column rest = refl
-code_is_read W5 line column rest = refl
-code_is_read W6 line column rest = refl
-code_is_read W7 line column rest = refl
-code_is_read W8 line column rest = refl
-code_is_read W9 line column rest = refl
-code_is_read W10 line column rest = refl
-code_is_read W11 line column rest = refl
-code_is_read W12 line column rest = refl
-code_is_read F1 line column rest = refl
-code_is_read F2 line column rest = refl
-code_is_read F3 line column rest = refl
-code_is_read F4 line column rest = refl
-code_is_read F5 line column rest = refl
-code_is_read F6 line column rest = refl
-code_is_read F7 line column rest = refl
+code_is_read _ line column rest = refl
 
 -- the line that reports a code at a place
 abbrev pub line_at : Place → Code → List ℕ

@@ -3,7 +3,7 @@ use Rattle.std.proofs.Common.{◌≡◌, ℕ, ◌≤◌, inl, inr, List, subst, 
 use Rattle.gabc_places.specs.declared.limits.Limits.{Limits}
 use Rattle.gregorio_jobs.specs.declared.job.Job.{Job}
 use Rattle.gregorio_jobs.specs.declared.job.Status.{Status}
-use Rattle.gregorio_jobs.specs.declared.job.Status.TheVariants.{Whole, Errors, Fatal, ReadFault, WriteFault, NoMemory}
+use Rattle.gregorio_jobs.specs.declared.job.Status.TheVariants.{Whole, Errors, Fatal, ReadFault}
 use Rattle.gregorio_jobs.specs.Status.{code_of}
 use Rattle.gregorio.specs.declared.source_ending.SourceEnding.{SourceEnding}
 use Rattle.gregorio.specs.Engine.{EndsByInput}
@@ -21,8 +21,7 @@ by_code Whole by = none_of 0 (λ e. absurd (cc e)) (λ e. absurd (cc e)) (λ h. 
 by_code Errors by = none_of 1 (λ e. absurd (cc e)) (λ e. absurd (cc e)) (λ h. absurd (omega (arith, h)))
 by_code Fatal by = none_of 2 (λ e. absurd (cc e)) (λ e. absurd (cc e)) (λ h. absurd (omega (arith, h)))
 by_code ReadFault by = none_of 4 (λ e. absurd (cc e)) (λ e. absurd (cc e)) (λ h. absurd (omega (arith, h)))
-by_code WriteFault by = absurd by
-by_code NoMemory by = absurd by
+by_code _ by = absurd by
 
 on_goes : WritesNothing goes_on → ⊥
 on_goes = none_of 6 (λ e. absurd (cc e)) (λ e. absurd (cc e)) (λ h. absurd (omega (arith, h)))

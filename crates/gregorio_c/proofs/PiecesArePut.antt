@@ -96,9 +96,6 @@ module _ (job : Job) (limits : Limits) (before : List ℕ) (left : Writes) (stan
   five number (inr (inr (e, another))) =
       absurd (another.other (subst (IsOfJob job limits) (once (state_of stands.engine) another.s stands.is_state.fields another.fields.fields stands.saved another.is) is_of_job))
 
-  writes_nothing : (number : ℕ) → number ≡ 5 → WritesNothing number
-  writes_nothing number e = inr (inl e)
-
   -- ---- a piece
 
   module _ (piece : List ℕ) (state output messages : Buffer) (step : Step) (number : ℕ) where
@@ -144,7 +141,7 @@ module _ (job : Job) (limits : Limits) (before : List ℕ) (left : Writes) (stan
       -- what is fed is put
       pub feed_put : (WritesNothing number → ⊥) → IsReason job limits before number ⊎ FeedAnswer job limits before piece state output messages step number
           → o_then ≡ takes o (take step.output output.new) → m_then ≡ takes_too m (take step.messages messages.new) → Puts number
-      feed_put writes (inl reason) out told = absurd (writes (writes_nothing number (five number reason)))
+      feed_put writes (inl reason) out told = absurd (writes (inr (inl (five number reason))))
       feed_put writes (inr a) out told = by (eqb_tells number goes_on)
         where
           t : Took a.made state output messages number
@@ -167,7 +164,7 @@ module _ (job : Job) (limits : Limits) (before : List ℕ) (left : Writes) (stan
     pub end_put : {A B : Type 0} (takes : A → List ℕ → A) (takes_too : B → List ℕ → B) (o o_then : A) (m m_then : B) → (WritesNothing number → ⊥)
         → IsReason job limits before number ⊎ EndAnswer job limits ending before output messages lengths number
         → o_then ≡ takes o (take lengths.output output.new) → m_then ≡ takes_too m (take lengths.messages messages.new) → PutsLast takes takes_too (left ending []) o m o_then m_then number
-    end_put takes takes_too o o_then m m_then writes (inl reason) out told = absurd (writes (writes_nothing number (five number reason)))
+    end_put takes takes_too o o_then m m_then writes (inl reason) out told = absurd (writes (inr (inl (five number reason))))
     end_put takes takes_too o o_then m m_then writes (inr a) out told =
         let t = took a.made (used [] []) output messages number a.handed (not_seven number writes) in
         let law = a.ends.law left stands in

@@ -4,7 +4,7 @@ use Rattle.gabc_places.specs.declared.code.Fault.{Fault}
 use Rattle.gabc_places.specs.declared.limits.Limits.{Limits}
 use Rattle.gregorio_jobs.specs.declared.job.Job.{Job}
 use Rattle.gregorio_jobs.specs.declared.job.Status.{Status}
-use Rattle.gregorio_jobs.specs.declared.job.Status.TheVariants.{Whole, Errors, Fatal, ReadFault, WriteFault, NoMemory}
+use Rattle.gregorio_jobs.specs.declared.job.Status.TheVariants.{Whole}
 use Rattle.gregorio_jobs.specs.Status.{code_of}
 use Rattle.gregorio.specs.declared.source_ending.SourceEnding.{SourceEnding}
 use Rattle.gregorio.specs.declared.source_ending.SourceEnding.TheVariants.{Broken}
@@ -17,11 +17,7 @@ use Rattle.gregorio_c.specs.machine.Steps.{EndedAs, FedAs, StandsAlone}
 -- no run ends with the number of one that goes on
 no_end : (status : Status) → code_of status ≡ goes_on → ⊥
 no_end Whole e = absurd (cc e)
-no_end Errors e = absurd (cc e)
-no_end Fatal e = absurd (cc e)
-no_end ReadFault e = absurd (cc e)
-no_end WriteFault e = absurd (cc e)
-no_end NoMemory e = absurd (cc e)
+no_end _ e = absurd (cc e)
 
 -- the last bytes of a run that is over
 last_is : (output lines : List ℕ) (status : Status) (fault : Option Fault) → after_bytes output lines (ended_with status fault) ≡ record { output = output; messages = lines; status = status; fault = fault }

@@ -1,18 +1,15 @@
 -- A score that is reported where its body begins goes on as it would have.
-use Rattle.std.proofs.Common.{◌≡◌, ℕ, ◌⊎◌, inl, inr, List, Bool, true, false, is_none, Result, Ok, Err, refl, ap, sym, subst, ◌∙◌}
+use Rattle.std.proofs.Common.{◌≡◌, ℕ, List, Bool, true, is_none, Result, ap, sym, subst, ◌∙◌, arith}
 use Rattle.gabc_places.specs.DecoderMachine.{DecoderState}
 use Rattle.gabc_places.specs.declared.code.Fault.{Fault}
 use Rattle.gabc_places.specs.declared.place.Char.{Char}
 use Rattle.gabc_places.specs.declared.place.Place.{Place}
 use Rattle.gabc_headers.specs.declared.head_event.HeadEvent.{HeadEvent}
-use Rattle.gabc_headers.specs.witness.HeadEvents.{HeaderStageState, IsAfterHeaders}
+use Rattle.gabc_headers.specs.witness.HeadEvents.{HeaderStageState}
 use Rattle.gabc_score.specs.declared.body_stage.BodyPart.{BodyPart}
-use Rattle.gabc_score.specs.declared.body_stage.BodyPart.TheVariants as part
-use Rattle.gabc_score.specs.ScoreEvents.{ScoreOutput}
 use Rattle.gabc_score.specs.ScoreReports.{IsAt, IsInFront, is_in_front, moved_part}
-use Rattle.gabc_score.specs.witness.ScoreStage.{ScoreStageState, left_of}
-use Rattle.gregorio.specs.Streams.{Streams, after_bytes}
-use Rattle.gregorio.specs.witness.Engine.{Written, book_after, head_events_left, streams_from}
+use Rattle.gabc_score.specs.witness.ScoreStage.{ScoreStageState}
+use Rattle.gregorio.specs.witness.Engine.{Written, streams_from}
 use Rattle.gregorio.specs.machine.Engine.{GoTogether, IsSettled, WritesItems}
 use Rattle.gregorio.specs.machine.InStep.{HasForce, RunsInStep, StayInStep}
 use Rattle.gregorio.specs.machine.RunWriter.{RunWriterState}
@@ -23,52 +20,28 @@ abbrev begun_writer : Result Char Fault → Bool → ScoreWriterState → ScoreW
 begun_writer item headed s = record s { score = begun item headed s.score }
 
 limits_begun : (item : Result Char Fault) (headed : Bool) (s : ScoreStageState) → (begun item headed s).limits ≡ s.limits
-limits_begun (Ok x) true s = refl
-limits_begun _ _ s = refl
+limits_begun item headed s = grind arith
 
 room_begun : (item : Result Char Fault) (headed : Bool) (s : ScoreWriterState) (ends : Bool) (events : List HeadEvent) → FitsEvents s ends events → FitsEvents (begun_writer item headed s) ends events
-room_begun (Ok x) true s ends events r = record { lines = r.lines; texts = r.texts }
-room_begun _ _ s ends events r = record { lines = r.lines; texts = r.texts }
+room_begun item headed s ends events r = grind arith
 
 steady_begun : (item : Result Char Fault) (headed : Bool) (old s : ScoreWriterState) → IsSteady old s → IsSteady old (begun_writer item headed s)
-steady_begun item headed old s a = record {
-  limits = limits_begun item headed s.score ∙ a.limits;
-  format = a.format;
-  name = a.name;
-  all_warnings = a.all_warnings;
-  out = a.out;
-  messages = a.messages;
-}
+steady_begun item headed old s a = grind (arith, limits_begun)
 
 -- in front no text has counted a place
 none_counts : (place at : Place) (b : BodyPart) → is_in_front b ≡ true → IsAt place (moved_part at b)
-none_counts place at part.Comment front = tt
-none_counts place at _ front = absurd (cc front)
+none_counts place at b front = grind arith
 
 step_begun : (item : Result Char Fault) (headed : Bool) (d : DecoderState) (h : HeaderStageState) (s : ScoreStageState) (w : Written) → (headed ≡ true → IsInFront s) → RunsInStep d h s w
     → RunsInStep d h (begun item headed s) w
-step_begun (Ok x) true d h s w front r = record {
-  runs = r.runs;
-  limit = r.limit;
-  parts = r.parts;
-  none = r.none;
-  count = r.count;
-  taken = r.taken;
-  column = r.column;
-  near = r.near;
-  counts = λ within body. none_counts d.place _ s.body.part (front refl).front;
-}
-step_begun (Ok x) false d h s w front r = r
-step_begun (Err fault) headed d h s w front r = r
+step_begun item headed d h s w front r = grind (arith, none_counts)
 
 module _ (item : Result Char Fault) (old new : ScoreWriterState) (b : BeginsBody item old new) where
   pub same_writer : new.writer ≡ old.writer
   same_writer = ap (λ (s : ScoreWriterState). s.writer) b.is
 
   same_streams : (book : List (List ℕ × List ℕ)) (from_heads : List HeadEvent) → streams_of new book from_heads ≡ streams_of old book from_heads
-  same_streams book from_heads =
-      ap (λ (v : RunWriterState). streams_from v.written book from_heads (left_of new.score from_heads)) same_writer
-      ∙ ap (λ (lists : List (List ScoreOutput)). streams_from old.writer.written book from_heads lists) (b.left from_heads)
+  same_streams book from_heads = λ i. streams_from (same_writer i).written book from_heads (b.left from_heads i)
 
   pub room_of_begun : (ends : Bool) (events : List HeadEvent) → FitsEvents old ends events → FitsEvents new ends events
   room_of_begun ends events room = subst (λ (s : ScoreWriterState). FitsEvents s ends events) (sym b.is) (room_begun item old.writer.written.headed old ends events room)
@@ -80,27 +53,10 @@ module _ (item : Result Char Fault) (old new : ScoreWriterState) (b : BeginsBody
   settled_begun settled = λ book other from_heads more. same_streams book from_heads ∙ (settled book other from_heads more ∙ sym (same_streams other more))
 
   pub together_begun : (h : HeaderStageState) → GoTogether h old → GoTogether h new
-  together_begun h together = record {
-    limits = together.limits ∙ sym (ap (λ (s : ScoreWriterState). s.score.limits) b.is ∙ limits_begun item old.writer.written.headed old.score);
-    headed = λ e. by (together.headed (sym (ap (λ (v : RunWriterState). v.written.headed) same_writer) ∙ e));
-    book = together.book;
-    short = together.short;
-  }
-    where
-      by : IsAfterHeaders h.progress ⊎ IsSettled old → IsAfterHeaders h.progress ⊎ IsSettled new
-      by (inl is) = inl is
-      by (inr settled) = inr (settled_begun settled)
+  together_begun h together = grind (arith, limits_begun, same_writer, settled_begun)
 
   pub writes_begun : (h now : HeaderStageState) (first : ScoreWriterState) (items : List (Result Char Fault)) → WritesItems h first items now old → WritesItems h first items now new
-  writes_begun h now first items a = record {
-    output = a.output;
-    lines = a.lines;
-    out = ap (λ (v : RunWriterState). v.out) same_writer ∙ a.out;
-    messages = ap (λ (v : RunWriterState). v.messages) same_writer ∙ a.messages;
-    law = λ ending more.
-        a.law ending more
-        ∙ ap (λ (s : Streams). after_bytes a.output a.lines s) (sym (same_streams (book_after now more) (head_events_left now ending more)));
-  }
+  writes_begun h now first items a = grind (arith, same_writer, same_streams)
 
   pub stay_begun : (h now : HeaderStageState) (first : ScoreWriterState) (items : List (Result Char Fault)) → (old.writer.written.headed ≡ true → IsInFront old.score) → StayInStep h first items now old
       → StayInStep h first items now new

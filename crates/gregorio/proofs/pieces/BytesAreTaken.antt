@@ -1,10 +1,8 @@
 -- A byte that an engine takes brings what was to come for it, and so do the bytes of a piece.
-use Rattle.std.proofs.Common.{◌≡◌, ℕ, ◌≤◌, ◌||◌, List, [], ◌∷◌, ◌++◌, length, take, length-take, take-take, Bool, true, false, not, Option, Some, None, IfSome, is_none, is_some, Result, refl, ap, append_assoc, sym, ◌∙◌, arith}
+use Rattle.std.proofs.Common.{◌≡◌, ℕ, ◌≤◌, ◌||◌, List, [], ◌∷◌, ◌++◌, length, take, length-take, take-take, true, false, not, Option, None, IfSome, is_none, is_some, Result, ap, append_assoc, sym, ◌∙◌, arith}
 use Rattle.std.specs.List.{list_any}
-use Rattle.gabc_places.specs.BoundedList.{BoundedList}
 use Rattle.gabc_places.specs.StageLaw.{concat_of}
 use Rattle.gabc_places.specs.declared.code.Fault.{Fault}
-use Rattle.gabc_places.specs.declared.limits.Limits.{Limits}
 use Rattle.gabc_places.specs.declared.place.Char.{Char}
 use Rattle.gabc_places.specs.DecoderMachine.{DecoderState}
 use Rattle.gabc_places.specs.witness.DecoderEvents as decoder
@@ -13,16 +11,14 @@ use Rattle.gabc_headers.specs.witness.HeadEvents.{HeaderStageState}
 use Rattle.gabc_score.specs.ScoreEvents.{ScoreOutput, Found, Stop, Syllable, End, fault_in, findings_in, has_end}
 use Rattle.gabc_score.specs.witness.ScoreStage.{ScoreStageState, left_of}
 use Rattle.gregorio.specs.declared.source_ending.SourceEnding.{SourceEnding}
-use Rattle.gregorio.specs.declared.source_ending.SourceEnding.TheVariants.{Whole as Ended, Broken}
+use Rattle.gregorio.specs.declared.source_ending.SourceEnding.TheVariants.{Broken}
 use Rattle.gregorio.specs.Engine.{Brings, NothingWaits, is_running, with_waiting}
 use Rattle.gregorio.specs.witness.Engine.{EngineState, Written, book_after, ended_by, head_events_left, items_left, streams_left}
 use Rattle.gregorio.specs.Streams.{Streams, after_bytes}
 use Rattle.gregorio.specs.Outcome.{is_error_finding, is_whole, status_by}
-use Rattle.gregorio.specs.machine.RunWriter.{line_room, most_waiting, out_room}
 use Rattle.gregorio.specs.machine.ScoreWriter.{ScoreWriterState, IsOver, IsReserved, IsSteady}
 use Rattle.gregorio.specs.machine.Engine.{WritesItems, streams_of_items}
 use Rattle.gregorio.proofs.pieces.BytesAreJoined.{with_both_after}
-use Rattle.gregorio_jobs.specs.declared.job.Format.{Format}
 use Rattle.gregorio.specs.declared.run_ending.RunEnding.{RunEnding}
 use Rattle.gregorio_jobs.specs.declared.job.Status.TheVariants.{ReadFault}
 use Rattle.gregorio.proofs.StreamsOfOutputs.{EndsAtLast, outputs_are_said, over_is_last, said}
@@ -30,19 +26,7 @@ use Rattle.gregorio.proofs.StreamsOfOutputs.{EndsAtLast, outputs_are_said, over_
 -- ---- the rooms stay
 
 pub still_reserved : (old new : ScoreWriterState) → IsSteady old new → IsReserved old → IsReserved new
-still_reserved old new steady reserved =
-    let out = reserved.out in
-    let messages = reserved.messages in
-    let same_out : out_room new.writer.written.format new.score.limits ≡ out_room old.writer.written.format old.score.limits =
-    ap (λ (f : Format). out_room f new.score.limits) steady.format ∙ ap (λ (l : Limits). out_room old.writer.written.format l) steady.limits in
-    let same_line : line_room new.writer.written.name ≡ line_room old.writer.written.name = ap (λ (n : List ℕ). line_room n) steady.name in
-    let same_most : most_waiting new.score.limits ≡ most_waiting old.score.limits = ap (λ (l : Limits). most_waiting l) steady.limits in
-    let out_limit = steady.out in
-    let message_limit = steady.messages in
-    record {
-      out = omega (arith, out, same_out, same_most, out_limit);
-      messages = omega (arith, messages, same_line, same_most, message_limit);
-    }
+still_reserved old new steady reserved = grind arith
 
 -- ---- a byte
 
@@ -50,49 +34,37 @@ still_reserved old new steady reserved =
 pub items_taken : (h now : HeaderStageState) (w new : ScoreWriterState) (items more : List (Result Char Fault)) (ending : SourceEnding) → WritesItems h w items now new
     → after_bytes w.writer.out.items w.writer.messages.items (streams_of_items h w ending (items ++ more))
     ≡ after_bytes new.writer.out.items new.writer.messages.items (streams_of_items now new ending more)
-items_taken h now w new items more ending a =
-    let later = streams_of_items now new ending more in
-    ap (λ (s : Streams). after_bytes w.writer.out.items w.writer.messages.items s) (a.law ending more)
-    ∙ (sym (with_both_after w.writer.out.items w.writer.messages.items a.output a.lines later)
-    ∙ (ap (λ (o : BoundedList ℕ). after_bytes o.items (w.writer.messages.items ++ a.lines) later) (sym a.out)
-    ∙ ap (λ (l : BoundedList ℕ). after_bytes new.writer.out.items l.items later) (sym a.messages)))
+items_taken h now w new items more ending a = grind (arith, with_both_after)
 
 items_next : (d e : DecoderState) (byte : ℕ) (bytes : List ℕ) (items : List (Result Char Fault)) (ending : SourceEnding) → decoder.events_left d (byte ∷ bytes) ≡ items ∷ decoder.events_left e bytes
     → emitted_by (is_whole ending) (byte ∷ bytes) (decoder.events_left d (byte ∷ bytes)) ≡ items ++ emitted_by (is_whole ending) bytes (decoder.events_left e bytes)
-items_next d e byte bytes items Ended law = ap (λ (lists : List (List (Result Char Fault))). concat_of lists) law
-items_next d e byte bytes items Broken law = ap (λ (lists : List (List (Result Char Fault))). concat_of (take (length (byte ∷ bytes)) lists)) law
+items_next d e byte bytes items ending law = grind arith
 
 pub byte_taken : (d e : DecoderState) (h now : HeaderStageState) (w new : ScoreWriterState) (byte : ℕ) (items : List (Result Char Fault))
     → ((bytes : List ℕ) → decoder.events_left d (byte ∷ bytes) ≡ items ∷ decoder.events_left e bytes)
     → WritesItems h w items now new → (bytes : List ℕ) (ending : SourceEnding)
     → after_bytes w.writer.out.items w.writer.messages.items (streams_of_items h w ending (emitted_by (is_whole ending) (byte ∷ bytes) (decoder.events_left d (byte ∷ bytes))))
     ≡ after_bytes new.writer.out.items new.writer.messages.items (streams_of_items now new ending (emitted_by (is_whole ending) bytes (decoder.events_left e bytes)))
-byte_taken d e h now w new byte items law a bytes ending =
-    let rest = emitted_by (is_whole ending) bytes (decoder.events_left e bytes) in
-    ap (λ (xs : List (Result Char Fault)). after_bytes w.writer.out.items w.writer.messages.items (streams_of_items h w ending xs)) (items_next d e byte bytes items ending (law bytes))
-    ∙ items_taken h now w new items rest ending a
+byte_taken d e h now w new byte items law a bytes ending = grind (arith, items_next, items_taken)
 
 -- ---- a piece
 
 pub goes_on : (ended : Option RunEnding) → is_none ended ≡ true → ended ≡ None
-goes_on None running = refl
-goes_on (Some how) running = absurd (cc running)
+goes_on ended running = grind arith
 
 pub none_wait : (s : EngineState) → NothingWaits s → (rest : Streams) → with_waiting s rest ≡ rest
 none_wait s waits rest = ap (λ (o : List ℕ). after_bytes o s.messages rest) waits.output ∙ ap (λ (l : List ℕ). after_bytes [] l rest) waits.messages
 
 -- what bytes bring and bytes after them is what both bring
 pub brings_both : (old mid new : EngineState) (xs ys : List ℕ) → Brings old xs mid → Brings mid ys new → Brings old (xs ++ ys) new
-brings_both old mid new xs ys first second more ending =
-    ap (λ (bytes : List ℕ). with_waiting old (streams_left old ending bytes)) (append_assoc xs ys more) ∙ (first (ys ++ more) ending ∙ second more ending)
+brings_both old mid new xs ys first second more ending = grind (arith, append_assoc)
 
 -- a front of a front of a piece is a front of the piece
 pub front_of_front : (count most : ℕ) (piece : List ℕ) → count ≤ length (take most piece) → take count (take most piece) ≡ take count piece
 front_of_front count most piece within = let l = length-take most piece in take-take count most piece (omega (arith, within, l))
 
 pub found_over : (o : Option RunEnding) (w : Written) (score : ScoreStageState) → is_some o ≡ true → IfSome o (λ how. IsOver w score how) → (how : RunEnding) × IsOver w score how
-found_over (Some how) w score is over = (how, over)
-found_over None w score is over = absurd (cc is)
+found_over o w score is over = grind arith
 
 -- where the run is over, nothing is written
 pub over_left : (s : EngineState) (how : RunEnding) → IsOver s.written s.score how → (ending : SourceEnding) (bytes : List ℕ) → streams_left s ending bytes ≡ ended_by how
@@ -127,8 +99,7 @@ read_fault_if_broken s running gives =
     let outputs = concat_of (left_of s.score []) in
     let errors = s.written.errors || list_any is_error_finding (findings_in outputs) in
     ap (λ (t : Streams). t.status) (broken_is_said s (goes_on s.written.ended running) gives)
-    ∙ (ap (λ (f : Option Fault). status_by f (not (has_end outputs)) errors) gives.stop
-    ∙ ap (λ (b : Bool). status_by None (not b) errors) gives.end)
+    ∙ (λ i. status_by (gives.stop i) (not (gives.end i)) errors)
 
 -- and no fault
 pub no_fault_if_broken : (s : EngineState) → is_running s ≡ true → GivesNoLast (concat_of (left_of s.score [])) → (streams_left s Broken []).fault ≡ None

@@ -1,5 +1,5 @@
 -- Two engines that save the same write the same of whatever follows.
-use Rattle.std.proofs.Common.{◌≡◌, ℕ, List, Bool, true, false, is_some, Result, refl, ap, subst, ◌∙◌}
+use Rattle.std.proofs.Common.{◌≡◌, ℕ, List, Bool, true, false, is_some, Result, refl, arith}
 use Rattle.gabc_places.specs.DecoderMachine.{DecoderState, IsPartial}
 use Rattle.gabc_places.specs.BoundedList.{BoundedList}
 use Rattle.gabc_places.specs.DecoderReports.{MayBeReported, ReportTheSame, is_after_cr}
@@ -43,11 +43,7 @@ module _ (parts : PartsAgree) (one other : EngineState) (may : CanRun one) (may_
   Agree = (ending : SourceEnding) (bytes : List ℕ) → streams_left one ending bytes ≡ streams_left other ending bytes
 
   in_heads : one.written.headed ≡ false → Agree
-  in_heads headed =
-      let alike = saved_in_heads one other may may_too headed name same in
-      let d = alike.decoders in
-      heads_agree one other alike (parts.decoders one.decoder other.decoder d.runs d.other_runs d.limit may.decoder.partial d.told)
-      (parts.heads one.heads other.heads alike.limits alike.reads alike.other_reads alike.text)
+  in_heads headed = grind (arith, saved_in_heads, heads_agree)
 
   in_body : one.written.headed ≡ true → Agree
   in_body headed =
@@ -68,8 +64,7 @@ module _ (parts : PartsAgree) (one other : EngineState) (may : CanRun one) (may_
       (on.gives from_heads (come_in_line one other may may_too headed same ending bytes)))
 
   by_headed : (headed : Bool) → one.written.headed ≡ headed → Agree
-  by_headed true is = in_body is
-  by_headed false is = in_heads is
+  by_headed headed is = grind (arith, in_body, in_heads)
 
   pub engines_agree : Agree
   engines_agree = by_headed one.written.headed refl
@@ -78,15 +73,4 @@ module _ (parts : PartsAgree) (one other : EngineState) (may : CanRun one) (may_
 
 pub may_run : (d : DecoderState) (h : HeaderStageState) (from_heads : BoundedList HeadEvent) (w : ScoreWriterState) (e : EngineState) → IsEngine d h from_heads w → shown d h w ≡ e → is_running e ≡ true
     → MayBeReported d.limit d.taken d.place d.pending (is_after_cr d) → IsReachable w.score → CanRun e
-may_run d h from_heads w e is view running decoder score =
-    let runs = ap (λ (s : EngineState). is_running s) view ∙ running in
-    subst CanRun view (record {
-      runs = runs;
-      step = is.step.runs runs;
-      force = is.step.force;
-      read = is.headers runs;
-      limits = is.together.limits;
-      tells = is.tells runs;
-      decoder = decoder;
-      score = score;
-    })
+may_run d h from_heads w e is view running decoder score = grind arith

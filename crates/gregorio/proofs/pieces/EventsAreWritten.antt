@@ -1,15 +1,14 @@
 -- What follows for a writer that takes events one after the other.
-use Rattle.std.proofs.Common.{◌≡◌, ℕ, List, [], ◌∷◌, ◌++◌, length, drop, slice_index_or, ◌+◌, ◌<◌, Bool, false, ◌||◌, ◌&&◌, refl, ap, sym, subst, ◌∙◌, add-one, drop-cons}
+use Rattle.std.proofs.Common.{◌≡◌, ℕ, List, [], ◌∷◌, ◌++◌, length, drop, slice_index_or, ◌+◌, ◌<◌, Bool, false, ◌||◌, ◌&&◌, refl, ap, sym, subst, ◌∙◌, add-one, drop-cons, arith}
 use Rattle.std.proofs.lemmas.Bool.{or_parts}
 use Rattle.std.proofs.Math.Bool.{or-false}
 use Rattle.gabc_headers.specs.declared.head_event.HeadEvent.{HeadEvent}
-use Rattle.gabc_headers.specs.declared.head_event.HeadEvent.TheVariants as head_event
 use Rattle.gabc_score.specs.ScoreEvents.{ScoreOutput}
 use Rattle.gabc_score.specs.witness.ScoreStage.{left_of}
 use Rattle.gabc_headers.proofs.stages.CharactersOfAStage.{nothing_added}
 use Rattle.gabc_score.proofs.score_events.OutputsOfLentSyllables.{then_more}
 use Rattle.gregorio.specs.Streams.{Streams, after_bytes}
-use Rattle.gregorio.specs.witness.Engine.{Written, after_outputs, is_before_heads, is_heads, lines_of_outputs, streams_from, text_of_heads, texts_of_outputs, writes_heads}
+use Rattle.gregorio.specs.witness.Engine.{Written, is_before_heads, is_heads, lines_of_outputs, streams_from, text_of_heads, texts_of_outputs, writes_heads}
 use Rattle.gregorio.specs.machine.InStep.{PassesAll, TakesEvent, TakesEvents, written_at}
 use Rattle.gregorio.specs.machine.RunWriter.{RunWriterState, heads_at}
 use Rattle.gregorio.specs.machine.ScoreWriter.{ScoreWriterState, FitsEvents, IsBookAt, IsSteady, WritesAt, streams_of}
@@ -26,8 +25,7 @@ pub takes_other : (old new : ScoreWriterState) (x : HeadEvent) → is_heads x �
 takes_other old new x none takes = subst (λ (w : RunWriterState). TakesEvent old.score w x new) (sym (not_written old.writer x [] none)) takes
 
 same_text : (x : HeadEvent) (w : Written) (book read : List (List ℕ × List ℕ)) → IsBookAt x book read → text_of_heads w book (writes_heads w x) ≡ text_of_heads w read (writes_heads w x)
-same_text (head_event.Heads lines macros canonical) w book read same = ap (λ (b : List (List ℕ × List ℕ)). text_of_heads w b (is_before_heads w)) same
-same_text _ w book read same = refl
+same_text x w book read same = grind arith
 
 module _ (x : HeadEvent) (read : List (List ℕ × List ℕ)) (old new : ScoreWriterState) (t : TakesEvent old.score (heads_at old.writer x read) x new) where
   pub steady_event : IsSteady old new
@@ -49,21 +47,13 @@ module _ (x : HeadEvent) (read : List (List ℕ × List ℕ)) (old new : ScoreWr
         messages = ap (λ (u : RunWriterState). u.messages) t.writer;
         law = λ book from_heads same.
             ap (λ (lists : List (List ScoreOutput)). streams_from w book (x ∷ from_heads) lists) (t.law from_heads)
-            ∙ (ap (λ (text : List ℕ). after_bytes (text ++ texts) lines (streams_from (after_outputs v outputs) book from_heads (left_of new.score from_heads))) (same_text x w book read same)
-            ∙ ap (λ (u : Written). after_bytes (heads ++ texts) lines (streams_from u book from_heads (left_of new.score from_heads))) (sym t.passes.written));
+            ∙ (λ i. after_bytes (same_text x w book read same i ++ texts) lines (streams_from (sym t.passes.written i) book from_heads (left_of new.score from_heads)));
       }
 
 -- ---- events
 
 pub steady_both : (old mid new : ScoreWriterState) → IsSteady old mid → IsSteady mid new → IsSteady old new
-steady_both old mid new a b = record {
-  limits = b.limits ∙ a.limits;
-  format = b.format ∙ a.format;
-  name = b.name ∙ a.name;
-  all_warnings = b.all_warnings ∙ a.all_warnings;
-  out = b.out ∙ a.out;
-  messages = b.messages ∙ a.messages;
-}
+steady_both old mid new a b = grind arith
 
 pub steady_all : (events : List HeadEvent) (read : List (List ℕ × List ℕ)) (old new : ScoreWriterState) → TakesEvents old events read new → IsSteady old new
 steady_all [] read old new all = subst (λ (s : ScoreWriterState). IsSteady old s) all (record { limits = refl; format = refl; name = refl; all_warnings = refl; out = refl; messages = refl })
@@ -99,10 +89,7 @@ writes_all (x ∷ events) read old new all = writes_next x events read old all.0
 
 -- where the headers are not written at an event, and none come after it
 unheaded_later : (headed before heads later now : Bool) → now ≡ (headed || (heads && before)) → (headed || (heads || later)) ≡ false → (now || later) ≡ false
-unheaded_later headed before heads later now is h =
-    let first = or_parts headed (heads || later) h in
-    let second = or_parts heads later first.1 in
-    rw (is, first.0, second.0, second.1) refl
+unheaded_later headed before heads later now is h = grind (arith, or_parts)
 
 pub unheaded_all : (events : List HeadEvent) (old new : ScoreWriterState) → PassesAll old events new → headed_past old.writer.written.headed events ≡ false → new.writer.written.headed ≡ false
 unheaded_all [] old new all none = ap (λ (s : ScoreWriterState). s.writer.written.headed) (sym all) ∙ (sym (or-false old.writer.written.headed) ∙ none)

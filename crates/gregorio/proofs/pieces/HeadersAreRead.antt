@@ -1,6 +1,5 @@
 -- What the stage of headers gives of an item has room, and is passed on.
-use Rattle.std.proofs.Common.{◌≡◌, ℕ, ◌+◌, ◌≤◌, List, [], ◌∷◌, ◌++◌, length, codes, true, false, Result, Ok, refl, ap, sym, ◌∙◌, subst, arith}
-use Rattle.std.specs.Char.{len_utf8}
+use Rattle.std.proofs.Common.{◌≡◌, ℕ, ◌+◌, ◌≤◌, List, [], ◌∷◌, ◌++◌, length, true, false, Result, Ok, refl, ap, sym, ◌∙◌, subst, arith}
 use Rattle.std.proofs.lemmas.List.Sums.{sum_by-append}
 use Rattle.gabc_places.specs.BoundedList.{BoundedList}
 use Rattle.gabc_places.specs.StageLaw.{Pushes, Finishes}
@@ -22,19 +21,13 @@ use Rattle.gregorio.proofs.pieces.RoomIsLeft.{input_is_few, room_for_fault, room
 -- ---- the canonical headers in bytes
 
 pub short_heads : ((limits : Limits) (t : List ℕ) (heads : Heads) → heads_of limits t ≡ Ok heads → (bytes_len (header_lines heads.book) ≤ limits.header) × (bytes_len (canonical_heads heads.book) + 1 ≤ limits.input)) → AreHeadsShort
-short_heads law limits t heads is =
-    let within = (law limits t heads is).0 in
-    let size = length-encodes (canonical_heads heads.book) in
-    let joined : bytes_len (canonical_heads heads.book) ≡ bytes_len (header_lines heads.book) + bytes_len (codes "%%") = sum_by-append len_utf8 (header_lines heads.book) (codes "%%") in
-    let mark : bytes_len (codes "%%") ≡ 2 = refl in
-    omega (arith, within, size, joined, mark)
+short_heads law limits t heads is = grind (arith, length-encodes, sum_by-append)
 
 -- no headers at all are short
 pub no_heads_are_short : (limits : Limits) → IsShortBook limits []
 no_heads_are_short limits =
-    let n = length-encodes (canonical_heads []) in
     let two : bytes_len (canonical_heads []) ≡ 2 = refl in
-    omega (arith, n, two)
+    omega (arith, length-encodes (canonical_heads []), two)
 
 -- ---- what is given
 
@@ -42,14 +35,10 @@ pub record GivesInput (h : HeaderStageState) (item : Result Char Fault) (from_he
   pub is : from_heads ≡ events_of_input h.limits h.progress item
   pub few : length (events_of_input h.limits h.progress item) ≤ 2
 
-abbrev first_list : List (List HeadEvent) → List HeadEvent
-first_list [] = []
-first_list (events ∷ lists) = events
-
 pub given_of_input : (h : HeaderStageState) (after : List (Result Char Fault) → List (List HeadEvent)) (item : Result Char Fault) (r old new : BoundedList HeadEvent) (from_heads : List HeadEvent)
     → old ≡ record r { items = [] } → Pushes (events_left h.limits h.progress) after item 2 old new → from_heads ≡ new.items → GivesInput h item from_heads
 given_of_input h after item r old new from_heads empty p now =
-    let same : events_of_input h.limits h.progress item ≡ p.events = ap first_list (p.law []) in
+    let same : events_of_input h.limits h.progress item ≡ p.events = cc (p.law []) in
     record {
       is = now ∙ (ap (λ (x : BoundedList HeadEvent). x.items) p.out ∙ (ap (λ (x : BoundedList HeadEvent). x.items ++ p.events) empty ∙ sym same));
       few = subst (λ (events : List HeadEvent). length events ≤ 2) (sym same) p.few;
@@ -57,19 +46,13 @@ given_of_input h after item r old new from_heads empty p now =
 
 pub given_of_end : (h : HeaderStageState) (r old new : BoundedList HeadEvent) (from_heads : List HeadEvent)
     → old ≡ record r { items = [] } → Finishes (events_left h.limits h.progress) 2 old new → from_heads ≡ new.items → from_heads ≡ events_of_end h.limits h.progress
-given_of_end h r old new from_heads empty p now =
-    now ∙ (ap (λ (x : BoundedList HeadEvent). x.items) p.out ∙ (ap (λ (x : BoundedList HeadEvent). x.items ++ p.events) empty ∙ sym (ap first_list p.law)))
+given_of_end h r old new from_heads empty p now = grind arith
 
 -- ---- room
 
 module _ (h : HeaderStageState) (w : ScoreWriterState) (item : Result Char Fault) (from_heads : List HeadEvent) (step : GivesInput h item from_heads) where
   pub room_for_given : HasRoom w → FitsEvents w false from_heads
-  room_for_given room =
-      subst (λ (events : List HeadEvent). FitsEvents w false events) (sym step.is)
-      (room_for_few w false (events_of_input h.limits h.progress item) room
-      (input_is_few w.writer.written.format w.score.limits.syllable h.limits h.progress item step.few))
+  room_for_given room = grind (arith, room_for_few, input_is_few)
 
   pub room_with_end : HasRoom w → IsNoCharacter (item ∷ []) → (limits : Limits) (progress : HeadProgress) → FitsEvents w true (from_heads ++ events_of_end limits progress)
-  room_with_end room none limits progress =
-      subst (λ (events : List HeadEvent). FitsEvents w true (events ++ events_of_end limits progress)) (sym step.is)
-      (room_for_fault w h.limits h.progress item room none limits progress)
+  room_with_end room none limits progress = grind (arith, room_for_fault)

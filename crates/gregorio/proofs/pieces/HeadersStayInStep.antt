@@ -1,5 +1,5 @@
 -- The parts of an engine stay in step in its headers.
-use Rattle.std.proofs.Common.{◌≡◌, ℕ, ◌+◌, ◌||◌, not, List, [], ◌∷◌, ◌++◌, map, Bool, true, false, Option, Some, None, is_none, is_some, Result, Ok, Err, if◌then◌else◌, refl, ap, sym, subst, ◌∙◌, arith}
+use Rattle.std.proofs.Common.{◌≡◌, ℕ, ◌+◌, ◌||◌, not, List, [], ◌∷◌, ◌++◌, map, Bool, true, false, Option, is_none, is_some, Result, Ok, Err, if◌then◌else◌, refl, ap, sym, subst, ◌∙◌, arith}
 use Rattle.std.proofs.lemmas.Bool.{false≢true}
 use Rattle.std.specs.List.{list_any}
 use Rattle.gabc_places.specs.DecoderMachine.{DecoderState}
@@ -22,7 +22,7 @@ use Rattle.gabc_headers.specs.Lines.{bytes_len}
 use Rattle.gabc_score.specs.declared.score_machine.ScorePart.{ScorePart}
 use Rattle.gabc_score.specs.declared.score_machine.ScorePart.TheVariants as score_part
 use Rattle.gabc_score.specs.Before.{no_syllable, with_placed}
-use Rattle.gabc_score.specs.ScoreEvents.{ScoreOutput, is_last, syllables_in}
+use Rattle.gabc_score.specs.ScoreEvents.{ScoreOutput, syllables_in}
 use Rattle.gabc_score.specs.ScoreStage.{Counts, most_whole, part_past}
 use Rattle.gabc_score.specs.ReportedWithin.{whole_syllables}
 use Rattle.gregorio.specs.declared.run_ending.RunEnding.{RunEnding}
@@ -47,9 +47,6 @@ pub record HeadsYet (limits : Limits) (s : ScoreWriterState) : Type 0 where
   pub same : s.score.limits ≡ limits
   pub yet : is_none s.writer.written.ended ≡ true → InHeads s
 
-heads_stay : (f : Finding) (outputs : List ScoreOutput) (part : ScorePart) → part ≡ score_part.Heads → list_any is_last outputs ≡ false → part_past part (head_event.Found f) outputs ≡ score_part.Heads
-heads_stay f outputs part heads none = rw (heads, none) refl
-
 pub found_passed : (limits : Limits) (f : Finding) (old mid : ScoreWriterState) → PassesOn old.score (written_at old.writer.written (head_event.Found f)) (head_event.Found f) mid → HeadsYet limits old → HeadsYet limits mid
 found_passed limits f old mid p b =
     let w = written_at old.writer.written (head_event.Found f) in
@@ -61,7 +58,7 @@ found_passed limits f old mid p b =
           let on = went_on_past old.score w (head_event.Found f) mid p running in
           let i = b.yet on.before in
           record {
-            part = p.part ∙ heads_stay f p.outputs old.score.part i.part on.none_last;
+            part = p.part ∙ rw (i.part, on.none_last) refl;
             none = ap (λ (v : Written). v.count) p.written ∙ (none_counted p.outputs w unheaded ∙ i.none);
           };
     }
@@ -86,14 +83,10 @@ pub record StepsTo (progress : HeadProgress) (s : ScoreWriterState) : Type 0 whe
   pub counts : (place : Place) → Counts place s.score
 
 headed_now : (headed : Bool) (ended : Option RunEnding) → headed ≡ false → is_none ended ≡ true → (headed || not (headed || is_some ended)) ≡ true
-headed_now headed None un runs = rw un refl
-headed_now headed (Some status) un runs = absurd (false≢true runs)
+headed_now headed ended un runs = grind arith
 
 pub to_body : (lines macros canonical : ℕ) (outputs : List ScoreOutput) (part : ScorePart) → part ≡ score_part.Heads → part_past part (head_event.Heads lines macros canonical) outputs ≡ score_part.Body
 to_body lines macros canonical outputs part heads = rw heads refl
-
-none_whole : (lines macros canonical : ℕ) (part : ScorePart) (n : ℕ) → part ≡ score_part.Heads → most_whole part (head_event.Heads lines macros canonical) n ≡ 0
-none_whole lines macros canonical part n heads = rw heads refl
 
 heads_passed : (limits : Limits) (lines macros canonical : ℕ) (book : List (List ℕ × List ℕ)) (old mid : ScoreWriterState)
     → PassesOn old.score (written_at old.writer.written (head_event.Heads lines macros canonical)) (head_event.Heads lines macros canonical) mid → HeadsYet limits old
@@ -106,13 +99,12 @@ heads_passed limits lines macros canonical book old mid p b running =
     let headed : w.headed ≡ true = headed_now old.writer.written.headed old.writer.written.ended b.unheaded on.before in
     let body : mid.score.part ≡ score_part.Body = p.part ∙ to_body lines macros canonical p.outputs old.score.part i.part in
     let start = no_syllable canonical in
-    let few = p.few in
     let more = few_more (syllables_in p.outputs) start in
     let count : mid.writer.written.count ≡ (with_placed start (syllables_in p.outputs)).syllables = ap (λ (v : Written). v.count) p.written ∙ counted p.outputs w start headed i.none in
     record {
       parts = one_part (after_headers book) mid.score.part mid.writer.written.headed (ap (λ (v : Written). v.headed) p.written ∙ (headed_stays w p.outputs ∙ headed)) tt body;
-      none = omega (arith, few, more, count);
-      whole = λ is. let most = p.whole body in let none = none_whole lines macros canonical old.score.part (whole_syllables old.score) i.part in omega (arith, most, none);
+      none = omega (arith, more, count);
+      whole = λ is. let most = p.whole body in let none : most_whole old.score.part x (whole_syllables old.score) ≡ 0 = ap (λ (part : ScorePart). most_whole part x (whole_syllables old.score)) i.part in omega (arith, most, none);
       counts = λ place. p.counts place tt (λ was. absurd (cc (was, i.part)));
     }
 
@@ -125,12 +117,7 @@ stops limits fault old new all b running =
     false≢true (sym on.none_last ∙ p.last (λ is. cc (is, (b.yet on.before).part)) refl)
 
 in_headers : (t : List ℕ) (s : ScoreWriterState) → s.writer.written.headed ≡ false → InHeads s → StepsTo (reading t) s
-in_headers t s unheaded i = record {
-  parts = record { in_part = i.part; written_so = unheaded };
-  none = i.none;
-  whole = λ is. absurd (false≢true (sym unheaded ∙ is));
-  counts = λ place body. absurd (cc (body, i.part));
-}
+in_headers t s unheaded i = grind arith
 
 module _ (limits : Limits) (found : List Finding) (t : List ℕ) (old new : ScoreWriterState) (yet : HeadsYet limits old) (running : is_none new.writer.written.ended ≡ true) where
   by_end : (at_end : Bool) (fault : Fault) → PassesAll old (if at_end then found_events found else head_event.Stop fault ∷ []) new → StepsTo (if at_end then reading t else over) new
@@ -173,14 +160,13 @@ module _ (d e : DecoderState) (h : HeaderStageState) (old new : ScoreWriterState
       let here = subst (λ (p : HeadProgress). PassesAll old (events_of_input h.limits p item) new) i.1.0 all in
       let on = runs_on h.limits i.0 item old new d e i.1.1 here running moves (record { column = was.column; near = was.near }) in
       let steps = subst (λ (p : HeadProgress). StepsTo (progress_after h.limits p item) new) (sym i.1.0) (by_item h.limits old new running i.1.1 i.0 item here) in
-      let taken = on.1.0 in
       record {
         runs = on.0 ∙ was.runs;
         limit = moves.limit ∙ (was.limit ∙ ap (λ (l : Limits). l.input) (sym limits));
         parts = steps.parts;
         none = λ un. steps.none;
         count = λ is. let none = steps.none in let whole = steps.whole is in omega (arith, none, whole);
-        taken = λ is. let whole = steps.whole is in omega (arith, whole, taken);
+        taken = λ is. let whole = steps.whole is in omega (arith, whole);
         column = on.1.1.column;
         near = on.1.1.near;
         counts = λ within. steps.counts e.place;
@@ -213,8 +199,7 @@ pub record HeadersEnd (limits : Limits) (progress : HeadProgress) (item : Result
 
 -- in a run that is over they are not written
 none_written : (headed : Bool) (ended : Option RunEnding) → headed ≡ false → is_none ended ≡ false → (headed || not (headed || is_some ended)) ≡ false
-none_written headed None un done = absurd (cc done)
-none_written headed (Some status) un done = rw un refl
+none_written headed ended un done = grind arith
 
 module _ (limits : Limits) (t : List ℕ) (x : Char) (heads : Heads) (whole : heads_of limits (t ++ x.c ∷ []) ≡ Ok heads) (mid new : ScoreWriterState) (b : HeadsYet limits mid)
     (p : PassesOn mid.score (written_at mid.writer.written (event_of_book heads.book)) (event_of_book heads.book) new) (headed : new.writer.written.headed ≡ true) where
@@ -236,11 +221,7 @@ module _ (limits : Limits) (old new : ScoreWriterState) (b : HeadsYet limits old
       let last = found_all limits found (event_of_book heads.book ∷ []) old new b all in
       subst (λ (s : ScoreWriterState). HeadersEndAt limits t x s.score) last.1.1.1.1
       (head_is_told limits t x heads whole last.0 last.1.1.0 last.1.0 last.1.1.1.0 (subst (λ (s : ScoreWriterState). s.writer.written.headed ≡ true) (sym last.1.1.1.1) headed))
-  ends_by t x found (Err stopped) whole all some = absurd (some (by stopped.at_end))
-    where
-      by : (at_end : Bool) → list_any is_heads (if at_end then found_events found else head_event.Stop stopped.fault ∷ []) ≡ false
-      by true = just_found found
-      by false = refl
+  ends_by t x found (Err stopped) whole all some = grind (arith, just_found)
 
   ends_with : (progress : HeadProgress) (item : Result Char Fault) → PassesAll old (events_of_input limits progress item) new → (list_any is_heads (events_of_input limits progress item) ≡ false → ⊥)
       → HeadersEnd limits progress item new.score

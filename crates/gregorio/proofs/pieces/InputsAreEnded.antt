@@ -1,13 +1,11 @@
 -- The end of an input, or the failure of its source, brings what was still to come.
-use Rattle.std.proofs.Common.{◌≡◌, ◌≤◌, ◌&&◌, not, ℕ, inr, Bool, true, false, if◌then◌else◌, List, [], ◌∷◌, ◌++◌, Option, Some, None, is_none, option_to_list, Result, Ok, Err, ap, sym, ◌∙◌, subst}
-use Rattle.std.proofs.lemmas.Bool.{false≢true}
+use Rattle.std.proofs.Common.{◌≡◌, ◌≤◌, ℕ, inr, List, [], ◌∷◌, ◌++◌, Option, Some, option_to_list, Result, ap, sym, ◌∙◌, subst, arith}
 use Rattle.gabc_places.specs.BoundedList.{BoundedList, extended_by}
 use Rattle.gabc_places.specs.StageLaw.{concat_of}
-use Rattle.gabc_places.specs.declared.code.Code.TheVariants.{F1}
 use Rattle.gabc_places.specs.declared.code.Fault.{Fault}
 use Rattle.gabc_places.specs.declared.limits.Limits.{Limits}
 use Rattle.gabc_places.specs.declared.place.Char.{Char}
-use Rattle.gabc_places.specs.DecoderMachine.{DecoderState, is_unfinished}
+use Rattle.gabc_places.specs.DecoderMachine.{DecoderState}
 use Rattle.gabc_places.specs.witness.DecoderEvents as decoder
 use Rattle.gabc_headers.specs.declared.heads.Heads.{Heads}
 use Rattle.gabc_headers.specs.declared.heads.HeadFault.{HeadFault}
@@ -52,17 +50,13 @@ ends_last w new how book a = record { output = a.output; lines = a.lines; out = 
 
 pub ends_now : (s : Streams) (w new : ScoreWriterState) (how : RunEnding) → EndsWith s w new how → w.writer.out.items ≡ [] → w.writer.messages.items ≡ []
     → s ≡ after_bytes new.writer.out.items new.writer.messages.items (ended_by how)
-ends_now s w new how e output messages =
-    e.law
-    ∙ (ap (λ (o : List ℕ). after_bytes o e.lines (ended_by how)) (sym (waits_now w.writer.out new.writer.out e.output output e.out))
-    ∙ ap (λ (l : List ℕ). after_bytes new.writer.out.items l (ended_by how)) (sym (waits_now w.writer.messages new.writer.messages e.lines messages e.messages)))
+ends_now s w new how e output messages = grind (arith, waits_now)
 
 -- ---- after the end
 
 -- the status and the fault of a run that is over say how it ended
 pub ended_as : (how : RunEnding) (status : Status) (ended : Option RunEnding) → status ≡ status_of_ending how → ended ≡ Some how → ended_by how ≡ ended_with status (fault_of_ending (ceased_ending ended))
-ended_as how status ended told is =
-    ap (λ (s : Status). ended_with s (fault_of_ending how)) (sym told) ∙ ap (λ (o : Option RunEnding). ended_with status (fault_of_ending (ceased_ending o))) (sym is)
+ended_as how status ended told is = grind arith
 
 -- so does an engine that is over, whatever comes
 pub over_says : (s : EngineState) (how : RunEnding) (status : Status) → IsOver s.written s.score how → status ≡ status_of_ending how → (bytes : List ℕ) (ending : SourceEnding)
@@ -74,12 +68,7 @@ over_is_settled w how o book other from_heads more = over_is_last w.writer.writt
 
 -- a writer that is over goes together with a stage that has the same limits
 pub over_together : (h : HeaderStageState) (old new : ScoreWriterState) (how : RunEnding) → GoTogether h old → IsSteady old new → IsOver new.writer.written new.score how → GoTogether h new
-over_together h old new how together steady o = record {
-  limits = together.limits ∙ sym steady.limits;
-  headed = λ e. inr (over_is_settled new how o);
-  book = together.book;
-  short = together.short;
-}
+over_together h old new how together steady o = grind (arith, over_is_settled)
 
 -- with that stage after its last event too
 pub over_stage : (h : HeaderStageState) (old new : ScoreWriterState) (how : RunEnding) → GoTogether h old → IsSteady old new → IsOver new.writer.written new.score how → GoTogether (stage_at h over) new
@@ -88,23 +77,12 @@ over_stage h old new how together steady o = record { limits = together.limits �
 -- an engine that is over need not be in step
 pub over_is_engine : (d : DecoderState) (h : HeaderStageState) (from_heads : BoundedList HeadEvent) (w : ScoreWriterState) (how : RunEnding) → 2 ≤ from_heads.limit → GoTogether h w → IsReserved w
     → HasForce w.writer.written → IsOver w.writer.written w.score how → IsEngine d h from_heads w
-over_is_engine d h from_heads w how few together reserved force o = record {
-  few = few;
-  together = together;
-  reserved = reserved;
-  step = record { force = force; runs = λ running. absurd (stopped running) };
-  headers = λ running. absurd (stopped running);
-  tells = λ running. absurd (stopped running);
-}
-  where
-    stopped : is_none w.writer.written.ended ≡ true → ⊥
-    stopped running = false≢true (sym (ap (λ (o : Option RunEnding). is_none o) o.ended) ∙ running)
+over_is_engine d h from_heads w how few together reserved force o = grind arith
 
 -- ---- the end of the input
 
 books_by : (r : Result Heads HeadFault) (book read : List (List ℕ × List ℕ)) → AreBooksAt (events_at_end r) book read
-books_by (Ok heads) book read = tt
-books_by (Err stopped) book read = (tt, tt)
+books_by r book read = grind arith
 
 no_books_at_end : (limits : Limits) (progress : HeadProgress) (book read : List (List ℕ × List ℕ)) → AreBooksAt (events_of_end limits progress) book read
 no_books_at_end limits (reading t) book read = books_by (heads_of limits t) book read
@@ -131,14 +109,4 @@ ends_items d h now w mid new how items law a e =
 
 -- at the end of the input it gives a fault or nothing
 pub no_character_at_end : (d : DecoderState) (item : Option (Result Char Fault)) → decoder.events_left d [] ≡ option_to_list item ∷ [] → IsNoCharacter (option_to_list item)
-no_character_at_end d item law = by (not d.ended && is_unfinished d.pending) item (ap first_items law)
-  where
-    first_items : List (List (Result Char Fault)) → List (Result Char Fault)
-    first_items [] = []
-    first_items (items ∷ lists) = items
-
-    by : (b : Bool) (item : Option (Result Char Fault)) → (if b then decoder.stop_with F1 d else record { events = []; state = record d { ended = true } }).events ≡ option_to_list item → IsNoCharacter (option_to_list item)
-    by b None e = tt
-    by b (Some (Err fault)) e = tt
-    by true (Some (Ok x)) e = absurd (cc e)
-    by false (Some (Ok x)) e = absurd (cc e)
+no_character_at_end d item law = grind arith

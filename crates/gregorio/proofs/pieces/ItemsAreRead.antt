@@ -1,6 +1,5 @@
 -- An item that is read, by way of the stage of headers or after the line `%%` without it, brings what was to come for it.
-use Rattle.std.proofs.Common.{◌≡◌, ℕ, ◌⊎◌, inl, inr, List, [], ◌∷◌, ◌++◌, map, Bool, true, false, ◌||◌, cond, Result, Ok, Err, refl, ap, sym, ◌∙◌, subst}
-use Rattle.std.proofs.lemmas.Bool.{true≢false}
+use Rattle.std.proofs.Common.{◌≡◌, ℕ, ◌⊎◌, inl, inr, List, [], ◌∷◌, ◌++◌, map, Bool, true, false, cond, Result, Ok, Err, refl, ap, sym, ◌∙◌, subst, append-nil, arith}
 use Rattle.std.specs.List.{list_any}
 use Rattle.std.specs.declared.hash.DefaultHasher.{DefaultHasher}
 use Rattle.gabc_places.specs.StageLaw.{concat_of}
@@ -30,8 +29,7 @@ use Rattle.gregorio.proofs.pieces.BytesAreJoined.{after_same}
 
 given_next : (h : HeaderStageState) (ending : SourceEnding) (item : Result Char Fault) (items : List (Result Char Fault))
     → head_events_left h ending (item ∷ items) ≡ events_of_input h.limits h.progress item ++ head_events_left (stage_after h item) ending items
-given_next h Ended item items = refl
-given_next h Broken item items = refl
+given_next h ending item items = grind arith
 
 past_over : (limits : Limits) (hasher : DefaultHasher) (book : List (List ℕ × List ℕ)) (items : List (Result Char Fault)) → (stage_past (record { limits = limits; progress = over; book = book; hasher = hasher }) items).book ≡ book
 past_over limits hasher book [] = refl
@@ -54,10 +52,6 @@ found_books : (fs : List Finding) (rest : List HeadEvent) (book read : List (Lis
 found_books [] rest book read h = h
 found_books (f ∷ fs) rest book read h = (tt, found_books fs rest book read h)
 
-just_found_books : (fs : List Finding) (book read : List (List ℕ × List ℕ)) → AreBooksAt (map (λ f. head_event.Found f) fs) book read
-just_found_books [] book read = tt
-just_found_books (f ∷ fs) book read = (tt, just_found_books fs book read)
-
 books_by : (limits : Limits) (hasher : DefaultHasher) (t : List ℕ) (old : List (List ℕ × List ℕ)) (found : List Finding) (r : Result Heads HeadFault) (items : List (Result Char Fault))
     → AreBooksAt (events_by found r) (stage_past (record { limits = limits; progress = progress_by t r; book = book_at (progress_by t r) old; hasher = hasher }) items).book (book_at (progress_by t r) old)
 books_by limits hasher t old found (Ok heads) items = found_books found (event_of_book heads.book ∷ []) _ heads.book (past_after limits hasher heads.book items, tt)
@@ -65,7 +59,7 @@ books_by limits hasher t old found (Err stopped) items = by stopped.at_end
   where
     by : (at_end : Bool) → AreBooksAt (cond at_end (map (λ f. head_event.Found f) found) (head_event.Stop stopped.fault ∷ []))
         (stage_past (record { limits = limits; progress = cond at_end (reading t) over; book = book_at (cond at_end (reading t) over) old; hasher = hasher }) items).book (book_at (cond at_end (reading t) over) old)
-    by true = just_found_books found _ _
+    by true = rw (← append-nil (map (λ (f : Finding). head_event.Found f) found)) (found_books found [] _ _ tt)
     by false = (tt, tt)
 
 -- the book at the line `%%` is the one that all later items leave
@@ -73,22 +67,13 @@ books_are_kept : (limits : Limits) (hasher : DefaultHasher) (progress : HeadProg
     → (let h : HeaderStageState = record { limits = limits; progress = progress; book = old; hasher = hasher } in
     AreBooksAt (events_of_input limits progress item) (stage_past (stage_after h item) items).book (stage_after h item).book)
 books_are_kept limits hasher (reading t) old (Ok c) items = books_by limits hasher (t ++ c.c ∷ []) old (new_findings limits t (t ++ c.c ∷ [])) (heads_of limits (t ++ c.c ∷ [])) items
-books_are_kept limits hasher (reading t) old (Err fault) items = (tt, tt)
 books_are_kept limits hasher (after_headers book) old (Ok c) items = (tt, tt)
-books_are_kept limits hasher (after_headers book) old (Err fault) items = (tt, tt)
 books_are_kept limits hasher over old item items = tt
+books_are_kept limits hasher _ old _ items = (tt, tt)
 
 pub items_by_heads : (h : HeaderStageState) (w new : ScoreWriterState) (item : Result Char Fault) → WritesAll w (events_of_input h.limits h.progress item) (stage_after h item).book new
     → WritesItems h w (item ∷ []) (stage_after h item) new
-items_by_heads h w new item a = record {
-  output = a.output;
-  lines = a.lines;
-  out = a.out;
-  messages = a.messages;
-  law = λ ending more.
-      ap (λ (from_heads : List HeadEvent). streams_of w (book_after (stage_after h item) more) from_heads) (given_next h ending item more)
-      ∙ a.law (book_after (stage_after h item) more) (head_events_left (stage_after h item) ending more) (books_are_kept h.limits h.hasher h.progress h.book item more);
-}
+items_by_heads h w new item a = grind (arith, given_next, books_are_kept)
 
 -- ---- what holds of it then
 
@@ -107,24 +92,16 @@ after_by t found (Err stopped) = inr (by stopped.at_end)
 
 pub after_or_none : (limits : Limits) (progress : HeadProgress) (item : Result Char Fault) → IsAfterHeaders (progress_after limits progress item) ⊎ (list_any is_heads (events_of_input limits progress item) ≡ false)
 after_or_none limits (reading t) (Ok c) = after_by (t ++ c.c ∷ []) (new_findings limits t (t ++ c.c ∷ [])) (heads_of limits (t ++ c.c ∷ []))
-after_or_none limits (reading t) (Err fault) = inr refl
 after_or_none limits (after_headers book) (Ok c) = inl tt
-after_or_none limits (after_headers book) (Err fault) = inr refl
-after_or_none limits over item = inr refl
+after_or_none limits _ _ = inr refl
 
 book_is_read : (progress : HeadProgress) (old : List (List ℕ × List ℕ)) → IsBookRead progress (book_at progress old)
-book_is_read (reading t) old = tt
 book_is_read (after_headers book) old = refl
-book_is_read over old = tt
+book_is_read _ old = tt
 
 short_by : (limits : Limits) (t : List ℕ) (old : List (List ℕ × List ℕ)) (r : Result Heads HeadFault) → ((heads : Heads) → r ≡ Ok heads → IsShortBook limits heads.book) → IsShortBook limits old
     → IsShortBook limits (book_at (progress_by t r) old)
-short_by limits t old (Ok heads) short h = short heads refl
-short_by limits t old (Err stopped) short h = by stopped.at_end
-  where
-    by : (at_end : Bool) → IsShortBook limits (book_at (cond at_end (reading t) over) old)
-    by true = h
-    by false = h
+short_by limits t old r short h = grind arith
 
 -- canonical headers are within the limit
 abbrev pub AreHeadsShort : Type 0
@@ -133,27 +110,15 @@ AreHeadsShort = (limits : Limits) (t : List ℕ) (heads : Heads) → heads_of li
 short_after : AreHeadsShort → (limits : Limits) (progress : HeadProgress) (old : List (List ℕ × List ℕ)) (item : Result Char Fault) → IsBookRead progress old → IsShortBook limits old
     → IsShortBook limits (book_at (progress_after limits progress item) old)
 short_after heads_short limits (reading t) old (Ok c) read h = short_by limits (t ++ c.c ∷ []) old (heads_of limits (t ++ c.c ∷ [])) (heads_short limits (t ++ c.c ∷ [])) h
-short_after heads_short limits (reading t) old (Err fault) read h = h
 short_after heads_short limits (after_headers book) old (Ok c) read h = subst (λ (b : List (List ℕ × List ℕ)). IsShortBook limits b) (sym read) h
-short_after heads_short limits (after_headers book) old (Err fault) read h = h
-short_after heads_short limits over old item read h = h
+short_after heads_short limits _ old _ read h = h
 
 pub together_by_heads : (h : HeaderStageState) (w new : ScoreWriterState) (item : Result Char Fault) → AreHeadsShort → GoTogether h w → w.writer.written.headed ≡ false
     → (headed_past w.writer.written.headed (events_of_input h.limits h.progress item) ≡ false → new.writer.written.headed ≡ false) → IsSteady w new → GoTogether (stage_after h item) new
-together_by_heads h w new item heads_short together unheaded past steady = record {
-  limits = together.limits ∙ sym steady.limits;
-  headed = λ e. inl (by e (after_or_none h.limits h.progress item));
-  book = book_is_read (progress_after h.limits h.progress item) h.book;
-  short = short_after heads_short h.limits h.progress h.book item together.book together.short;
-}
-  where
-    by : new.writer.written.headed ≡ true → IsAfterHeaders (progress_after h.limits h.progress item) ⊎ (list_any is_heads (events_of_input h.limits h.progress item) ≡ false) → IsAfterHeaders (progress_after h.limits h.progress item)
-    by headed (inl is) = is
-    by headed (inr none) = absurd (true≢false (sym headed ∙ past (ap (λ (b : Bool). b || list_any is_heads (events_of_input h.limits h.progress item)) unheaded ∙ none)))
+together_by_heads h w new item heads_short together unheaded past steady = grind (arith, after_or_none, book_is_read, short_after)
 
 pub short_stage_after : (h : HeaderStageState) (w : ScoreWriterState) (item : Result Char Fault) → AreHeadsShort → GoTogether h w → IsShortBook w.score.limits (stage_after h item).book
-short_stage_after h w item heads_short together =
-    subst (λ (limits : Limits). IsShortBook limits (stage_after h item).book) together.limits (short_after heads_short h.limits h.progress h.book item together.book together.short)
+short_stage_after h w item heads_short together = grind (arith, short_after)
 
 -- ---- the body
 
@@ -170,15 +135,12 @@ stop_in_body last w headed fault book other from_heads more =
 
 -- an item of the body has no book
 no_book : (item : Result Char Fault) (book read : List (List ℕ × List ℕ)) → IsBookAt (event_of_item item) book read
-no_book (Ok c) book read = tt
-no_book (Err fault) book read = tt
+no_book item book read = grind arith
 
 -- where it is no matter what comes after an event, it is none later
 settled_after : (w new : ScoreWriterState) (item : Result Char Fault) → WritesAt w (event_of_item item) [] new
     → ((book other : List (List ℕ × List ℕ)) (from_heads more : List HeadEvent) → streams_of w book (event_of_item item ∷ from_heads) ≡ streams_of w other (event_of_item item ∷ more)) → IsSettled new
-settled_after w new item a same = λ book other from_heads more.
-    after_same a.output a.lines (streams_of new book from_heads) (streams_of new other more)
-    (sym (a.law book from_heads (no_book item book [])) ∙ (same book other from_heads more ∙ a.law other more (no_book item other [])))
+settled_after w new item a same = grind (arith, after_same, no_book)
 
 pub record ReadsItem (h : HeaderStageState) (w : ScoreWriterState) (item : Result Char Fault) (new : ScoreWriterState) : Type 0 where
   pub writes : WritesItems h w (item ∷ []) h new
@@ -204,49 +166,19 @@ module _ (w new : ScoreWriterState) (item : Result Char Fault) (a : WritesAt w (
 
 character_read : (limits : Limits) (hasher : DefaultHasher) (book : List (List ℕ × List ℕ)) (w new : ScoreWriterState) (c : Char) → WritesAt w (head_event.Body c) [] new
     → (let h : HeaderStageState = record { limits = limits; progress = after_headers book; book = book; hasher = hasher } in WritesItems h w (Ok c ∷ []) h new)
-character_read limits hasher book w new c a =
-    let h : HeaderStageState = record { limits = limits; progress = after_headers book; book = book; hasher = hasher } in
-    record {
-      output = a.output;
-      lines = a.lines;
-      out = a.out;
-      messages = a.messages;
-      law = λ ending more.
-          ap (λ (from_heads : List HeadEvent). streams_of w (book_after h more) from_heads) (given_next h ending (Ok c) more)
-          ∙ a.law (book_after h more) (head_events_left h ending more) tt;
-    }
+character_read limits hasher book w new c a = grind (arith, given_next)
 
 stop_read : IsStopLast → (h : HeaderStageState) (book : List (List ℕ × List ℕ)) (w new : ScoreWriterState) (fault : Fault) → h.progress ≡ after_headers book → WritesAt w (head_event.Stop fault) [] new
     → IsSettled new → WritesItems h w (Err fault ∷ []) h new
-stop_read last h book w new fault progress a settled = record {
-  output = a.output;
-  lines = a.lines;
-  out = a.out;
-  messages = a.messages;
-  law = λ ending more.
-      let rest = head_events_left (stage_after h (Err fault)) ending more in
-      ap (λ (from_heads : List HeadEvent). streams_of w (book_after h (Err fault ∷ more)) from_heads)
-      (given_next h ending (Err fault) more ∙ ap (λ (p : HeadProgress). events_of_input h.limits p (Err fault) ++ rest) progress)
-      ∙ (a.law (book_after h (Err fault ∷ more)) rest tt
-      ∙ ap (λ (s : Streams). after_bytes a.output a.lines s) (settled (book_after h (Err fault ∷ more)) (book_after h more) rest (head_events_left h ending more)));
-}
+stop_read last h book w new fault progress a settled = grind (arith, given_next)
 
 module _ (last : IsStopLast) (limits : Limits) (hasher : DefaultHasher) (w new : ScoreWriterState) (headed : w.writer.written.headed ≡ true) (steady : IsSteady w new) where
   after_item : (progress : HeadProgress) (book : List (List ℕ × List ℕ)) (item : Result Char Fault) → WritesAt w (event_of_item item) [] new → IsAfterHeaders progress
       → (let h : HeaderStageState = record { limits = limits; progress = progress; book = book; hasher = hasher } in GoTogether h w → ReadsItem h w item new)
   after_item (reading t) book item a is together = absurd is
   after_item over book item a is together = absurd is
-  after_item (after_headers other) book (Ok c) a is together = record {
-    writes = subst (λ (b : List (List ℕ × List ℕ)). let h : HeaderStageState = record { limits = limits; progress = after_headers b; book = book; hasher = hasher } in WritesItems h w (Ok c ∷ []) h new)
-        (sym together.book) (character_read limits hasher book w new c a);
-    together = record { limits = together.limits ∙ sym steady.limits; headed = λ e. inl tt; book = together.book; short = together.short };
-  }
-  after_item (after_headers other) book (Err fault) a is together =
-      let settled : IsSettled new = settled_after w new (Err fault) a (stop_in_body last w headed fault) in
-      record {
-        writes = stop_read last (record { limits = limits; progress = after_headers other; book = book; hasher = hasher }) other w new fault refl a settled;
-        together = record { limits = together.limits ∙ sym steady.limits; headed = λ e. inr settled; book = together.book; short = together.short };
-      }
+  after_item (after_headers other) book (Ok c) a is together = grind (arith, character_read)
+  after_item (after_headers other) book (Err fault) a is together = grind (arith, settled_after, stop_in_body, stop_read)
 
 pub reads_item : IsStopLast → (h : HeaderStageState) (w new : ScoreWriterState) (item : Result Char Fault) → w.writer.written.headed ≡ true → GoTogether h w → WritesAt w (event_of_item item) [] new → IsSteady w new
     → ReadsItem h w item new

@@ -1,6 +1,8 @@
 -- An engine keeps nothing back but the held syllable, and stops with the byte that brings a fault.
-use Rattle.std.proofs.Common.{rules, ◌≡◌, ℕ, ◌+◌, ◌-◌, ◌<◌, ◌≤◌, ◌⊎◌, ◌||◌, inl, inr, IsSome, List, [], ◌∷◌, ◌++◌, length, map, take, drop, Bool, true, false, if◌then◌else◌, Option, Some, None, Result, Ok, Err, codes, refl, ap, sym, subst, ◌∙◌, arith, append-nil, length-append, take-add}
+use Rattle.std.proofs.Common.{rules, ◌≡◌, ℕ, ◌+◌, ◌-◌, ◌<◌, ◌≤◌, ◌⊎◌, ◌||◌, inl, inr, IsSome, List, [], ◌∷◌, ◌++◌, length, map, take, drop, Bool, true, false, if◌then◌else◌, Option, Some, None, Result, codes, refl, ap, sym, subst, ◌∙◌, arith, append-nil, length-append, take-add}
+use Rattle.std.proofs.lemmas.Bool.{or_parts}
 use Rattle.std.specs.List.{All, flat_map}
+use Rattle.gabc_places.proofs.NothingAfterAnEnd.{both_empty}
 use Rattle.gabc_score.specs.Syllable.{PlacedSyllable}
 use Rattle.gabc_write.specs.SyllableRead.{IsWrittenAsOne}
 use Rattle.gabc_places.specs.StageLaw.{concat_of}
@@ -12,10 +14,8 @@ use Rattle.gabc_headers.specs.declared.heads.Heads.{Heads}
 use Rattle.gabc_headers.specs.declared.heads.HeadFault.{HeadFault}
 use Rattle.gabc_headers.specs.declared.head_event.HeadEvent.{HeadEvent}
 use Rattle.gabc_headers.specs.declared.head_event.HeadEvent.TheVariants as head_event
-use Rattle.gabc_headers.specs.Heads.{heads_of}
-use Rattle.gabc_headers.specs.HeadEvents.{event_of_book}
-use Rattle.gabc_headers.specs.witness.HeadEvents.{HeadProgress, reading, after_headers, events_by, events_left, events_of_input, new_findings, progress_after}
-use Rattle.gabc_score.specs.ScoreEvents.{HasNoEnd, ScoreOutput, Found, Stop, Syllable, End, fault_in, has_end, syllables_in}
+use Rattle.gabc_headers.specs.witness.HeadEvents.{HeadProgress, events_by, events_left, events_of_input, progress_after}
+use Rattle.gabc_score.specs.ScoreEvents.{HasNoEnd, ScoreOutput, Found, Stop, Syllable, End, has_end, syllables_in}
 use Rattle.gabc_score.specs.witness.ScoreStage.{ScoreStageState, left_of}
 use Rattle.gabc_places.specs.Message.{message_text}
 use Rattle.gregorio_jobs.specs.declared.job.Format.{Format}
@@ -24,10 +24,10 @@ use Rattle.gregorio_jobs.specs.declared.job.Status.TheVariants.{ReadFault}
 use Rattle.gregorio.specs.declared.source_ending.SourceEnding.TheVariants.{Broken}
 use Rattle.gregorio.specs.Outcome.{fault_line, shown_line}
 use Rattle.gregorio.specs.Engine.{Brings, IsHeldText, IsPrompt, NothingWaits, is_running}
-use Rattle.gregorio.specs.witness.Engine.{EngineState, Written, after_heads, after_output, after_outputs, book_after, ceased_ending, first_list, head_events_left, items_left, lines_of_outputs, status_of_ending, streams_from, streams_left, writes_heads}
+use Rattle.gregorio.specs.witness.Engine.{EngineState, Written, after_heads, after_output, after_outputs, ceased_ending, first_list, lines_of_outputs, status_of_ending, streams_from, streams_left, writes_heads}
 use Rattle.gregorio.specs.Streams.{Streams, count_after, last_text, texts_after}
 use Rattle.gregorio.specs.machine.ScoreWriter.{IsOver, IsSilent}
-use Rattle.gregorio.proofs.StreamsOfOutputs.{concat_first, first_false, said, second_empty, second_false}
+use Rattle.gregorio.proofs.StreamsOfOutputs.{concat_first, said}
 use Rattle.gregorio.proofs.pieces.BytesAreTaken.{GivesNoLast, broken_is_said, goes_on, none_wait, over_left}
 
 -- ---- what is held
@@ -45,14 +45,12 @@ held_text lines macros true w outputs headed end few one = inr (record {
   lines = lines;
   macros = macros;
   one = one;
-  is = ap (λ (b : Bool). if b then texts_after w.format w.count w.force (syllables_in outputs) ++ last_text w.format (has_end outputs) (count_after w.count (syllables_in outputs)) else []) headed
-      ∙ ap (λ (whole : Bool). texts_after w.format w.count w.force (syllables_in outputs) ++ last_text w.format whole (count_after w.count (syllables_in outputs))) end;
+  is = λ i. if headed i then texts_after w.format w.count w.force (syllables_in outputs) ++ last_text w.format (end i) (count_after w.count (syllables_in outputs)) else [];
 })
 
 -- where a run is over, nothing is held
 pub prompt_where_over : (s : EngineState) (how : RunEnding) → IsOver s.written s.score how → IsPrompt s.written.format (streams_left s Broken [])
-prompt_where_over s how is =
-    subst (λ (streams : Streams). IsPrompt s.written.format streams) (sym (over_left s how is Broken [])) (record { messages = refl; output = inl refl })
+prompt_where_over s how is = grind (arith, over_left)
 
 pub prompt_now : (s : EngineState) → GivesNoLast (concat_of (left_of s.score [])) → length (syllables_in (concat_of (left_of s.score []))) ≤ 1
     → All (λ (p : PlacedSyllable). IsWrittenAsOne s.score.body.nabc_lines s.score.body.macros p.made) (syllables_in (concat_of (left_of s.score []))) → (IsSome s.written.ended → IsSilent s.score)
@@ -65,9 +63,7 @@ prompt_now s gives few one silent = by s.written.ended refl
         let outputs = concat_of (left_of s.score []) in
         let w = s.written in
         subst (λ (streams : Streams). IsPrompt w.format streams) (sym (broken_is_said s ended gives)) (record {
-          messages =
-              ap (λ (fs : List Finding). flat_map (shown_line w.name w.all_warnings) fs ++ fault_line w.name (fault_in outputs)) gives.findings
-              ∙ ap (λ (fault : Option Fault). fault_line w.name fault) gives.stop;
+          messages = λ i. flat_map (shown_line w.name w.all_warnings) (gives.findings i) ++ fault_line w.name (gives.stop i);
           output = held_text s.score.body.nabc_lines s.score.body.macros w.headed w outputs refl gives.end few one;
         })
 
@@ -98,8 +94,7 @@ ends_further first now piece count more so_far some fault =
 
 -- where a loop over a piece stops before its first step, the piece is empty
 pub took_some : (P : Type 0) (count n : ℕ) → (0 < count) ⊎ P → (P → n ≤ count) → 0 < n → 0 < count
-took_some P count n (inl some) stops more = some
-took_some P count n (inr p) stops more = omega (arith, stops p, more)
+took_some P count n h stops more = grind arith
 
 -- ---- a fault is reported
 
@@ -110,14 +105,10 @@ not_empty a x later rest e =
     let second = length-append a (x ∷ later) in
     omega (arith, none, first, second)
 
-first_empty : (a b : List ℕ) → a ++ b ≡ [] → a ≡ []
-first_empty [] b e = refl
-first_empty (x ∷ a) b e = absurd (cc e)
-
 -- where no line is written, and there is no end, the run goes on
 no_fault : (w : Written) (outputs : List ScoreOutput) → lines_of_outputs w outputs ≡ [] → has_end outputs ≡ false → (after_outputs w outputs).ended ≡ w.ended
 no_fault w [] none end = refl
-no_fault w (Found f ∷ outputs) none end = no_fault (after_output w (Found f)) outputs (second_empty (shown_line w.name w.all_warnings f) _ none) end
+no_fault w (Found f ∷ outputs) none end = no_fault (after_output w (Found f)) outputs (both_empty (shown_line w.name w.all_warnings f) _ none).1 end
 no_fault w (Stop fault ∷ outputs) none end = absurd (not_empty (w.name ++ codes ":" ++ message_text fault.place fault.code) 10 [] (lines_of_outputs (after_output w (Stop fault)) outputs) none)
 no_fault w (Syllable s ∷ outputs) none end = no_fault (after_output w (Syllable s)) outputs none end
 no_fault w (End ∷ outputs) none end = absurd (cc end)
@@ -132,23 +123,14 @@ no_end_in_found [] = tt
 no_end_in_found (f ∷ fs) = no_end_in_found fs
 
 no_end_by : (found : List Finding) (r : Result Heads HeadFault) → HasNoEnd (events_by found r)
-no_end_by found (Ok heads) = no_end_in_both (map (λ f. head_event.Found f) found) (event_of_book heads.book ∷ []) (no_end_in_found found) tt
-no_end_by found (Err stopped) = by stopped.at_end
-  where
-    by : (at_end : Bool) → HasNoEnd (if at_end then map (λ f. head_event.Found f) found else head_event.Stop stopped.fault ∷ [])
-    by true = no_end_in_found found
-    by false = tt
+no_end_by found r = grind (arith, no_end_in_both, no_end_in_found)
 
 no_end_of_input : (limits : Limits) (progress : HeadProgress) (x : Result Char Fault) → HasNoEnd (events_of_input limits progress x)
-no_end_of_input limits (reading t) (Ok c) = no_end_by (new_findings limits t (t ++ c.c ∷ [])) (heads_of limits (t ++ c.c ∷ []))
-no_end_of_input limits (after_headers book) (Ok c) = tt
-no_end_of_input limits _ _ = tt
+no_end_of_input limits progress x = grind (arith, no_end_by)
 
 no_end_left : (limits : Limits) (progress : HeadProgress) (items : List (Result Char Fault)) → HasNoEnd (concat_of (take (length items) (events_left limits progress items)))
 no_end_left limits progress [] = tt
-no_end_left limits progress (x ∷ xs) =
-    no_end_in_both (events_of_input limits progress x) (concat_of (take (length xs) (events_left limits (progress_after limits progress x) xs)))
-    (no_end_of_input limits progress x) (no_end_left limits (progress_after limits progress x) xs)
+no_end_left limits progress (x ∷ xs) = grind (arith, no_end_left limits (progress_after limits progress x) xs, no_end_in_both, no_end_of_input)
 
 -- a stage of scores gives the end only where it comes in
 abbrev pub EndsAtTheEnd : Type 0
@@ -168,15 +150,11 @@ told w book (x ∷ from_heads) lists end runs none =
     let v = after_heads w (writes_heads w x) in
     let outputs = first_list lists in
     let rest = streams_from (after_outputs v outputs) book from_heads (drop 1 lists) in
-    let ends : (has_end outputs || has_end (concat_of (drop 1 lists))) ≡ false = sym (ap has_end (concat_first lists) ∙ first_has_end outputs (concat_of (drop 1 lists))) ∙ end in
-    told (after_outputs v outputs) book from_heads (drop 1 lists) (second_false (has_end outputs) _ ends)
-    (no_fault v outputs (first_empty (lines_of_outputs v outputs) rest.messages none) (first_false (has_end outputs) _ ends) ∙ runs)
-    (second_empty (lines_of_outputs v outputs) rest.messages none)
+    let ends = or_parts (has_end outputs) _ (sym (ap has_end (concat_first lists) ∙ first_has_end outputs (concat_of (drop 1 lists))) ∙ end) in
+    let lines = both_empty (lines_of_outputs v outputs) rest.messages none in
+    told (after_outputs v outputs) book from_heads (drop 1 lists) ends.1 (no_fault v outputs lines.0 ends.0 ∙ runs) lines.1
 
 -- Where a run that breaks off writes no message, no fault has stopped it.
 pub no_fault_is_kept_back : EndsAtTheEnd → (s : EngineState) → is_running s ≡ true → (bytes : List ℕ) → (streams_left s Broken bytes).messages ≡ []
     → (streams_left s Broken bytes).status ≡ ReadFault
-no_fault_is_kept_back end s runs bytes none =
-    let items = items_left s Broken bytes in
-    let from_heads = head_events_left s.heads Broken items in
-    told s.written (book_after s.heads items) from_heads (left_of s.score from_heads) (end s.score from_heads (no_end_left s.heads.limits s.heads.progress items)) (goes_on s.written.ended runs) none
+no_fault_is_kept_back end s runs bytes none = grind (arith, told, no_end_left, goes_on)

@@ -1,10 +1,10 @@
 -- The parts of an engine stay in step in its body, and where it begins and ends.
-use Rattle.std.proofs.Common.{◌≡◌, ℕ, ◌+◌, ◌-◌, ◌^◌, ◌≤◌, ◌<◌, min, List, [], ◌∷◌, Bool, true, false, is_none, Result, Ok, Err, if◌then◌else◌, refl, ap, sym, subst, ◌∙◌, arith}
+use Rattle.std.proofs.Common.{◌≡◌, ℕ, ◌+◌, ◌^◌, ◌≤◌, ◌<◌, List, [], ◌∷◌, Bool, true, false, is_none, Result, Ok, Err, refl, ap, sym, subst, ◌∙◌, arith}
 use Rattle.std.proofs.lemmas.Bool.{false≢true}
 use Rattle.std.specs.List.{list_any}
 use Rattle.gabc_places.specs.DecoderMachine.{DecoderState, fresh_decoder}
 use Rattle.gabc_places.specs.DecoderReports.{MovesOn}
-use Rattle.gabc_places.specs.Place.{next_place, saturating_next_place, is_line_feed}
+use Rattle.gabc_places.specs.Place.{next_place, saturating_next_place}
 use Rattle.gabc_places.specs.declared.code.Fault.{Fault}
 use Rattle.gabc_places.specs.declared.limits.Limits.{Limits}
 use Rattle.gabc_places.specs.declared.place.Char.{Char}
@@ -39,19 +39,11 @@ in_body (after_headers book) part headed is parts = record { after_them = tt; bo
 in_body over part headed is parts = absurd parts
 
 pub one_part : (progress : HeadProgress) (part : ScorePart) (headed : Bool) → headed ≡ true → IsAfterHeaders progress → part ≡ score_part.Body → AreInOnePart progress part headed
-one_part (after_headers book) part headed is past body = record { in_part = body; written_so = is }
-one_part _ part headed is past body = absurd past
-
-abbrev place_at : ℕ → ℕ → Place
-place_at line column = record { line = line; column = column }
+one_part progress part headed is past body = grind arith
 
 -- columns and lines that 64 bits hold do not saturate
 pub same_next : (p : Place) (c : ℕ) → p.line + p.column < 2 ^ 33 → saturating_next_place p c ≡ next_place p c
-same_next p c below = by (is_line_feed c)
-  where
-    by : (b : Bool) → (if b then place_at (min (p.line + 1) (2 ^ 64 - 1)) 1 else place_at p.line (min (p.column + 1) (2 ^ 64 - 1))) ≡ (if b then place_at (p.line + 1) 1 else place_at p.line (p.column + 1))
-    by true = ap (λ (n : ℕ). place_at n 1) (omega (arith, below))
-    by false = ap (λ (n : ℕ). place_at p.line n) (omega (arith, below))
+same_next p c below = grind arith
 
 -- a character brings the next place on by one
 pub record IsNear (p : Place) (n : ℕ) : Type 0 where
@@ -59,28 +51,16 @@ pub record IsNear (p : Place) (n : ℕ) : Type 0 where
   pub near : p.line + p.column ≤ n + 2
 
 pub near_next : (p : Place) (c n : ℕ) → IsNear p n → IsNear (next_place p c) (n + 1)
-near_next p c n h = by (is_line_feed c)
-  where
-    by : (b : Bool) → IsNear (if b then place_at (p.line + 1) 1 else place_at p.line (p.column + 1)) (n + 1)
-    by true = let column = h.column in let near = h.near in record { column = omega arith; near = omega (arith, column, near) }
-    by false = let near = h.near in record { column = omega arith; near = omega (arith, near) }
+near_next p c n h = grind arith
 
 pub body_goes : (x : HeadEvent) (outputs : List ScoreOutput) (part : ScorePart) → part ≡ score_part.Body → list_any is_last outputs ≡ false → part_past part x outputs ≡ score_part.Body
 body_goes x outputs part body none = rw (body, none) refl
-
-not_over : (part : ScorePart) → part ≡ score_part.Body → part ≡ score_part.Over → ⊥
-not_over part body is = cc (body, is)
-
-body_preceding : (x : Char) (outputs : List ScoreOutput) (part : ScorePart) (p : Preceding) → part ≡ score_part.Body → preceding_past part (head_event.Body x) outputs p ≡ with_placed p (syllables_in outputs)
-body_preceding x outputs part p body = rw body refl
 
 one_more_whole : (x : Char) (part : ScorePart) (n : ℕ) → part ≡ score_part.Body → most_whole part (head_event.Body x) n ≡ n + 1
 one_more_whole x part n body = rw body refl
 
 pub near_after : (d e : DecoderState) (x : Char) → MovesOn d (Ok x ∷ []) e → IsNear d.place d.taken → IsNear e.place e.taken
-near_after d e x moves near =
-    subst (λ (p : Place). IsNear p e.taken) (sym moves.place)
-    (subst (λ (n : ℕ). IsNear (next_place x.place x.c) n) (sym moves.taken) (near_next x.place x.c d.taken (subst (λ (p : Place). IsNear p d.taken) (sym moves.here) near)))
+near_after d e x moves near = grind (arith, near_next)
 
 module _ (d e : DecoderState) (h : HeaderStageState) (old : ScoreStageState) (w : Written) (new : ScoreWriterState) (headed : w.headed ≡ true) (limits : new.score.limits ≡ old.limits) where
   character_step : (x : Char) → MovesOn d (Ok x ∷ []) e → PassesOn old w (head_event.Body x) new → (is_none w.ended ≡ true → RunsInStep d h old w) → is_none new.writer.written.ended ≡ true
@@ -91,11 +71,10 @@ module _ (d e : DecoderState) (h : HeaderStageState) (old : ScoreStageState) (w 
       let inside = in_body h.progress old.part w.headed headed was.parts in
       let body : new.score.part ≡ score_part.Body = p.part ∙ body_goes (head_event.Body x) p.outputs old.part inside.body on.none_last in
       let still : new.writer.written.headed ≡ true = ap (λ (v : Written). v.headed) p.written ∙ (headed_stays w p.outputs ∙ headed) in
-      let before : new.score.before ≡ with_placed old.before (syllables_in p.outputs) = p.before_held body ∙ body_preceding x p.outputs old.part old.before inside.body in
+      let before : new.score.before ≡ with_placed old.before (syllables_in p.outputs) = p.before_held body ∙ ap (λ (part : ScorePart). preceding_past part (head_event.Body x) p.outputs old.before) inside.body in
       let whole : whole_syllables new.score ≤ whole_syllables old + 1 =
       subst (λ (n : ℕ). whole_syllables new.score ≤ n) (one_more_whole x old.part (whole_syllables old) inside.body) (p.whole body) in
       let taken = was.taken headed in
-      let counted_on = moves.taken in
       let same = ap (λ (q : Preceding). q.syllables) before in
       let next : IsNear e.place e.taken = near_after d e x moves (record { column = was.column; near = was.near }) in
       record {
@@ -104,13 +83,13 @@ module _ (d e : DecoderState) (h : HeaderStageState) (old : ScoreStageState) (w 
         parts = one_part h.progress new.score.part new.writer.written.headed still inside.after_them body;
         none = λ un. absurd (false≢true (sym un ∙ still));
         count = λ is. ap (λ (v : Written). v.count) p.written ∙ (counted p.outputs w old.before headed (was.count headed) ∙ sym same);
-        taken = λ is. omega (arith, whole, taken, counted_on);
+        taken = λ is. omega (arith, whole, taken);
         column = next.column;
         near = next.near;
         counts = λ within.
             subst (λ (place : Place). Counts place new.score)
-            (same_next x.place x.c (subst (λ (q : Place). q.line + q.column < 2 ^ 33) (sym moves.here) (let near = was.near in let limit = moves.limit in let most = old.limits.in_range.input_most in let same_limit = was.limit in omega (arith, near, most, same_limit, within, limit, counted_on))) ∙ sym moves.place)
-            (p.counts d.place moves.here (was.counts (let limit = moves.limit in omega (arith, within, limit, counted_on))));
+            (same_next x.place x.c (subst (λ (q : Place). q.line + q.column < 2 ^ 33) (sym moves.here) (let near = was.near in let limit = moves.limit in let most = old.limits.in_range.input_most in let same_limit = was.limit in omega (arith, near, most, same_limit, within, limit))) ∙ sym moves.place)
+            (p.counts d.place moves.here (was.counts (let limit = moves.limit in omega (arith, within, limit))));
       }
 
   fault_step : (fault : Fault) → PassesOn old w (head_event.Stop fault) new → (is_none w.ended ≡ true → RunsInStep d h old w) → is_none new.writer.written.ended ≡ true
@@ -118,7 +97,7 @@ module _ (d e : DecoderState) (h : HeaderStageState) (old : ScoreStageState) (w 
   fault_step fault p ran running =
       let on = went_on_past old w (head_event.Stop fault) new p running in
       let inside = in_body h.progress old.part w.headed headed (ran on.before).parts in
-      absurd (false≢true (sym on.none_last ∙ p.last (not_over old.part inside.body) refl))
+      absurd (false≢true (sym on.none_last ∙ p.last (λ is. cc (inside.body, is)) refl))
 
   item_step : (item : Result Char Fault) → MovesOn d (item ∷ []) e → PassesOn old w (event_of_item item) new → (is_none w.ended ≡ true → RunsInStep d h old w) → is_none new.writer.written.ended ≡ true
       → RunsInStep e h new.score new.writer.written
@@ -135,35 +114,17 @@ body_in_step h old new item headed limits p = record {
 -- ---- no item
 
 nothing_runs : (d e : DecoderState) (h : HeaderStageState) (s : ScoreStageState) (w : Written) → MovesOn d [] e → RunsInStep d h s w → RunsInStep e h s w
-nothing_runs d e h s w moves was =
-    let more = moves.taken in
-    record {
-      runs = moves.ended ∙ was.runs;
-      limit = moves.limit ∙ was.limit;
-      parts = was.parts;
-      none = was.none;
-      count = was.count;
-      taken = λ is. let most = was.taken is in let least = more.0 in omega (arith, most, least);
-      column = subst (λ (p : Place). 1 ≤ p.column) (sym moves.place) was.column;
-      near = subst (λ (p : Place). p.line + p.column ≤ e.taken + 2) (sym moves.place) (let near = was.near in let least = more.0 in omega (arith, near, least));
-      counts = λ within. subst (λ (place : Place). Counts place s) (sym moves.place) (was.counts (let limit = moves.limit in let least = more.0 in omega (arith, within, limit, least)));
-    }
+nothing_runs d e h s w moves was = grind arith
 
 pub nothing_in_step : (h : HeaderStageState) (s : ScoreWriterState) → StayInStep h s [] h s
-nothing_in_step h s = record {
-  force = λ force. force;
-  runs = λ d e moves ran running. nothing_runs d e h s.score s.writer.written moves (ran running);
-}
+nothing_in_step h s = grind (arith, nothing_runs)
 
 -- ---- before the first byte
-
-fresh_force : (v : Written) → HasForce (begun_again v)
-fresh_force v = record { untracked = λ gabc. refl; outset = λ none. refl }
 
 pub fresh_in_step : (v : Written) (limits : Limits) (d : DecoderState) (h : HeaderStageState) (s : ScoreWriterState) → d ≡ fresh_decoder limits.input → h ≡ fresh_stage limits h.hasher → s.writer.written ≡ begun_again v
     → s.score.limits ≡ limits → s.score.part ≡ score_part.Heads → IsInStep d h s.score s.writer.written
 fresh_in_step v limits d h s is_d is_h is_w is_limits heads = record {
-  force = subst HasForce (sym is_w) (fresh_force v);
+  force = subst HasForce (sym is_w) (record { untracked = λ gabc. refl; outset = λ none. refl });
   runs = λ running. record {
     runs = ap (λ (x : DecoderState). x.ended) is_d;
     limit = limit ∙ ap (λ (l : Limits). l.input) (sym is_limits);

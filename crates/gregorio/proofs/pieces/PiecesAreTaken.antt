@@ -70,15 +70,9 @@ taken_further old mid new piece count more first some next = record {
 
 -- what is taken of a front of a piece is taken of the piece
 pub taken_of_front : (old new : EngineState) (piece : List ℕ) (most count : ℕ) → TakesFrom old (take most piece) count new → TakesFrom old piece count new
-taken_of_front old new piece most count front = record {
-  within = omega (arith, front.within, length-take most piece);
-  takes = subst (λ (xs : List ℕ). Takes old xs new) (front_of_front count most piece front.within) front.takes;
-  fault = λ over. subst (λ (xs : List ℕ). (streams_left old Broken xs).status ≡ ReadFault) (front_of_front (count - 1) most piece (omega (arith, front.within))) (front.fault over);
-}
+taken_of_front old new piece most count front = grind (arith, length-take, front_of_front)
 
 -- ---- an item may be read
 
 pub may_read : (d : DecoderState) (h : HeaderStageState) (from_heads : BoundedList HeadEvent) (w : ScoreWriterState) (e : EngineState) → IsEngine d h from_heads w → shown d h w ≡ e → LeavesRoom e → MayRead h from_heads w
-may_read d h from_heads w e is shows few =
-    let room = subst LeavesRoom (sym shows) few in
-    record { together = is.together; few = is.few; room = room_where_few_wait w is.reserved room.output room.messages; part = in_heads_yet d h w is.step.runs }
+may_read d h from_heads w e is shows few = grind (arith, room_where_few_wait, in_heads_yet)

@@ -1,5 +1,5 @@
 -- A text at which a run of syllables is written brings these, and all parts of an engine stay in step.
-use Rattle.std.proofs.Common.{◌≡◌, ℕ, ◌+◌, ◌≤◌, inl, List, [], ◌∷◌, ◌++◌, length, map, take, true, false, Result, Ok, refl, ap, sym, subst, ◌∙◌, length-append, arith}
+use Rattle.std.proofs.Common.{◌≡◌, ℕ, ◌+◌, ◌≤◌, List, [], ◌∷◌, ◌++◌, length, map, take, true, false, Result, Ok, ap, sym, subst, ◌∙◌, length-append, arith}
 use Rattle.std.proofs.Math.Seq.{take-append-add}
 use Rattle.std.proofs.lemmas.Bool.{false≢true}
 use Rattle.std.specs.Str.{chars}
@@ -16,10 +16,9 @@ use Rattle.gabc_places.specs.declared.place.Place.{Place}
 use Rattle.gabc_places.specs.witness.DecoderEvents as decoder
 use Rattle.gabc_headers.specs.HeadEvents.{emitted_by}
 use Rattle.gabc_headers.specs.declared.head_event.HeadEvent.{HeadEvent}
-use Rattle.gabc_headers.specs.witness.HeadEvents.{HeaderStageState, HeadProgress, IsAfterHeaders, after_headers, over, reading}
+use Rattle.gabc_headers.specs.witness.HeadEvents.{HeaderStageState, HeadProgress, IsAfterHeaders, after_headers}
 use Rattle.gabc_score.specs.GivesSyllables.{next_after}
 use Rattle.gabc_score.specs.ScoreStage.{Counts}
-use Rattle.gabc_score.specs.ScoreReports.{IsAt}
 use Rattle.gabc_score.specs.ScoreEvents.{Syllable}
 use Rattle.gabc_score.specs.Syllable.{PlacedSyllable}
 use Rattle.gabc_score.specs.Before.{with_placed}
@@ -27,7 +26,6 @@ use Rattle.gabc_score.specs.declared.before.Preceding.{Preceding}
 use Rattle.gregorio.specs.Outcome.{is_whole}
 use Rattle.gregorio.specs.Streams.{after_bytes}
 use Rattle.gregorio.specs.declared.source_ending.SourceEnding.{SourceEnding}
-use Rattle.gregorio.specs.declared.source_ending.SourceEnding.TheVariants.{Whole as Ended, Broken}
 use Rattle.gregorio.specs.machine.Engine.{GoTogether, WritesItems, streams_of_items}
 use Rattle.gregorio.specs.machine.InStep.{HasForce, IsInStep, RunsInStep}
 use Rattle.gregorio.specs.machine.ReadsHeaders.{ReadsHeaders}
@@ -68,16 +66,10 @@ module _ (bytes more : List ℕ) (lists rest : List (List (Result Char Fault))) 
   first_whole = joined-append lists rest ∙ ap (λ (xs : List (Result Char Fault)). xs ++ concat_of rest) all
 
   first_broken : concat_of (take (length (bytes ++ more)) (lists ++ rest)) ≡ items ++ concat_of (take (length more) rest)
-  first_broken =
-      let both = length-append bytes more in
-      let n : length (bytes ++ more) ≡ length lists + length more = omega (arith, both, one_each) in
-      ap (λ (k : ℕ). concat_of (take k (lists ++ rest))) n
-      ∙ (ap (λ (l : List (List (Result Char Fault))). concat_of l) (take-append-add lists rest (length more))
-      ∙ (joined-append lists (take (length more) rest) ∙ ap (λ (xs : List (Result Char Fault)). xs ++ concat_of (take (length more) rest)) all))
+  first_broken = grind (arith, length-append, take-append-add, joined-append)
 
   emitted_first : (ending : SourceEnding) → emitted_by (is_whole ending) (bytes ++ more) (lists ++ rest) ≡ items ++ emitted_by (is_whole ending) more rest
-  emitted_first Ended = first_whole
-  emitted_first Broken = first_broken
+  emitted_first ending = grind (arith, first_whole, first_broken)
 
 -- ---- what a writer writes
 
@@ -99,23 +91,16 @@ module _ (w new : ScoreWriterState) (at : Place) (t : List ℕ) (r : WritesRun w
       let outputs = outputs_of_syllables r.syllables in
       GoTogether h w → streams_of_items h w ending (items_of at t ++ more)
       ≡ after_bytes (texts_of_outputs w.writer.written outputs) (lines_of_outputs w.writer.written outputs) (streams_of_items h new ending more))
-  run_in_body limits hasher (reading t) book ending more is together = absurd is
-  run_in_body limits hasher over book ending more is together = absurd is
   run_in_body limits hasher (after_headers other) book ending more is together =
       subst (λ (b : List (List ℕ × List ℕ)). let h : HeaderStageState = record { limits = limits; progress = after_headers b; book = book; hasher = hasher } in
       let outputs = outputs_of_syllables r.syllables in
       streams_of_items h w ending (items_of at t ++ more)
       ≡ after_bytes (texts_of_outputs w.writer.written outputs) (lines_of_outputs w.writer.written outputs) (streams_of_items h new ending more))
       (sym together.book) (run_after limits hasher book ending more)
+  run_in_body limits hasher _ book ending more is together = absurd is
 
   run_of_items : (h : HeaderStageState) → IsAfterHeaders h.progress → GoTogether h w → WritesItems h w (items_of at t) h new
-  run_of_items h is together = record {
-    output = texts_of_outputs w.writer.written (outputs_of_syllables r.syllables);
-    lines = lines_of_outputs w.writer.written (outputs_of_syllables r.syllables);
-    out = ap (λ (x : RunWriterState). x.out) r.taken;
-    messages = ap (λ (x : RunWriterState). x.messages) r.taken;
-    law = λ ending more. run_in_body h.limits h.hasher h.progress h.book ending more is together;
-  }
+  run_of_items h is together = grind (arith, run_in_body)
 
 -- a syllable more is counted
 one_counted : (v : Written) (s : PlacedSyllable) → v.headed ≡ true → 1 ≤ (after_output v (Syllable s)).count
@@ -144,21 +129,10 @@ module _ (d e : DecoderState) (h : HeaderStageState) (w new : ScoreWriterState) 
   pub text_taken : GoTogether h w → (more : List ℕ) (ending : SourceEnding)
       → after_bytes w.writer.out.items w.writer.messages.items (streams_of_items h w ending (emitted_by (is_whole ending) (text ++ more) (decoder.events_left d (text ++ more))))
       ≡ after_bytes new.writer.out.items new.writer.messages.items (streams_of_items h new ending (emitted_by (is_whole ending) more (decoder.events_left e more)))
-  text_taken together more ending =
-      let rest = decoder.events_left e more in
-      let items = items_of d.place (chars text) in
-      ap (λ (xs : List (Result Char Fault)). after_bytes w.writer.out.items w.writer.messages.items (streams_of_items h w ending xs))
-      (ap (λ (lists : List (List (Result Char Fault))). emitted_by (is_whole ending) (text ++ more) lists) (skips.joined more)
-      ∙ emitted_first text more skips.lists rest items skips.one_each skips.all ending)
-      ∙ items_taken h h w new items (emitted_by (is_whole ending) more rest) ending (run_of_items w new d.place (chars text) r takes.headed h inside.after_them together)
+  text_taken together more ending = grind (arith, emitted_first, items_taken, run_of_items, inside)
 
   pub run_together : GoTogether h w → GoTogether h new
-  run_together together = record {
-    limits = together.limits ∙ sym r.gives.limits;
-    headed = λ headed. inl inside.after_them;
-    book = together.book;
-    short = together.short;
-  }
+  run_together together = grind (arith, inside)
 
   -- ---- in step
 
@@ -183,21 +157,16 @@ module _ (d e : DecoderState) (h : HeaderStageState) (w new : ScoreWriterState) 
       ∙ (counted (outputs_of_syllables r.syllables) v w.score.before takes.headed (was.count takes.headed)
       ∙ ap (λ (ss : List PlacedSyllable). (with_placed w.score.before ss).syllables) (syllables_of r.syllables)) in
       let before = was.taken takes.headed in
-      let reached = skips.reached.bytes in
-      let whole = gives.whole in
-      let few = skips.few in
-      let taken = skips.taken in
-      let limit = skips.limit in
       record {
         runs = skips.ended ∙ was.runs;
         limit = skips.limit ∙ (was.limit ∙ ap (λ (l : Limits). l.input) (sym gives.limits));
         parts = one_part h.progress new.score.part new.writer.written.headed still_headed inside.after_them (gives.part ∙ inside.body);
         none = λ un. absurd (false≢true (sym un ∙ still_headed));
         count = λ headed. written ∙ sym (ap (λ (p : Preceding). p.syllables) gives.before_held);
-        taken = λ headed. omega (arith, before, whole, few, taken);
+        taken = λ headed. omega (arith, before);
         column = skips.reached.column;
-        near = omega (arith, reached);
-        counts = λ within. subst (λ (place : Place). Counts place new.score) (sym skips.place) (gives.counts (was.counts (omega (arith, within, taken, limit))));
+        near = omega arith;
+        counts = λ within. subst (λ (place : Place). Counts place new.score) (sym skips.place) (gives.counts (was.counts (omega (arith, within))));
       }
 
   pub run_in_step : IsInStep e h new.score new.writer.written
@@ -207,22 +176,7 @@ module _ (d e : DecoderState) (h : HeaderStageState) (w new : ScoreWriterState) 
   run_reads_on running = headed_read h.limits h.progress w.score.part w.writer.written.headed e.place new.writer.written.errors takes.headed was.parts
 
   next_place : (at before : Place) (t : List ℕ) → before ≡ at → next_after at t before ≡ place_past at t
-  next_place at before [] here = here
-  next_place at before (c ∷ cs) here = refl
+  next_place at before t here = grind arith
 
   pub run_stays_telling : IsTelling d w → IsTelling e new
-  run_stays_telling told running =
-      let gives = r.gives in
-      let before = told takes.runs in
-      record {
-        line = skips.reached.line;
-        body = λ headed within.
-            let fewer : d.taken ≤ d.limit = (let taken = skips.taken in let limit = skips.limit in omega (arith, taken, limit, within)) in
-            let b = before.body takes.headed fewer in
-            record {
-              next = gives.next ∙ (next_place d.place w.score.held.next (chars text) b.next ∙ sym skips.place);
-              told = gives.told (sym b.next) (λ body. subst (λ (place : Place). IsAt place w.score.body.part) (sym b.next) (was.counts fewer body)) b.told;
-              holds = gives.holds b.holds;
-              comment = λ cr. absurd (false≢true (sym skips.cr ∙ cr));
-            };
-      }
+  run_stays_telling told running = grind (arith, next_place)

@@ -1,5 +1,5 @@
 -- What a writer has written of a run of syllables, and what it will still write.
-use Rattle.std.proofs.Common.{◌≡◌, ℕ, List, [], ◌∷◌, ◌++◌, Bool, true, false, Option, Some, None, IsSome, is_none, if◌then◌else◌, refl, ap, sym, subst, ◌∙◌}
+use Rattle.std.proofs.Common.{◌≡◌, ℕ, List, [], ◌∷◌, ◌++◌, Bool, true, false, IsSome, if◌then◌else◌, refl, ap, sym, ◌∙◌, arith}
 use Rattle.std.proofs.lemmas.Bool.{or_parts}
 use Rattle.gabc_headers.specs.declared.head_event.HeadEvent.{HeadEvent}
 use Rattle.gabc_neumes.specs.InForce.{InForce}
@@ -14,11 +14,9 @@ use Rattle.gabc_score.specs.ScoreEvents.{ScoreOutput, Syllable, syllables_in}
 use Rattle.gabc_score.specs.Syllable.{PlacedSyllable}
 use Rattle.gabc_score.specs.declared.before.Preceding.{Preceding}
 use Rattle.gabc_score.specs.declared.score_machine.ScorePart.{ScorePart}
-use Rattle.gabc_score.specs.declared.score_machine.ScorePart.TheVariants as score_part
 use Rattle.gabc_score.specs.witness.ScoreStage.{left_of}
 use Rattle.gregorio_jobs.specs.declared.job.Format.{Format}
 use Rattle.gregorio_jobs.specs.declared.job.Format.TheVariants.{Gabc, Dump}
-use Rattle.gregorio.specs.declared.run_ending.RunEnding.{RunEnding}
 use Rattle.gregorio.specs.Streams.{Streams, after_bytes, force_after}
 use Rattle.gregorio.specs.machine.ClefInForce.{HasClefOfSounds, IsClefIn}
 use Rattle.gregorio.specs.machine.RunWriter.{RunWriterState, TakesRuns, outputs_of_syllables}
@@ -37,9 +35,7 @@ pub record IsCounted (w v : Written) : Type 0 where
 
 pub counted_on : (ss : List PlacedSyllable) (w : Written) → IsCounted w (after_outputs w (outputs_of_syllables ss))
 counted_on [] w = record { count = w.count; force = w.force; is = refl }
-counted_on (s ∷ ss) w =
-    let c = counted_on ss (after_output w (Syllable s)) in
-    record { count = c.count; force = c.force; is = c.is }
+counted_on (s ∷ ss) w = grind (arith, counted_on ss (after_output w (Syllable s)))
 
 pub syllables_of : (ss : List PlacedSyllable) → syllables_in (outputs_of_syllables ss) ≡ ss
 syllables_of [] = refl
@@ -48,11 +44,7 @@ syllables_of (s ∷ ss) = ap (λ (l : List PlacedSyllable). s ∷ l) (syllables_
 -- in canonical form nothing is in force that was not
 pub same_force : (ss : List PlacedSyllable) (w : Written) → w.format ≡ Gabc → (after_outputs w (outputs_of_syllables ss)).force ≡ w.force
 same_force [] w canonical = refl
-same_force (s ∷ ss) w canonical = same_force ss (after_output w (Syllable s)) canonical ∙ by w.headed
-  where
-    by : (headed : Bool) → (if headed then force_after w.format w.force s else w.force) ≡ w.force
-    by true = ap (λ (f : Format). force_after f w.force s) canonical
-    by false = refl
+same_force (s ∷ ss) w canonical = grind (arith, same_force ss (after_output w (Syllable s)) canonical)
 
 -- where nothing sounds in syllables and before them, nothing sounds before them
 earlier_silent : (ss : List PlacedSyllable) (p : Preceding) → (with_placed p ss).sounded ≡ false → p.sounded ≡ false
@@ -80,9 +72,7 @@ module _ (old : ScoreWriterState) (at : Place) (t : List ℕ) (new : ScoreWriter
   outputs = outputs_of_syllables r.syllables
 
   pub run_counted : IsCounted old.writer.written new.writer.written
-  run_counted =
-      let c = counted_on r.syllables old.writer.written in
-      record { count = c.count; force = c.force; is = ap (λ (w : RunWriterState). w.written) r.taken ∙ c.is }
+  run_counted = grind (arith, counted_on)
 
   pub run_steady : IsSteady old new
   run_steady = steady_past old new old.writer outputs (record { limits = r.gives.limits; format = refl; name = refl; all_warnings = refl; out = refl; messages = refl }) r.taken
@@ -90,34 +80,19 @@ module _ (old : ScoreWriterState) (at : Place) (t : List ℕ) (new : ScoreWriter
   -- ---- between two calls
 
   pub run_silent : TakesRuns old.writer.written → IsSome new.writer.written.ended → IsSilent new.score
-  run_silent takes over = absurd (by new.writer.written.ended (ap (λ (v : Written). is_none v.ended) run_counted.is ∙ takes.runs) over)
-    where
-      by : (o : Option RunEnding) → is_none o ≡ true → IsSome o → ⊥
-      by None none some = cc some
-      by (Some status) none some = cc none
+  run_silent takes over = grind (arith, run_counted)
 
   module _ (stays : ClefStays) where
     clef_in : (part : ScorePart) → old.score.part ≡ part → IsClefIn part old.score.before.sounded old.writer.written.force.clef → IsClefIn part (with_placed old.score.before r.syllables).sounded new.writer.written.force.clef
-    clef_in score_part.Heads e was =
-        ap (λ (w : RunWriterState). w.written.force.clef) r.taken
-        ∙ ap (λ (ss : List PlacedSyllable). (after_outputs old.writer.written (outputs_of_syllables ss)).force.clef) (r.gives.in_heads e) ∙ was
-    clef_in score_part.Body e was = λ silent.
-        ap (λ (w : RunWriterState). w.written.force.clef) r.taken ∙ same_clef stays r.syllables old.writer.written old.score.before silent ∙ was (earlier_silent r.syllables old.score.before silent)
-    clef_in score_part.Over e was = tt
+    clef_in part e was = grind (arith, same_clef, earlier_silent)
 
     pub run_clef : TakesRuns old.writer.written → HasClefOfSounds old.score old.writer.written → HasClefOfSounds new.score new.writer.written
-    run_clef takes had = λ running.
-        subst (λ (p : Preceding). IsClefIn new.score.part p.sounded new.writer.written.force.clef) (sym r.gives.before_held)
-        (subst (λ (q : ScorePart). IsClefIn q (with_placed old.score.before r.syllables).sounded new.writer.written.force.clef) (sym r.gives.part)
-        (clef_in old.score.part refl (had takes.runs)))
+    run_clef takes had = grind (arith, clef_in)
 
   -- ---- what it will still write
 
   given_first : (from_heads : List HeadEvent) → concat_of (left_of old.score (text_inputs at t ++ from_heads)) ≡ outputs ++ concat_of (left_of new.score from_heads)
-  given_first from_heads =
-      ap (λ (lists : List (List ScoreOutput)). concat_of lists) (r.gives.law from_heads)
-      ∙ (joined-append r.gives.points (left_of new.score from_heads)
-      ∙ ap (λ (os : List ScoreOutput). os ++ concat_of (left_of new.score from_heads)) r.gives.given_are)
+  given_first from_heads = grind (arith, joined-append)
 
   pub run_law : old.writer.written.headed ≡ true → (book : List (List ℕ × List ℕ)) (from_heads : List HeadEvent)
       → streams_of old book (text_inputs at t ++ from_heads)

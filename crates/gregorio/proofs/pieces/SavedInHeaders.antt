@@ -1,5 +1,5 @@
 -- Two engines that save the same in the headers.
-use Rattle.std.proofs.Common.{◌≡◌, ℕ, List, [], ◌∷◌, ◌++◌, Bool, true, false, Option, None, Some, is_none, Result, encode_utf8, encode_utf8_all, refl, ap, sym, subst, ◌∙◌}
+use Rattle.std.proofs.Common.{◌≡◌, ℕ, List, [], ◌∷◌, ◌++◌, Bool, true, false, Option, is_none, Result, encode_utf8, encode_utf8_all, refl, ap, sym, subst, ◌∙◌, arith}
 use Rattle.std.proofs.lemmas.Bool.{false≢true}
 use Rattle.std.proofs.lemmas.List.Elements.{All-head, All-tail}
 use Rattle.std.proofs.lemmas.Str.{IsUtf8-encode, chars-append, chars-nil}
@@ -21,7 +21,7 @@ use Rattle.gabc_score.specs.declared.score_machine.ScorePart.{ScorePart}
 use Rattle.gabc_score.specs.declared.score_machine.ScorePart.TheVariants as score_part
 use Rattle.gabc_score.specs.witness.ScoreStage.{ScoreStageState, left_of}
 use Rattle.gregorio.specs.declared.run_ending.RunEnding.{RunEnding}
-use Rattle.gregorio_state.specs.Fields.{PhaseFields, StateFields, InHeaders, InScore}
+use Rattle.gregorio_state.specs.Fields.{StateFields, InHeaders}
 use Rattle.gregorio.specs.declared.source_ending.SourceEnding.{SourceEnding}
 use Rattle.gregorio.specs.Saved.{phase_fields, state_of}
 use Rattle.gregorio.specs.Engine.{StillRuns}
@@ -41,29 +41,17 @@ limits_saved one other same = same_limits one.score.limits other.score.limits (a
 
 -- where they do not end a run
 none_both : (a b : Option RunEnding) → is_none a ≡ true → is_none b ≡ true → a ≡ b
-none_both None None h k = refl
-none_both (Some x) b h k = absurd (false≢true h)
-none_both None (Some x) h k = absurd (false≢true k)
+none_both a b h k = grind arith
 
 -- what is written, where as much is written and the same is in force
 pub written_saved : (one other : EngineState) → state_of one ≡ state_of other → one.written.name ≡ other.written.name → is_none one.written.ended ≡ true → is_none other.written.ended ≡ true
     → one.written.headed ≡ other.written.headed → one.written.count ≡ other.written.count → one.written.force ≡ other.written.force → one.written ≡ other.written
-written_saved one other same name runs other_runs headed count force =
-    let format = ap (λ (s : StateFields). s.format) same in
-    let all_warnings = ap (λ (s : StateFields). s.all_warnings) same in
-    let errors = ap (λ (s : StateFields). s.has_error) same in
-    let ended = none_both one.written.ended other.written.ended runs other_runs in
-    λ i. record { format = format i; name = name i; all_warnings = all_warnings i; headed = headed i; count = count i; force = force i; errors = errors i; ended = ended i }
+written_saved one other same name runs other_runs headed count force = grind (arith, none_both)
 
 -- ---- the decoder
 
 pub decoders_saved : (one other : EngineState) → state_of one ≡ state_of other → ReportTheSame one.decoder other.decoder
-decoders_saved one other same = record {
-  taken = ap (λ (s : StateFields). s.taken) same;
-  place = ap (λ (s : StateFields). s.place) same;
-  pending = ap (λ (s : StateFields). s.pending) same;
-  cr = ap (λ (s : StateFields). s.after_cr) same;
-}
+decoders_saved one other same = grind arith
 
 -- ---- in the headers
 
@@ -79,21 +67,10 @@ heads_by_written (reading t) part headed is parts = record { reads = refl; in_he
 heads_by_written (after_headers book) part headed is parts = absurd (false≢true (sym is ∙ parts.written_so))
 heads_by_written over part headed is parts = absurd parts
 
-abbrev is_in_headers : PhaseFields → Bool
-is_in_headers (InHeaders text) = true
-is_in_headers (InScore f) = false
-
-abbrev text_in : PhaseFields → List ℕ
-text_in (InHeaders text) = text
-text_in (InScore f) = []
-
-phase_by_progress : (progress : HeadProgress) (force : InForce) (s : ScoreStageState) → progress ≡ reading (text_held progress) → phase_fields progress force s ≡ InHeaders (encode_utf8_all (text_held progress))
-phase_by_progress progress force s reads = ap (λ (p : HeadProgress). phase_fields p force s) reads
-
 heads_by_phase : (progress : HeadProgress) (part : ScorePart) (headed : Bool) (force : InForce) (s : ScoreStageState) (text : List ℕ) → phase_fields progress force s ≡ InHeaders text → AreInOnePart progress part headed
     → IsInHeads progress part headed text
-heads_by_phase (reading t) part headed force s text is parts = record { reads = refl; in_heads = parts.in_part; unheaded = parts.written_so; bytes = ap text_in is }
-heads_by_phase (after_headers book) part headed force s text is parts = absurd (false≢true (ap is_in_headers is))
+heads_by_phase (reading t) part headed force s text is parts = record { reads = refl; in_heads = parts.in_part; unheaded = parts.written_so; bytes = cc is }
+heads_by_phase (after_headers book) part headed force s text is parts = absurd (cc is)
 heads_by_phase over part headed force s text is parts = absurd parts
 
 -- the bytes of a text of an input report its characters
@@ -109,10 +86,7 @@ text_read limits progress place error reads read = (subst (λ (p : HeadProgress)
 
 -- before the body two scores under the same limits give the same
 same_heads : (one other : ScoreStageState) → one.limits ≡ other.limits → one.part ≡ score_part.Heads → other.part ≡ score_part.Heads → (from_heads : List HeadEvent) → left_of one from_heads ≡ left_of other from_heads
-same_heads one other limits part other_part from_heads =
-    ap (λ (p : ScorePart). left_of (record one { part = p }) from_heads) part
-    ∙ (ap (λ (l : Limits). left_of (record one { part = score_part.Heads; limits = l }) from_heads) limits
-    ∙ ap (λ (p : ScorePart). left_of (record other { part = p }) from_heads) (sym other_part))
+same_heads one other limits part other_part from_heads = grind arith
 
 -- Two decoders run under one limit, and report the same.
 pub record AreDecodersAlike (one other : DecoderState) : Type 0 where
@@ -123,12 +97,7 @@ pub record AreDecodersAlike (one other : DecoderState) : Type 0 where
 
 pub decoders_alike : (one other : EngineState) → RunsInStep one.decoder one.heads one.score one.written → RunsInStep other.decoder other.heads other.score other.written → state_of one ≡ state_of other
     → AreDecodersAlike one.decoder other.decoder
-decoders_alike one other run other_run same = record {
-  runs = run.runs;
-  other_runs = other_run.runs;
-  limit = run.limit ∙ (ap (λ (s : StateFields). s.input_limit) same ∙ sym other_run.limit);
-  told = decoders_saved one other same;
-}
+decoders_alike one other run other_run same = grind (arith, decoders_saved)
 
 -- What two engines in their headers have alike that save the same.
 pub record AreAlikeInHeads (one other : EngineState) : Type 0 where
@@ -144,7 +113,7 @@ pub saved_in_heads : (one other : EngineState) → CanRun one → CanRun other �
 saved_in_heads one other run other_run headed name same =
     let first = heads_by_written one.heads.progress one.score.part one.written.headed headed run.step.parts in
     let phase : phase_fields other.heads.progress other.written.force other.score ≡ InHeaders (encode_utf8_all (text_held one.heads.progress)) =
-    sym (ap (λ (s : StateFields). s.phase) same) ∙ phase_by_progress one.heads.progress one.written.force one.score first.reads in
+    sym (ap (λ (s : StateFields). s.phase) same) ∙ ap (λ (p : HeadProgress). phase_fields p one.written.force one.score) first.reads in
     let second = heads_by_phase other.heads.progress other.score.part other.written.headed other.written.force other.score (encode_utf8_all (text_held one.heads.progress)) phase other_run.step.parts in
     let count = run.step.none headed in
     let other_count = other_run.step.none second.unheaded in
@@ -163,9 +132,6 @@ saved_in_heads one other run other_run headed name same =
 
 -- ---- what both write
 
-heads_but_book : (one other : HeaderStageState) → one.limits ≡ other.limits → one.progress ≡ other.progress → record { limits = one.limits; progress = one.progress; book = other.book; hasher = other.hasher } ≡ other
-heads_but_book one other limits progress = λ i. record { limits = limits i; progress = progress i; book = other.book; hasher = other.hasher }
-
 pub heads_agree : (one other : EngineState) → AreAlikeInHeads one other → ((bytes : List ℕ) → decoder.events_left one.decoder bytes ≡ decoder.events_left other.decoder bytes)
     → ((items : List (Result Char Fault)) → events_left one.heads.limits one.heads.progress items ≡ events_left other.heads.limits other.heads.progress items) → (ending : SourceEnding) (bytes : List ℕ)
     → streams_left one ending bytes ≡ streams_left other ending bytes
@@ -175,7 +141,7 @@ heads_agree one other alike decoded given ending bytes =
     let progress = alike.reads ∙ (ap (λ (t : List ℕ). reading t) alike.text ∙ sym alike.other_reads) in
     streams_agree one other ending bytes alike.written (decoded bytes) given
     (no_matter_which_book one.written one.heads.limits one.heads.hasher other.heads.hasher one.heads.progress one.heads.book other.heads.book ending items (left_of one.score from_heads)
-    ∙ ap (λ (h : HeaderStageState). streams_from one.written (book_after h items) from_heads (left_of one.score from_heads)) (heads_but_book one.heads other.heads alike.limits progress))
+    ∙ (λ i. streams_from one.written (book_after (record other.heads { limits = alike.limits i; progress = progress i }) items) from_heads (left_of one.score from_heads)))
     (alike.gives from_heads)
 
 -- ---- an engine shows its parts

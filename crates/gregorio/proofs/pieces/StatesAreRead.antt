@@ -1,10 +1,9 @@
 -- The texts that an engine saves are read as it says.
-use Rattle.std.proofs.Common.{◌≡◌, ℕ, ◌+◌, List, [], length, encode_utf8_all, true, Option, Some, None, IfSome, refl, ap, sym, subst, ◌∙◌, arith}
+use Rattle.std.proofs.Common.{◌≡◌, ℕ, ◌+◌, List, [], length, encode_utf8_all, true, Option, Some, None, IfSome, refl, sym, subst, ◌∙◌, arith}
 use Rattle.std.specs.Prelude.{IsUtf8, ◌≢◌}
 use Rattle.std.specs.Str.{chars}
 use Rattle.std.proofs.lemmas.Bool.{false≢true}
 use Rattle.std.proofs.lemmas.Str.{chars_from_encodes}
-use Rattle.gabc_places.specs.declared.limits.Limits.{Limits}
 use Rattle.gabc_headers.specs.witness.HeadEvents.{HeadProgress, reading, after_headers, over}
 use Rattle.gabc_neumes.specs.InForce.{InForce}
 use Rattle.gabc_score.specs.Before.{preceding_of}
@@ -43,9 +42,7 @@ module _ (force : InForce) (s : ScoreStageState) where
 
   -- before that syllable stands what stood before it
   before_again : (m : UnplacedSyllable) → before_held (fields_with (Some m)) ≡ before
-  before_again m =
-      ap (λ (n : ℕ). record (before_held (fields_with (Some m))) { syllables = n }) (omega arith)
-      ∙ ap (λ (n : ℕ). record before { canonical = n }) (omega arith)
+  before_again m = grind arith
 
   held_is_read : (held : Option UnplacedSyllable) → IfSome held (MayBeHeldByItsText s.limits before) → IsUtf8 (held_text s.before held) → (fields_with held).held ≢ [] → IsHeldRead s.limits (fields_with held)
   held_is_read None by utf8 some = absurd (some refl)
@@ -80,8 +77,7 @@ module _ (e : EngineState) where
   phase_is_read over parts fields read score = absurd parts
 
   pub state_is_read : CanRun e → AreStateFields (state_of e) → (e.written.headed ≡ true → IsScoreRead e.score.limits (score_fields e.written.force e.score)) → IsPhaseRead e.score.limits (state_of e) (state_of e).phase
-  state_is_read may fields score =
-      phase_is_read e.heads.progress may.step.parts fields.phase (subst (λ (limits : Limits). IsReadSoFar limits e.heads.progress e.decoder.place e.written.errors) may.limits may.read) score
+  state_is_read may fields score = grind (arith, phase_is_read)
 
   -- where the headers are written, the held text and the kept text are texts
   texts_in : (p : HeadProgress) → e.written.headed ≡ true → AreInOnePart p e.score.part e.written.headed → ArePhaseFields (state_of e) (phase_fields p e.written.force e.score)

@@ -1,20 +1,18 @@
 -- What an engine that runs saves are fields that may be those of a state.
-use Rattle.std.proofs.Common.{◌≡◌, ℕ, ◌+◌, ◌<◌, ◌≤◌, ◌==◌, ◌||◌, List, [], ◌∷◌, ◌++◌, length, encode_utf8, encode_utf8_all, Bool, true, is_some, Option, Some, None, IfSome, refl, ap, sym, subst, ◌∙◌, arith}
+use Rattle.std.proofs.Common.{◌≡◌, ℕ, ◌+◌, ◌<◌, ◌≤◌, List, [], ◌∷◌, ◌++◌, length, encode_utf8, encode_utf8_all, Bool, true, is_some, Option, Some, None, IfSome, ap, sym, subst, ◌∙◌, arith}
 use Rattle.std.specs.List.{All}
 use Rattle.std.specs.Str.{chars}
-use Rattle.std.proofs.lemmas.Bool.Decides.{nat_tests}
-use Rattle.std.proofs.lemmas.List.Elements.{All-cons, All-head, All-nil, All-tail}
-use Rattle.std.proofs.lemmas.Str.{IsUtf8-append, IsUtf8-encode, IsUtf8-nil, chars-append, chars-nil}
-use Rattle.gabc_places.specs.DecoderReports.{MayBeReported, is_after_cr}
+use Rattle.std.proofs.lemmas.List.Elements.{All-cons, All-head, All-tail}
+use Rattle.std.proofs.lemmas.Str.{IsUtf8-append, IsUtf8-encode, chars-append}
 use Rattle.gabc_places.specs.TextOfAnInput.{IsPlain, IsText, IsTextCharacter}
 use Rattle.gabc_places.specs.declared.limits.Limits.{Limits}
 use Rattle.gabc_places.specs.declared.place.Place.{Place}
 use Rattle.gabc_places.proofs.texts.CharactersOfStrings.{chars-encode}
 use Rattle.gabc_headers.specs.HeldText.{IsHeld, IsWithinHeaders}
 use Rattle.gabc_headers.specs.witness.HeadEvents.{HeadProgress, reading, after_headers, over, IsInHeaders}
+use Rattle.gabc_score.proofs.score_events.TextsArePlain.{nothing_plain}
 use Rattle.gabc_score.proofs.resuming.ScoresAgree.{reads_in_body}
-use Rattle.gabc_score.specs.Canonical.{canonical}
-use Rattle.gabc_score.specs.ScoreReports.{before_of, before_with, held_in_body, held_of, in_body as in_body_of, openers_of}
+use Rattle.gabc_score.specs.ScoreReports.{before_of, before_with, held_in_body, held_of, in_body as in_body_of}
 use Rattle.gabc_score.specs.Syllable.{UnplacedSyllable}
 use Rattle.gabc_score.specs.ReportedWithin as told
 use Rattle.gabc_score.specs.ReportedWithin.{ReportsWithin, ReportsText, whole_syllables, written_after}
@@ -22,13 +20,12 @@ use Rattle.gabc_score.specs.declared.before.Preceding.{Preceding}
 use Rattle.gabc_score.specs.declared.body_tells.Openers.{Openers}
 use Rattle.gabc_score.specs.declared.score_machine.ScorePart.{ScorePart}
 use Rattle.gabc_score.specs.declared.score_machine.ScorePart.TheVariants as score_part
-use Rattle.gabc_score.specs.witness.BodyStage.{BodyStageState}
 use Rattle.gabc_score.specs.witness.IsReachable.{IsReachable}
 use Rattle.gabc_score.specs.witness.ScoreStage.{ScoreStageState}
 use Rattle.gregorio_state.specs.Conditions.{AreBeforeHeld, AreCounts, AreOpeners, ArePhaseFields, AreScoreFields, AreStateFields, BeginsWithLf, IsHeldWithin}
 use Rattle.gregorio_state.specs.Fields.{ScoreFields}
 use Rattle.gregorio.specs.Saved.{held_count, held_text, phase_fields, score_fields, state_of}
-use Rattle.gregorio.specs.machine.ClefInForce.{HasClefOfSounds, IsClefIn}
+use Rattle.gregorio.specs.machine.ClefInForce.{HasClefOfSounds}
 use Rattle.gregorio.specs.machine.InStep.{AreInOnePart}
 use Rattle.gregorio.specs.machine.ReadsHeaders.{IsReadSoFar}
 use Rattle.gregorio.specs.machine.TellsInStep.{TellsInBody}
@@ -37,11 +34,8 @@ use Rattle.gregorio.specs.witness.CanRun.{CanRun}
 
 -- ---- the bytes of a text
 
-no_text : IsText []
-no_text = record { utf8 = IsUtf8-nil; plain = subst (All IsPlain) (sym chars-nil) (All-nil IsPlain) }
-
 text_bytes : (t : List ℕ) → All IsTextCharacter t → IsText (encode_utf8_all t)
-text_bytes [] text = no_text
+text_bytes [] text = nothing_plain
 text_bytes (c ∷ t) text =
     let here = All-head IsTextCharacter c t text in
     let rest = text_bytes t (All-tail IsTextCharacter c t text) in
@@ -57,8 +51,7 @@ text_bytes (c ∷ t) text =
 
 -- a syllable that is held is whole
 held_is_whole : (part : ScorePart) (made : List UnplacedSyllable) → held_count (held_in_body part made) ≤ length made
-held_is_whole score_part.Body (m ∷ ms) = omega arith
-held_is_whole _ _ = omega arith
+held_is_whole part made = grind arith
 
 -- so those before it and it are among the whole ones
 held_among_whole : (s : ScoreStageState) → s.before.syllables + held_count (held_of s) ≤ whole_syllables s
@@ -69,47 +62,35 @@ module _ (limits : Limits) (p : Preceding) where
   Within held = IfSome held (told.IsHeldWithin limits p)
 
   held_is_text : (held : Option UnplacedSyllable) → IfSome held (λ m. IsText (written_after p m)) → IsText (held_text p held)
-  held_is_text None t = no_text
+  held_is_text None t = nothing_plain
   held_is_text (Some m) t = t
 
   held_is_short : (held : Option UnplacedSyllable) → Within held → length (held_text p held) ≤ limits.syllable
-  held_is_short None within = omega arith
-  held_is_short (Some m) within = within.short
+  held_is_short held within = grind (arith, within)
 
   file_is_below : (held : Option UnplacedSyllable) → Within held → p.canonical < limits.input → p.canonical + length (held_text p held) < limits.input
-  file_is_below None within below = omega (arith, below)
-  file_is_below (Some m) within below = within.file
+  file_is_below held within below = grind (arith, within)
 
   none_whole : (held : Option UnplacedSyllable) → Within held → held_text p held ≡ [] → (held ≡ None → p.syllables ≡ 0) → p.syllables + held_count held ≡ 0
-  none_whole None within none any = let n = any refl in omega (arith, n)
-  none_whole (Some m) within none any = let some = within.some in let l = ap (λ (bytes : List ℕ). length bytes) none in absurd (omega (arith, some, l))
+  none_whole held within none any = grind (arith, any, within)
 
   nothing_held : (held : Option UnplacedSyllable) → p.syllables + held_count held ≡ 0 → held_text p held ≡ []
-  nothing_held None none = refl
-  nothing_held (Some m) none = absurd (omega (arith, none))
+  nothing_held held none = grind arith
 
   first_begins : (held : Option UnplacedSyllable) → (held ≡ None → p.syllables ≡ 0) → p.syllables + held_count held ≡ 1 → BeginsWithLf (held_text p held)
-  first_begins None any one = let none = any refl in absurd (omega (arith, none, one))
-  first_begins (Some m) any one = subst (λ (first : Bool). BeginsWithLf (canonical (first || m.text.word_start) m)) (sym first_one) refl
-    where
-      first_one : (p.syllables == 0) ≡ true
-      first_one = let none : p.syllables ≡ 0 = omega (arith, one) in grind (arith, nat_tests, none)
+  first_begins held any one = grind (arith, any)
 
 -- where at most one syllable is whole, none stands before the one that is held
 none_before : (n : ℕ) (held : Option UnplacedSyllable) → (held ≡ None → n ≡ 0) → n + held_count held ≤ 1 → n ≡ 0
-none_before n None none few = none refl
-none_before n (Some m) none few = omega (arith, few)
+none_before n held none few = grind arith
 
 -- ---- the fields
 
 openers_are : (next place : Place) (o : Openers) → next ≡ place → told.AreOpenersBefore next o → told.AreOpenersBefore place o
 openers_are next place o is h = subst (λ (at : Place). told.AreOpenersBefore at o) is h
 
-in_body_told : (part : ScorePart) (body : BodyStageState) (p : Preceding) → part ≡ score_part.Body → is_some (in_body_of part (before_with body p)) ≡ true
-in_body_told part body p here = rw here refl
-
 pub score_in_body : (s : ScoreStageState) → s.part ≡ score_part.Body → is_some (before_of s) ≡ true
-score_in_body s body = in_body_told s.part s.body s.before body
+score_in_body s body = ap (λ (part : ScorePart). is_some (in_body_of part (before_with s.body s.before))) body
 
 -- the laws of the parts
 pub record PartsTell : Type 0 where
@@ -139,36 +120,10 @@ module _ (parts : PartsTell) (e : EngineState) (may : CanRun e) (line : IfSome e
     any = in_step.holds body
 
     score_counts : AreCounts (state_of e) f
-    score_counts =
-        let c = of_text.counts in
-        let least = c.headers in
-        let taken = may.step.taken headed in
-        let among = held_among_whole e.score in
-        record {
-          nabc_lines = c.few_lines;
-          macros = c.ten_macros;
-          syllables = omega (arith, taken, among);
-          canonical = omega (arith, least);
-          below = file_is_below e.score.limits e.score.before held within.held c.below;
-        }
+    score_counts = grind (arith, of_text, held_among_whole, file_is_below, within)
 
     score_before : AreBeforeHeld e.written.format f
-    score_before =
-        let none : e.score.before.syllables + held_count held ≤ 1 → e.score.before.syllables ≡ 0 = none_before e.score.before.syllables held any in
-        record {
-          line = line;
-          heights = heights;
-          sounded = subst (λ (part : ScorePart). IsClefIn part e.score.before.sounded e.written.force.clef) body (clef may.runs);
-          outset = λ few.
-              let first = within.outset (none few) in
-              record {
-                eu = ap (λ (p : Preceding). p.spans.eu) first;
-                nlba = ap (λ (p : Preceding). p.spans.nlba) first;
-                sounded = ap (λ (p : Preceding). p.sounded) first;
-                in_force = may.force.outset (may.step.count headed ∙ none few);
-              };
-          untracked = may.force.untracked;
-        }
+    score_before = grind (arith, none_before, any, within)
 
     score_held : IsHeldWithin e.score.limits.syllable f
     score_held = record {
@@ -179,36 +134,18 @@ module _ (parts : PartsTell) (e : EngineState) (may : CanRun e) (line : IfSome e
     }
 
     score_openers : AreOpeners e.decoder.place f
-    score_openers =
-        let o = openers_of e.score.body.part in
-        let h = openers_are e.score.held.next e.decoder.place o in_step.next of_text.openers in
-        record { notes = h.notes; inner = h.inner; in_order = h.in_order }
+    score_openers = grind (arith, openers_are, in_step, of_text)
 
     score_is_whole : AreScoreFields (state_of e) f
-    score_is_whole = record {
-      counts = score_counts;
-      before = score_before;
-      held = score_held;
-      openers = score_openers;
-      comment = record { cr = in_step.comment; inner = within.comment };
-      kept = subst IsText (sym (reads_in_body e.score.part e.score.held.gathered.builder.kept body)) of_text.reading;
-      kept_short = within.reading;
-    }
+    score_is_whole = grind (arith, score_counts, score_before, score_held, score_openers, in_step, within, reads_in_body, of_text)
 
   phase_is_whole : (p : HeadProgress) → AreInOnePart p e.score.part e.written.headed → IsReadSoFar e.score.limits p e.decoder.place e.written.errors → ArePhaseFields (state_of e) (phase_fields p e.written.force e.score)
-  phase_is_whole (reading t) at read = record {
-    is_text = text_bytes t read.text;
-    within = parts.headers e.score.limits t (let least = e.score.limits.in_range.header_least in omega (arith, least)) read.gives.held;
-  }
+  phase_is_whole (reading t) at read = grind (arith, text_bytes, within)
   phase_is_whole (after_headers book) at read = score_is_whole at.in_part at.written_so
   phase_is_whole over at read = absurd at
 
   pub state_is_whole : AreStateFields (state_of e)
-  state_is_whole = record {
-    limits = e.score.limits.in_range;
-    decoder = subst (λ (n : ℕ). MayBeReported n e.decoder.taken e.decoder.place e.decoder.pending (is_after_cr e.decoder)) may.step.limit may.decoder;
-    phase = phase_is_whole e.heads.progress may.step.parts (subst (λ (limits : Limits). IsReadSoFar limits e.heads.progress e.decoder.place e.written.errors) may.limits may.read);
-  }
+  state_is_whole = grind (arith, phase_is_whole)
 
 -- ---- after the headers
 

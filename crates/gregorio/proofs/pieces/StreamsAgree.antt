@@ -1,6 +1,7 @@
 -- Engines whose parts go on alike write the same of whatever follows.
-use Rattle.std.proofs.Common.{◌≡◌, ℕ, zero, suc, ◌⊎◌, inl, inr, List, [], ◌∷◌, ◌++◌, length, take, true, false, Bool, ◌||◌, Result, Ok, Err, refl, ap, sym, ◌∙◌}
+use Rattle.std.proofs.Common.{◌≡◌, ℕ, zero, suc, ◌⊎◌, inr, List, [], ◌∷◌, ◌++◌, take, true, false, Bool, ◌||◌, Result, refl, ap, sym, ◌∙◌, arith}
 use Rattle.std.proofs.lemmas.List.Folds.{list_any-append}
+use Rattle.std.proofs.lemmas.Bool.{or_parts}
 use Rattle.std.specs.List.{list_any}
 use Rattle.std.specs.declared.hash.DefaultHasher.{DefaultHasher}
 use Rattle.gabc_places.specs.StageLaw.{concat_of}
@@ -8,20 +9,16 @@ use Rattle.gabc_places.specs.declared.code.Fault.{Fault}
 use Rattle.gabc_places.specs.declared.limits.Limits.{Limits}
 use Rattle.gabc_places.specs.declared.place.Char.{Char}
 use Rattle.gabc_places.specs.witness.DecoderEvents as decoder
-use Rattle.gabc_headers.specs.declared.heads.Heads.{Heads}
-use Rattle.gabc_headers.specs.declared.heads.HeadFault.{HeadFault}
 use Rattle.gabc_headers.specs.declared.head_event.HeadEvent.{HeadEvent}
-use Rattle.gabc_headers.specs.Heads.{heads_of}
 use Rattle.gabc_headers.specs.HeadEvents as heads
-use Rattle.gabc_headers.specs.witness.HeadEvents.{HeaderStageState, HeadProgress, reading, after_headers, IsAfterHeaders, book_at, events_at_end, events_left, events_of_end, events_of_input, progress_after, stage_past}
+use Rattle.gabc_headers.specs.witness.HeadEvents.{HeaderStageState, HeadProgress, IsAfterHeaders, book_at, events_left, events_of_end, events_of_input, progress_after, stage_past}
 use Rattle.gabc_score.specs.ScoreEvents.{ScoreOutput}
 use Rattle.gabc_score.specs.witness.ScoreStage.{left_of}
 use Rattle.gregorio.specs.declared.source_ending.SourceEnding.{SourceEnding}
-use Rattle.gregorio.specs.declared.source_ending.SourceEnding.TheVariants.{Whole as Ended, Broken}
 use Rattle.gregorio.specs.Outcome.{is_whole}
 use Rattle.gregorio.specs.witness.Engine.{EngineState, Written, book_after, head_events_left, is_heads, items_left, streams_from, streams_left}
 use Rattle.gregorio.specs.machine.SavedAlike.{WriteTheSame}
-use Rattle.gregorio.proofs.StreamsOfOutputs.{first_false, in_body, second_false, without_heads}
+use Rattle.gregorio.proofs.StreamsOfOutputs.{in_body, without_heads}
 use Rattle.gregorio.proofs.pieces.ItemsAreRead.{after_or_none}
 
 -- ---- no headers are whole among these
@@ -36,20 +33,14 @@ none_in_first : (n : ℕ) (lists : List (List HeadEvent)) → NoHeads (concat_of
 none_in_first zero lists h = refl
 none_in_first (suc n) [] h = refl
 none_in_first (suc n) (xs ∷ lists) h =
-    let both = sym (list_any-append is_heads xs (concat_of lists)) ∙ h in
-    none_in_both xs (concat_of (take n lists)) (first_false (list_any is_heads xs) _ both) (none_in_first n lists (second_false (list_any is_heads xs) _ both))
+    let both = or_parts (list_any is_heads xs) _ (sym (list_any-append is_heads xs (concat_of lists)) ∙ h) in
+    none_in_both xs (concat_of (take n lists)) both.0 (none_in_first n lists both.1)
 
 none_emitted : (ending : SourceEnding) (items : List (Result Char Fault)) (lists : List (List HeadEvent)) → NoHeads (concat_of lists) → NoHeads (heads.emitted_by (is_whole ending) items lists)
-none_emitted Ended items lists h = h
-none_emitted Broken items lists h = none_in_first (length items) lists h
+none_emitted ending items lists h = grind (arith, none_in_first)
 
 none_at_end : (limits : Limits) (progress : HeadProgress) → NoHeads (events_of_end limits progress)
-none_at_end limits (reading t) = by (heads_of limits t)
-  where
-    by : (r : Result Heads HeadFault) → NoHeads (events_at_end r)
-    by (Ok whole) = refl
-    by (Err stopped) = refl
-none_at_end limits _ = refl
+none_at_end limits progress = grind arith
 
 -- ---- the book
 
@@ -63,8 +54,7 @@ any_hasher limits progress book hasher another (x ∷ items) =
 -- after the line `%%` the book is the one that was read, whatever was before
 one_book : (limits : Limits) (hasher another : DefaultHasher) (progress : HeadProgress) (old other : List (List ℕ × List ℕ)) (items : List (Result Char Fault)) → IsAfterHeaders progress
     → (stage_past (record { limits = limits; progress = progress; book = book_at progress old; hasher = hasher }) items).book ≡ (stage_past (record { limits = limits; progress = progress; book = book_at progress other; hasher = another }) items).book
-one_book limits hasher another (after_headers book) old other items h = any_hasher limits (after_headers book) book hasher another items
-one_book limits hasher another _ old other items h = absurd h
+one_book limits hasher another progress old other items h = grind (arith, any_hasher)
 
 -- of two stages that differ in their books alone: both have one book after these, or no headers are whole among what they give
 abbrev OneBookOrNone : Limits → DefaultHasher → DefaultHasher → HeadProgress → List (List ℕ × List ℕ) → List (List ℕ × List ℕ) → List (Result Char Fault) → Type 0
@@ -75,10 +65,7 @@ OneBookOrNone limits hasher another progress old other items =
 books_next : (limits : Limits) (hasher another : DefaultHasher) (progress : HeadProgress) (old other : List (List ℕ × List ℕ)) (x : Result Char Fault) (items : List (Result Char Fault))
     → IsAfterHeaders (progress_after limits progress x) ⊎ NoHeads (events_of_input limits progress x)
     → (let after = progress_after limits progress x in OneBookOrNone limits hasher another after (book_at after old) (book_at after other) items) → OneBookOrNone limits hasher another progress old other (x ∷ items)
-books_next limits hasher another progress old other x items (inl is) later = inl (one_book limits hasher another (progress_after limits progress x) old other items is)
-books_next limits hasher another progress old other x items (inr none) (inl same) = inl same
-books_next limits hasher another progress old other x items (inr none) (inr none_later) =
-    inr (none_in_both (events_of_input limits progress x) (concat_of (events_left limits (progress_after limits progress x) items)) none none_later)
+books_next limits hasher another progress old other x items h later = grind (arith, one_book, none_in_both)
 
 books_or_none : (limits : Limits) (hasher another : DefaultHasher) (progress : HeadProgress) (old other : List (List ℕ × List ℕ)) (items : List (Result Char Fault)) → OneBookOrNone limits hasher another progress old other items
 books_or_none limits hasher another progress old other [] = inr (none_in_both (events_of_end limits progress) [] (none_at_end limits progress) refl)
@@ -97,10 +84,7 @@ module _ (w : Written) (limits : Limits) (hasher another : DefaultHasher) (progr
   given = head_events_left one ending items
 
   either_book : OneBookOrNone limits hasher another progress old other items → streams_from w (book_after one items) given lists ≡ streams_from w (book_after two items) given lists
-  either_book (inl same) = ap (λ (book : List (List ℕ × List ℕ)). streams_from w book given lists) same
-  either_book (inr none) =
-      let never = inr (none_emitted ending items (events_left limits progress items) none) in
-      without_heads w (book_after one items) given lists never ∙ sym (without_heads w (book_after two items) given lists never)
+  either_book h = grind (arith, none_emitted, without_heads)
 
   -- The book that a stage had before makes no difference.
   pub no_matter_which_book : streams_from w (book_after one items) given lists ≡ streams_from w (book_after two items) given lists
@@ -125,13 +109,4 @@ NoMatterWhichBook one other ending bytes =
 pub streams_agree : (one other : EngineState) (ending : SourceEnding) (bytes : List ℕ) → one.written ≡ other.written → decoder.events_left one.decoder bytes ≡ decoder.events_left other.decoder bytes
     → ((items : List (Result Char Fault)) → events_left one.heads.limits one.heads.progress items ≡ events_left other.heads.limits other.heads.progress items) → NoMatterWhichBook one other ending bytes
     → WriteTheSame one.score other.score (head_events_left one.heads ending (items_left one ending bytes)) → streams_left one ending bytes ≡ streams_left other ending bytes
-streams_agree one other ending bytes written decoded given books same =
-    let items = items_left one ending bytes in
-    let from_heads = head_events_left one.heads ending items in
-    let book = book_after other.heads items in
-    books
-    ∙ (same one.written book
-    ∙ (ap (λ (w : Written). streams_from w book from_heads (left_of other.score from_heads)) written
-    ∙ (ap (λ (events : List HeadEvent). streams_from other.written book events (left_of other.score events)) (ap (λ (lists : List (List HeadEvent)). heads.emitted_by (is_whole ending) items lists) (given items))
-    ∙ ap (λ (xs : List (Result Char Fault)). let events = head_events_left other.heads ending xs in streams_from other.written (book_after other.heads xs) events (left_of other.score events))
-    (ap (λ (lists : List (List (Result Char Fault))). heads.emitted_by (is_whole ending) bytes lists) decoded))))
+streams_agree one other ending bytes written decoded given books same = grind arith

@@ -1,11 +1,11 @@
 -- A score goes on reporting of a text in step with its decoder.
-use Rattle.std.proofs.Common.{◌≡◌, ℕ, ◌+◌, ◌^◌, ◌<◌, ◌≤◌, List, [], ◌∷◌, ◌++◌, map, Bool, true, false, is_none, Result, Ok, Err, if◌then◌else◌, refl, ap, sym, subst, ◌∙◌, arith}
+use Rattle.std.proofs.Common.{◌≡◌, ℕ, ◌+◌, ◌^◌, ◌<◌, ◌≤◌, List, [], ◌∷◌, ◌++◌, map, Bool, true, false, is_none, Result, Ok, Err, refl, ap, sym, subst, ◌∙◌, arith}
 use Rattle.std.proofs.lemmas.Bool.{false≢true}
 use Rattle.std.proofs.lemmas.List.Elements.{All-head, All-tail}
 use Rattle.std.specs.List.{All}
 use Rattle.gabc_places.specs.DecoderMachine.{DecoderState, fresh_decoder}
 use Rattle.gabc_places.specs.DecoderReports.{MovesOn}
-use Rattle.gabc_places.specs.Place.{next_place, saturating_next_place, is_line_feed}
+use Rattle.gabc_places.specs.Place.{next_place, saturating_next_place}
 use Rattle.gabc_places.specs.declared.code.Fault.{Fault}
 use Rattle.gabc_places.specs.declared.code.Finding.{Finding}
 use Rattle.gabc_places.specs.declared.limits.Limits.{Limits}
@@ -19,11 +19,10 @@ use Rattle.gabc_headers.specs.Heads.{heads_of}
 use Rattle.gabc_headers.specs.HeadEvents.{event_of_book}
 use Rattle.gabc_headers.specs.witness.HeadEvents.{HeaderStageState, HeadProgress, reading, after_headers, over, events_by, events_of_input, new_findings}
 use Rattle.gabc_score.specs.declared.body_stage.BodyPart.{BodyPart}
-use Rattle.gabc_score.specs.declared.body_stage.BodyPart.TheVariants as part
 use Rattle.gabc_score.specs.declared.score_machine.ScorePart.{ScorePart}
 use Rattle.gabc_score.specs.declared.score_machine.ScorePart.TheVariants as score_part
-use Rattle.gabc_score.specs.ScoreStage.{IsPlaceBelow, MayCome, next_past}
-use Rattle.gabc_score.specs.ScoreReports.{IsAt, is_in_front, moved_part, moved_to, openers_of}
+use Rattle.gabc_score.specs.ScoreStage.{IsPlaceBelow, MayCome}
+use Rattle.gabc_score.specs.ScoreReports.{is_in_front, moved_part, moved_to, openers_of}
 use Rattle.gabc_score.specs.ReportedWithin.{AreOpenersBefore, IsPlace, ReportsText}
 use Rattle.gabc_score.specs.witness.ScoreStage.{ScoreStageState}
 use Rattle.gregorio.specs.witness.Engine.{Written}
@@ -37,20 +36,11 @@ use Rattle.gregorio.proofs.pieces.WrittenGoesOn.{running_before, went_on_past}
 
 -- ---- lines
 
-abbrev place_at : ℕ → ℕ → Place
-place_at line column = record { line = line; column = column }
-
 line_next : (p : Place) (c : ℕ) → 1 ≤ p.line → 1 ≤ (next_place p c).line
-line_next p c least = by (is_line_feed c)
-  where
-    by : (b : Bool) → 1 ≤ (if b then place_at (p.line + 1) 1 else place_at p.line (p.column + 1)).line
-    by true = omega arith
-    by false = least
+line_next p c least = grind arith
 
 line_after : (d e : DecoderState) (item : Result Char Fault) → MovesOn d (item ∷ []) e → 1 ≤ d.place.line → 1 ≤ e.place.line
-line_after d e (Ok x) moves least =
-    subst (λ (p : Place). 1 ≤ p.line) (sym moves.place) (line_next x.place x.c (subst (λ (p : Place). 1 ≤ p.line) (sym moves.here) least))
-line_after d e (Err fault) moves least = subst (λ (p : Place). 1 ≤ p.line) (sym moves.place) least
+line_after d e item moves least = grind (arith, line_next)
 
 -- ---- a character of the body
 
@@ -60,12 +50,7 @@ module _ (d e : DecoderState) (h : HeaderStageState) (old new : ScoreWriterState
   were_within = let more = moves.taken in let limit = moves.limit in omega (arith, more, limit, within)
 
   few : x.place.line + x.place.column < 2 ^ 33
-  few =
-      let near = was.near in
-      let most = old.score.limits.in_range.input_most in
-      let limit = was.limit in
-      let taken = were_within in
-      subst (λ (p : Place). p.line + p.column < 2 ^ 33) (sym moves.here) (omega (arith, near, most, limit, taken))
+  few = grind (arith, were_within)
 
   place_below : IsPlaceBelow x
   place_below = let most = few in (omega (arith, most), omega (arith, most))
@@ -75,17 +60,7 @@ module _ (d e : DecoderState) (h : HeaderStageState) (old new : ScoreWriterState
 
   body_told : PassesOn old.score old.writer.written (head_event.Body x) new → old.writer.written.headed ≡ true → new.writer.written.headed ≡ true → RunsInStep e h new.score new.writer.written
       → TellsInBody d old.score → TellsInBody e new.score
-  body_told p headed still is t =
-      let before = in_body h.progress old.score.part old.writer.written.headed headed was.parts in
-      let now = in_body h.progress new.score.part new.writer.written.headed still is.parts in
-      let passed : next_past old.score.part (head_event.Body x) old.score.held.next ≡ saturating_next_place x.place x.c = ap (λ (q : ScorePart). next_past q (head_event.Body x) old.score.held.next) before.body in
-      record {
-        next = p.tells.next now.body ∙ (passed ∙ next_is);
-        told = p.tells.told (moves.here ∙ sym t.next, (place_below, moves.plain))
-            (λ body. subst (λ (place : Place). IsAt place old.score.body.part) (sym t.next) (was.counts were_within body)) t.told;
-        holds = p.tells.holds t.holds;
-        comment = λ cr. p.tells.line (moves.cr is.runs cr) now.body;
-      }
+  body_told p headed still is t = grind (arith, in_body, next_is, place_below, were_within)
 
 pub body_stays_telling : (h : HeaderStageState) (old new : ScoreWriterState) (item : Result Char Fault) → old.writer.written.headed ≡ true → StayInStep h old (item ∷ []) h new
     → PassesOn old.score old.writer.written (event_of_item item) new → StayTelling h old (item ∷ []) new
@@ -102,20 +77,12 @@ body_stays_telling h old new (Err fault) headed stay p = λ d e moves ran told r
 -- ---- no item
 
 pub nothing_stays_telling : (h : HeaderStageState) (s : ScoreWriterState) → StayTelling h s [] s
-nothing_stays_telling h s = λ d e moves ran told running.
-    let was = told running in
-    record {
-      line = subst (λ (p : Place). 1 ≤ p.line) (sym moves.place) was.line;
-      body = λ headed within.
-          let t = was.body headed (let more = moves.taken.0 in let limit = moves.limit in omega (arith, more, limit, within)) in
-          record { next = t.next ∙ sym moves.place; told = t.told; holds = t.holds; comment = λ cr. absurd (moves.cr (moves.ended ∙ (ran running).runs) cr) };
-    }
+nothing_stays_telling h s = grind arith
 
 -- ---- the end of the headers
 
 front_opens_nothing : (next at : Place) (b : BodyPart) → is_in_front b ≡ true → AreOpenersBefore next (openers_of (moved_part at b))
-front_opens_nothing next at part.Comment front = record { notes = tt; inner = tt; in_order = tt }
-front_opens_nothing next at _ front = absurd (cc front)
+front_opens_nothing next at b front = grind arith
 
 -- in front the next character may stand anywhere
 told_anywhere : (at : Place) (s : ScoreStageState) → is_in_front s.body.part ≡ true → IsPlace at → ReportsText s → ReportsText (moved_to at s)
@@ -146,12 +113,7 @@ module _ (h now : HeaderStageState) (old mid : ScoreWriterState) (come : Headers
     (was : RunsInStep d h old.score old.writer.written) (is : RunsInStep e now mid.score mid.writer.written) (line : 1 ≤ e.place.line) (t : List ℕ) (here : h.progress ≡ reading t)
     (end : HeadersEndAt h.limits t x mid.score) (front : is_in_front mid.score.body.part ≡ true) (within : e.taken ≤ e.limit) where
   starts_as_place : IsPlace e.place
-  starts_as_place =
-      let near = is.near in
-      let column = is.column in
-      let most = mid.score.limits.in_range.input_most in
-      let limit = is.limit in
-      record { line = line; column = column; in_64_bits = omega (arith, near, most, limit, within) }
+  starts_as_place = grind arith
 
   told_first : ReportsText mid.score
   told_first = end.tells.told (headers_came come h.limits t x mid.score end) (λ body. absurd (cc (body, end.part))) (λ body. absurd (cc (body, end.part)))
@@ -193,9 +155,7 @@ module _ (h now : HeaderStageState) (old mid new : ScoreWriterState) (item : Res
 -- ---- before the first byte, and where the run is over
 
 pub fresh_tells : (limits : Limits) (d : DecoderState) (s : ScoreWriterState) → d ≡ fresh_decoder limits.input → s.writer.written.headed ≡ false → IsTelling d s
-fresh_tells limits d s is unheaded = λ running.
-    let line = ap (λ (x : DecoderState). x.place.line) is in
-    record { line = omega (arith, line); body = λ headed. absurd (false≢true (sym unheaded ∙ headed)) }
+fresh_tells limits d s is unheaded = grind arith
 
 -- ---- the headers
 

@@ -1,5 +1,5 @@
 -- Of the text of headers that an engine reads the place and the errors are those that it gives.
-use Rattle.std.proofs.Common.{◌≡◌, ℕ, ◌||◌, List, [], ◌∷◌, ◌++◌, Bool, true, false, is_none, Result, Ok, Err, if◌then◌else◌, refl, ap, sym, subst, ◌∙◌}
+use Rattle.std.proofs.Common.{◌≡◌, ℕ, ◌||◌, List, [], ◌∷◌, ◌++◌, Bool, true, false, is_none, Result, Ok, Err, if◌then◌else◌, refl, ap, sym, subst, ◌∙◌, arith}
 use Rattle.std.proofs.Math.Bool.{or-false, or_assoc}
 use Rattle.std.proofs.lemmas.Bool.{false≢true}
 use Rattle.std.specs.Char.{IsScalar}
@@ -21,13 +21,12 @@ use Rattle.gabc_headers.specs.declared.heads.Heads.{Heads}
 use Rattle.gabc_headers.specs.declared.heads.HeadFault.{HeadFault}
 use Rattle.gabc_headers.specs.Heads.{heads_of}
 use Rattle.gabc_headers.specs.HeldText.{IsHeld, findings_held}
-use Rattle.gabc_headers.specs.witness.HeadEvents.{HeaderStageState, HeadProgress, reading, after_headers, over, events_by, events_of_input, fresh_stage, new_findings, progress_after, progress_by, stage_after}
+use Rattle.gabc_headers.specs.witness.HeadEvents.{HeaderStageState, HeadProgress, reading, over, events_by, events_of_input, fresh_stage, new_findings, progress_after, progress_by, stage_after}
 use Rattle.gabc_score.specs.ScoreEvents.{ScoreOutput}
 use Rattle.gabc_score.specs.declared.score_machine.ScorePart.{ScorePart}
 use Rattle.gregorio.specs.Outcome.{is_error_finding}
 use Rattle.gregorio.specs.machine.InStep.{AreInOnePart, PassesAll, written_at}
 use Rattle.gregorio.specs.machine.ReadsHeaders.{IsReadAs, IsReadSoFar, ReadsHeaders, ReadsOn}
-use Rattle.gregorio.specs.machine.RunWriter.{RunWriterState}
 use Rattle.gregorio.specs.machine.ScoreWriter.{ScoreWriterState, begun_again}
 use Rattle.gregorio.specs.witness.Engine.{Written, after_outputs}
 use Rattle.gregorio.proofs.pieces.HeadersStayInStep.{HeadsYet, found_events, found_passed, in_heads}
@@ -81,13 +80,11 @@ module _ (law : IsFoundAfter) (limits : Limits) (t : List ℕ) (x : Char) (plain
   read_by_end : (stopped : HeadFault) (at_end : Bool) → heads_of limits longer ≡ Err stopped → stopped.at_end ≡ at_end
       → PassesAll old (if at_end then found_events more else head_event.Stop stopped.fault ∷ []) new
       → IsReadSoFar limits (if at_end then reading longer else over) (next_place x.place x.c) new.writer.written.errors
-  read_by_end stopped true is at_end all = read_more (record { stopped = stopped; heads = is; at_end = at_end }) all
-  read_by_end stopped false is at_end all = tt
+  read_by_end stopped h is at_end all = grind (arith, read_more)
 
   pub read_by_heads : (r : Result Heads HeadFault) → heads_of limits longer ≡ r → PassesAll old (events_by more r) new
       → IsReadSoFar limits (progress_by longer r) (next_place x.place x.c) new.writer.written.errors
-  read_by_heads (Ok heads) is all = tt
-  read_by_heads (Err stopped) is all = read_by_end stopped stopped.at_end is refl all
+  read_by_heads r is all = grind (arith, read_by_end)
 
 -- ---- an item
 
@@ -101,37 +98,26 @@ module _ (law : IsFoundAfter) (limits : Limits) (t : List ℕ) (d e : DecoderSta
   read_item (Err fault) moves all = tt
 
 pub heads_read_on : IsFoundAfter → (h : HeaderStageState) (old new : ScoreWriterState) (item : Result Char Fault) → old.writer.written.headed ≡ false → PassesAll old (events_of_input h.limits h.progress item) new → ReadsOn h old (item ∷ []) (stage_after h item) new
-heads_read_on law h old new item unheaded all d e moves ran reads running =
-    let before = running_before (events_of_input h.limits h.progress item) old new all running in
-    let was = ran before in
-    let i = in_heads h.progress old unheaded was.parts (was.none unheaded) in
-    let here = subst (λ (p : HeadProgress). PassesAll old (events_of_input h.limits p item) new) i.1.0 all in
-    let read = subst (λ (p : HeadProgress). IsReadSoFar h.limits p d.place old.writer.written.errors) i.1.0 (reads before) in
-    subst (λ (p : HeadProgress). IsReadSoFar h.limits (progress_after h.limits p item) e.place new.writer.written.errors) (sym i.1.0)
-    (read_item law h.limits i.0 d e old new i.1.1 running read item moves here)
+heads_read_on law h old new item unheaded all d e moves ran reads running = grind (arith, running_before, in_heads, read_item)
 
 -- where the writer stays and its stage alone is changed
 pub reads_begun : (h : HeaderStageState) (old mid new : ScoreWriterState) (item : Result Char Fault) → new.writer ≡ mid.writer → ReadsOn h old (item ∷ []) (stage_after h item) mid
     → ReadsOn h old (item ∷ []) (stage_after h item) new
-reads_begun h old mid new item same reads d e moves ran were =
-    subst (λ (v : RunWriterState). ReadsHeaders e (stage_after h item) v.written) (sym same) (reads d e moves ran were)
+reads_begun h old mid new item same reads d e moves ran were = grind arith
 
 -- ---- after the headers, and where nothing comes
 
 -- where they are written nothing of them is read any more
 pub headed_read : (limits : Limits) (progress : HeadProgress) (part : ScorePart) (headed : Bool) (place : Place) (error : Bool) → headed ≡ true → AreInOnePart progress part headed → IsReadSoFar limits progress place error
 headed_read limits (reading t) part headed place error is parts = absurd (false≢true (sym parts.written_so ∙ is))
-headed_read limits (after_headers book) part headed place error is parts = tt
-headed_read limits over part headed place error is parts = tt
+headed_read limits _ part headed place error is parts = tt
 
 pub body_reads_on : (h : HeaderStageState) (old new : ScoreWriterState) (item : Result Char Fault) → old.writer.written.headed ≡ true
     → (is_none new.writer.written.ended ≡ true → is_none old.writer.written.ended ≡ true) → ReadsOn h old (item ∷ []) h new
-body_reads_on h old new item headed earlier d e moves ran reads running =
-    headed_read h.limits h.progress old.score.part old.writer.written.headed e.place new.writer.written.errors headed (ran (earlier running)).parts
+body_reads_on h old new item headed earlier d e moves ran reads running = grind (arith, headed_read)
 
 pub nothing_reads_on : (h : HeaderStageState) (s : ScoreWriterState) → ReadsOn h s [] h s
-nothing_reads_on h s d e moves ran reads running =
-    subst (λ (p : Place). IsReadSoFar h.limits h.progress p s.writer.written.errors) (sym moves.place) (reads running)
+nothing_reads_on h s d e moves ran reads running = grind arith
 
 -- ---- before the first byte, and after the last
 

@@ -1,97 +1,63 @@
 -- What two scores say is written alike, where one syllable stands in the place of another that is written alike.
-use Rattle.std.proofs.Common.{◌≡◌, ℕ, List, [], ◌∷◌, ◌++◌, drop, if◌then◌else◌, inl, inr, Option, Some, None, refl, ap, sym, subst, ◌∙◌}
+use Rattle.std.proofs.Common.{◌≡◌, ℕ, List, [], ◌∷◌, ◌++◌, drop, if◌then◌else◌, inl, inr, Option, refl, ap, sym, ◌∙◌, arith}
 use Rattle.gabc_places.specs.StageLaw.{concat_of}
 use Rattle.gabc_headers.specs.declared.head_event.HeadEvent.{HeadEvent}
-use Rattle.gabc_neumes.specs.InForce.{InForce, ScoreStep, passed}
+use Rattle.gabc_neumes.specs.InForce.{InForce}
 use Rattle.gabc_score.specs.HeldAside.{AreSameLists, AreSameOutputs, GiveTheSame, IsSameOutput}
 use Rattle.gabc_score.specs.ScoreEvents.{ScoreOutput, Found, Stop, Syllable, End}
 use Rattle.gabc_score.specs.Syllable.{PlacedSyllable, UnplacedSyllable}
 use Rattle.gabc_score.specs.declared.syllable.Position.{Position}
 use Rattle.gabc_write.specs.SetDown.{AreWrittenAlike, IsWrittenAlike}
 use Rattle.gregorio_jobs.specs.declared.job.Format.{Format}
-use Rattle.gregorio_jobs.specs.declared.job.Format.TheVariants.{Gabc, Dump}
-use Rattle.gregorio.specs.Streams.{Streams, after_bytes, force_after, next_number, syllable_text}
+use Rattle.gregorio.specs.Streams.{after_bytes, force_after, next_number, syllable_text}
 use Rattle.gregorio.specs.witness.Engine.{Written, after_heads, after_output, after_outputs, ceased, first_list, if_headed, lines_of_output, lines_of_outputs, streams_from, text_of_heads, text_of_output, texts_of_outputs, writes_heads}
 
--- two syllables have one text in each format, and the same is in force after them
-record AreOneText (s t : PlacedSyllable) : Type 0 where
-  text : (format : Format) (number : ℕ) (force : InForce) → syllable_text format number force s ≡ syllable_text format number force t
-  force : (format : Format) (force : InForce) → force_after format force s ≡ force_after format force t
+-- a text, lines, and what is written after them
+abbrev Wrote : Type 0
+Wrote = List ℕ × List ℕ × Written
 
--- Two outputs are written alike whatever was written before, and the same is written after them.
-record AreOneOutput (o p : ScoreOutput) : Type 0 where
-  text : (w : Written) → text_of_output w o ≡ text_of_output w p
-  lines : (w : Written) → lines_of_output w o ≡ lines_of_output w p
-  after : (w : Written) → after_output w o ≡ after_output w p
+-- what an output brings
+abbrev wrote_one : Written → ScoreOutput → Wrote
+wrote_one w o = (text_of_output w o, lines_of_output w o, after_output w o)
 
--- so are two lists of outputs
-record AreOneList (os ps : List ScoreOutput) : Type 0 where
-  texts : (w : Written) → texts_of_outputs w os ≡ texts_of_outputs w ps
-  lines : (w : Written) → lines_of_outputs w os ≡ lines_of_outputs w ps
-  after : (w : Written) → after_outputs w os ≡ after_outputs w ps
-
-syllable_after : (w : Written) (s t : PlacedSyllable) → AreOneText s t → after_output w (Syllable s) ≡ after_output w (Syllable t)
-syllable_after w s t one = ap (λ (force : InForce). record (after_output w (Syllable s)) { force = if w.headed then force else w.force }) (one.force w.format w.force)
-
-one_syllable : (s t : PlacedSyllable) → AreOneText s t → AreOneOutput (Syllable s) (Syllable t)
-one_syllable s t one = record {
-  text = λ w. ap (if_headed w) (one.text w.format (next_number w.count) w.force);
-  lines = λ w. refl;
-  after = λ w. syllable_after w s t one;
-}
-
-one_output : (o p : ScoreOutput) → o ≡ p → AreOneOutput o p
-one_output o p e = record {
-  text = λ w. ap (text_of_output w) e;
-  lines = λ w. ap (lines_of_output w) e;
-  after = λ w. ap (after_output w) e;
-}
-
-one_more : (o p : ScoreOutput) (os ps : List ScoreOutput) → AreOneOutput o p → AreOneList os ps → AreOneList (o ∷ os) (p ∷ ps)
-one_more o p os ps one rest = record {
-  texts = λ w.
-      ap (λ (text : List ℕ). text ++ texts_of_outputs (after_output w o) os) (one.text w)
-      ∙ (ap (λ (v : Written). text_of_output w p ++ texts_of_outputs v os) (one.after w) ∙ ap (λ (text : List ℕ). text_of_output w p ++ text) (rest.texts (after_output w p)));
-  lines = λ w.
-      ap (λ (lines : List ℕ). lines ++ lines_of_outputs (after_output w o) os) (one.lines w)
-      ∙ (ap (λ (v : Written). lines_of_output w p ++ lines_of_outputs v os) (one.after w) ∙ ap (λ (lines : List ℕ). lines_of_output w p ++ lines) (rest.lines (after_output w p)));
-  after = λ w. ap (λ (v : Written). after_outputs v os) (one.after w) ∙ rest.after (after_output w p);
-}
-
-none_more : AreOneList [] []
-none_more = record { texts = λ w. refl; lines = λ w. refl; after = λ w. refl }
+-- and what outputs bring
+abbrev wrote : Written → List ScoreOutput → Wrote
+wrote w outputs = (texts_of_outputs w outputs, lines_of_outputs w outputs, after_outputs w outputs)
 
 module _ (m n : UnplacedSyllable) (alike : (position : Position) → IsWrittenAlike m n position) where
   placed_text : (position : Position) (format : Format) (number : ℕ) (force : InForce) → syllable_text format number force (record { made = m; position = position }) ≡ syllable_text format number force (record { made = n; position = position })
-  placed_text position Gabc number force = (alike position).canonical
-  placed_text position Dump number force = (alike position).dump.lines number force
+  placed_text position format number force = grind arith
 
   placed_force : (position : Position) (format : Format) (force : InForce) → force_after format force (record { made = m; position = position }) ≡ force_after format force (record { made = n; position = position })
-  placed_force position Gabc force = refl
-  placed_force position Dump force = ap (λ (steps : List ScoreStep). passed force steps) (alike position).dump.steps
+  placed_force position format force = grind arith
 
-  one_text : (position : Position) → AreOneText (record { made = m; position = position }) (record { made = n; position = position })
-  one_text position = record { text = placed_text position; force = placed_force position }
+  one_text : (position : Position) (w : Written) → wrote_one w (Syllable (record { made = m; position = position })) ≡ wrote_one w (Syllable (record { made = n; position = position }))
+  one_text position w = λ i. (
+    if_headed w (placed_text position w.format (next_number w.count) w.force i),
+    [],
+    record (after_output w (Syllable (record { made = m; position = position }))) { force = if w.headed then placed_force position w.format w.force i else w.force },
+  )
 
-  in_place : (s t : PlacedSyllable) → s.made ≡ m → t.made ≡ n → s.position ≡ t.position → AreOneText s t
-  in_place s t first second position =
-      subst (λ (a : PlacedSyllable). AreOneText a t) (ap (λ (a : UnplacedSyllable). record { made = a; position = s.position }) (sym first))
-      (subst (λ (b : PlacedSyllable). AreOneText (record { made = m; position = s.position }) b)
-      (ap (λ (p : Position). record { made = n; position = p }) position ∙ ap (λ (b : UnplacedSyllable). record { made = b; position = t.position }) (sym second))
-      (one_text s.position))
+  in_place : (s t : PlacedSyllable) → s.made ≡ m → t.made ≡ n → s.position ≡ t.position → (w : Written) → wrote_one w (Syllable s) ≡ wrote_one w (Syllable t)
+  in_place s t first second position w =
+      ap (λ (a : UnplacedSyllable). wrote_one w (Syllable (record { made = a; position = s.position }))) first
+      ∙ (one_text s.position w ∙ (λ i. wrote_one w (Syllable (record { made = sym second i; position = position i }))))
 
-  same_output : (o p : ScoreOutput) → IsSameOutput m n o p → AreOneOutput o p
-  same_output (Found f) (Found g) h = one_output (Found f) (Found g) (ap (λ x. Found x) h)
-  same_output (Stop f) (Stop g) h = one_output (Stop f) (Stop g) (ap (λ x. Stop x) h)
-  same_output (Syllable s) (Syllable t) (inl h) = one_output (Syllable s) (Syllable t) (ap (λ x. Syllable x) h)
-  same_output (Syllable s) (Syllable t) (inr h) = one_syllable s t (in_place s t h.0 h.1.0 h.1.1)
-  same_output End End h = one_output End End refl
-  same_output _ _ h = absurd h
+  same_output : (o p : ScoreOutput) → IsSameOutput m n o p → (w : Written) → wrote_one w o ≡ wrote_one w p
+  same_output (Found f) (Found g) h w = ap (λ x. wrote_one w (Found x)) h
+  same_output (Stop f) (Stop g) h w = ap (λ x. wrote_one w (Stop x)) h
+  same_output (Syllable s) (Syllable t) (inl h) w = ap (λ x. wrote_one w (Syllable x)) h
+  same_output (Syllable s) (Syllable t) (inr h) w = in_place s t h.0 h.1.0 h.1.1 w
+  same_output End End h w = refl
+  same_output _ _ h w = absurd h
 
-  same_outputs : (os ps : List ScoreOutput) → AreSameOutputs m n os ps → AreOneList os ps
-  same_outputs [] [] h = none_more
-  same_outputs (o ∷ os) (p ∷ ps) h = one_more o p os ps (same_output o p h.0) (same_outputs os ps h.1)
-  same_outputs _ _ h = absurd h
+  same_outputs : (os ps : List ScoreOutput) → AreSameOutputs m n os ps → (w : Written) → wrote w os ≡ wrote w ps
+  same_outputs [] [] h w = refl
+  same_outputs (o ∷ os) (p ∷ ps) h w = λ i.
+      let first : Wrote = same_output o p h.0 w i in
+      let rest : Wrote = same_outputs os ps h.1 first.2 i in
+      (first.0 ++ rest.0, first.1 ++ rest.1, rest.2)
+  same_outputs _ _ h w = absurd h
 
   same_in_both : (os ps more others : List ScoreOutput) → AreSameOutputs m n os ps → AreSameOutputs m n more others → AreSameOutputs m n (os ++ more) (ps ++ others)
   same_in_both [] [] more others h k = k
@@ -104,35 +70,22 @@ module _ (m n : UnplacedSyllable) (alike : (position : Position) → IsWrittenAl
   same_joined _ _ h = absurd h
 
   same_first : (lists others : List (List ScoreOutput)) → AreSameLists m n lists others → AreSameOutputs m n (first_list lists) (first_list others)
-  same_first [] [] h = tt
-  same_first (os ∷ lists) (ps ∷ others) h = h.0
-  same_first _ _ h = absurd h
+  same_first lists others h = grind arith
 
   same_rest : (lists others : List (List ScoreOutput)) → AreSameLists m n lists others → AreSameLists m n (drop 1 lists) (drop 1 others)
-  same_rest [] [] h = tt
-  same_rest (os ∷ lists) (ps ∷ others) h = h.1
-  same_rest _ _ h = absurd h
+  same_rest lists others h = grind arith
 
   lists_are_written_alike : (w : Written) (book : List (List ℕ × List ℕ)) (from_heads : List HeadEvent) (lists others : List (List ScoreOutput)) → AreSameLists m n lists others
       → streams_from w book from_heads lists ≡ streams_from w book from_heads others
-  lists_are_written_alike w book [] lists others h =
-      let one = same_outputs (concat_of lists) (concat_of others) (same_joined lists others h) in
-      ap (λ (text : List ℕ). after_bytes text (lines_of_outputs w (concat_of lists)) (ceased (after_outputs w (concat_of lists)))) (one.texts w)
-      ∙ (ap (λ (lines : List ℕ). after_bytes (texts_of_outputs w (concat_of others)) lines (ceased (after_outputs w (concat_of lists)))) (one.lines w)
-      ∙ ap (λ (v : Written). after_bytes (texts_of_outputs w (concat_of others)) (lines_of_outputs w (concat_of others)) (ceased v)) (one.after w))
-  lists_are_written_alike w book (x ∷ from_heads) lists others h =
-      let one = same_outputs (first_list lists) (first_list others) (same_first lists others h) in
-      let v = after_heads w (writes_heads w x) in
+  lists_are_written_alike w book [] lists others h = λ i.
+      let all : Wrote = same_outputs (concat_of lists) (concat_of others) (same_joined lists others h) w i in
+      after_bytes all.0 all.1 (ceased all.2)
+  lists_are_written_alike w book (x ∷ from_heads) lists others h = λ i.
       let heads = text_of_heads w book (writes_heads w x) in
-      let later = lists_are_written_alike (after_outputs v (first_list others)) book from_heads (drop 1 lists) (drop 1 others) (same_rest lists others h) in
-      ap (λ (text : List ℕ). after_bytes (heads ++ text) (lines_of_outputs v (first_list lists)) (streams_from (after_outputs v (first_list lists)) book from_heads (drop 1 lists))) (one.texts v)
-      ∙ (ap (λ (lines : List ℕ). after_bytes (heads ++ texts_of_outputs v (first_list others)) lines (streams_from (after_outputs v (first_list lists)) book from_heads (drop 1 lists))) (one.lines v)
-      ∙ (ap (λ (u : Written). after_bytes (heads ++ texts_of_outputs v (first_list others)) (lines_of_outputs v (first_list others)) (streams_from u book from_heads (drop 1 lists))) (one.after v)
-      ∙ ap (λ (s : Streams). after_bytes (heads ++ texts_of_outputs v (first_list others)) (lines_of_outputs v (first_list others)) s) later))
+      let first : Wrote = same_outputs (first_list lists) (first_list others) (same_first lists others h) (after_heads w (writes_heads w x)) i in
+      after_bytes (heads ++ first.0) first.1 (lists_are_written_alike first.2 book from_heads (drop 1 lists) (drop 1 others) (same_rest lists others h) i)
 
 -- What is given is written alike, where the syllables that are held are.
 pub given_is_written_alike : (held other : Option UnplacedSyllable) → AreWrittenAlike held other → (w : Written) (book : List (List ℕ × List ℕ)) (from_heads : List HeadEvent)
     (lists others : List (List ScoreOutput)) → GiveTheSame held other lists others → streams_from w book from_heads lists ≡ streams_from w book from_heads others
-given_is_written_alike (Some m) (Some n) alike w book from_heads lists others h = lists_are_written_alike m n alike w book from_heads lists others h
-given_is_written_alike None None alike w book from_heads lists others h = ap (streams_from w book from_heads) h
-given_is_written_alike _ _ alike w book from_heads lists others h = absurd alike
+given_is_written_alike held other alike w book from_heads lists others h = grind (arith, lists_are_written_alike)

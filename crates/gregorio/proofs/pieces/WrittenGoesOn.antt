@@ -1,9 +1,8 @@
 -- What is written goes on with what the score gives.
-use Rattle.std.proofs.Common.{◌≡◌, ℕ, ◌+◌, ◌≤◌, ◌&&◌, List, [], ◌∷◌, length, Bool, true, false, is_none, if◌then◌else◌, refl, ap, sym, subst, ◌∙◌, arith}
+use Rattle.std.proofs.Common.{◌≡◌, ℕ, ◌+◌, ◌≤◌, List, [], ◌∷◌, length, Bool, true, false, is_none, if◌then◌else◌, refl, ap, sym, subst, ◌∙◌, arith}
 use Rattle.std.proofs.Math.Bool.{or-false}
 use Rattle.std.proofs.lemmas.Bool.{false≢true}
 use Rattle.std.specs.List.{list_any}
-use Rattle.gabc_places.specs.BoundedList.{BoundedList, extended_by}
 use Rattle.gabc_headers.specs.declared.head_event.HeadEvent.{HeadEvent}
 use Rattle.gabc_headers.specs.declared.head_event.HeadEvent.TheVariants as head_event
 use Rattle.gabc_score.specs.declared.before.Preceding.{Preceding}
@@ -11,12 +10,11 @@ use Rattle.gabc_score.specs.Before.{with_placed}
 use Rattle.gabc_score.specs.ScoreEvents.{ScoreOutput, Found, Stop, Syllable, End, is_last, syllables_in}
 use Rattle.gabc_score.specs.Syllable.{PlacedSyllable}
 use Rattle.gabc_score.specs.witness.ScoreStage.{ScoreStageState}
-use Rattle.gregorio_jobs.specs.declared.job.Format.{Format}
 use Rattle.gabc_headers.proofs.stages.CharactersOfAStage.{nothing_added}
 use Rattle.gregorio.specs.Streams.{force_after, next_number}
-use Rattle.gregorio.specs.witness.Engine.{Written, after_output, after_outputs, is_before_heads, is_heads}
+use Rattle.gregorio.specs.witness.Engine.{Written, after_output, after_outputs, is_heads}
 use Rattle.gregorio.specs.machine.InStep.{HasForce, PassesAll, PassesOn, written_at}
-use Rattle.gregorio.specs.machine.RunWriter.{RunWriterState, heads_at, past_end, past_outputs, with_book}
+use Rattle.gregorio.specs.machine.RunWriter.{RunWriterState, heads_at, past_end, past_outputs}
 use Rattle.gregorio.specs.machine.ScoreWriter.{IsSteady, ScoreWriterState}
 use Rattle.gregorio.proofs.StreamsOfOutputs.{job_stays}
 
@@ -64,11 +62,7 @@ few_more (s ∷ ss) p = let h = few_more ss (with_placed p (s ∷ [])) in omega 
 
 syllable_forces : (w : Written) (s : PlacedSyllable) (headed : Bool) → HasForce w
     → HasForce (record w { count = if headed then next_number w.count else w.count; force = if headed then force_after w.format w.force s else w.force })
-syllable_forces w s false h = record { untracked = h.untracked; outset = h.outset }
-syllable_forces w s true h = record {
-  untracked = λ gabc. ap (λ (f : Format). force_after f w.force s) gabc ∙ h.untracked gabc;
-  outset = λ none. absurd (omega (arith, none));
-}
+syllable_forces w s headed h = grind arith
 
 forces : (outputs : List ScoreOutput) (w : Written) → HasForce w → HasForce (after_outputs w outputs)
 forces [] w h = h
@@ -92,27 +86,14 @@ force_past_all (x ∷ events) old new all h =
 
 -- what no call changes, where this was written of outputs
 pub steady_past : (old new : ScoreWriterState) (w : RunWriterState) (outputs : List ScoreOutput) → IsSteady old (record { score = new.score; writer = w }) → new.writer ≡ past_outputs w outputs → IsSteady old new
-steady_past old new w outputs s e =
-    let job = job_stays w.written outputs in
-    record {
-      limits = s.limits;
-      format = ap (λ (v : RunWriterState). v.written.format) e ∙ (job.0 ∙ s.format);
-      name = ap (λ (v : RunWriterState). v.written.name) e ∙ (job.1.0 ∙ s.name);
-      all_warnings = ap (λ (v : RunWriterState). v.written.all_warnings) e ∙ (job.1.1.0 ∙ s.all_warnings);
-      out = ap (λ (v : RunWriterState). v.out.limit) e ∙ s.out;
-      messages = ap (λ (v : RunWriterState). v.messages.limit) e ∙ s.messages;
-    }
+steady_past old new w outputs s e = grind (arith, job_stays)
 
 -- where an event is not that of the headers, they are not written
 pub no_heads : (x : HeadEvent) → ((lines macros canonical : ℕ) → x ≡ head_event.Heads lines macros canonical → ⊥) → is_heads x ≡ false
-no_heads (head_event.Heads lines macros canonical) other = absurd (other lines macros canonical refl)
-no_heads _ other = refl
+no_heads x other = grind arith
 
 pub not_written : (w : RunWriterState) (x : HeadEvent) (book : List (List ℕ × List ℕ)) → is_heads x ≡ false → heads_at w x book ≡ w
-not_written w x book none =
-    ap (λ (b : Bool). with_book w book (b && is_before_heads w.written)) none
-    ∙ (ap (λ (headed : Bool). record w { written = record w.written { headed = headed }; out = extended_by w.out [] }) (or-false w.written.headed)
-    ∙ ap (λ (out : BoundedList ℕ). record w { out = out }) (sym (nothing_added w.out)))
+not_written w x book none = grind (arith, or-false, nothing_added)
 
 pub went_on_past : (old : ScoreStageState) (w : Written) (x : HeadEvent) (new : ScoreWriterState) (p : PassesOn old w x new) → is_none new.writer.written.ended ≡ true → GoesOn w p.outputs
 went_on_past old w x new p running = went_on w p.outputs (subst (λ (v : Written). is_none v.ended ≡ true) p.written running)

@@ -1,5 +1,5 @@
 -- The held text of a state is read as its fields say, or it is not.
-use Rattle.std.proofs.Common.{◌≡◌, ◌≢◌, ℕ, ◌-◌, List, [], length, false, Some, ap, sym, subst, ◌∙◌}
+use Rattle.std.proofs.Common.{◌≡◌, ◌≢◌, ℕ, ◌-◌, List, [], length, false, Some, ap, sym, subst, ◌∙◌, arith}
 use Rattle.std.proofs.lemmas.Bool.{false≢true}
 use Rattle.std.specs.Prelude.{◌==◌, ◌||◌}
 use Rattle.std.specs.Str.{chars}
@@ -13,7 +13,6 @@ use Rattle.gabc_score.specs.Syllable.{UnplacedSyllable}
 use Rattle.gabc_score.specs.ReportedWithin.{written_after}
 use Rattle.gabc_score.specs.declared.before.Before.{Before}
 use Rattle.gabc_score.specs.declared.score_machine.ScorePart.{ScorePart}
-use Rattle.gabc_score.specs.declared.score_machine.ScorePart.TheVariants as score_part
 use Rattle.gabc_score.specs.witness.ScoreStage.{ScoreStageState}
 use Rattle.gregorio_state.specs.Fields.{ScoreFields}
 use Rattle.gregorio.specs.Saved.{held_text}
@@ -22,9 +21,7 @@ use Rattle.gregorio.specs.SavedState.{IsHeldRead, before_held}
 -- ---- what a stage reports in the body
 
 pub told_in_body : {A : Type 0} → (p : ScorePart) (a b : A) → in_body p a ≡ Some b → a ≡ b
-told_in_body score_part.Heads a b is = absurd (cc is)
-told_in_body score_part.Body a b is = cc is
-told_in_body score_part.Over a b is = absurd (cc is)
+told_in_body p a b is = grind arith
 
 pub before_told : (s : ScoreStageState) (b : Before) → before_of s ≡ Some b → before_with s.body s.before ≡ b
 before_told s b is = told_in_body s.part (before_with s.body s.before) b is

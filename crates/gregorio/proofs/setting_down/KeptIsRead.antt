@@ -1,11 +1,10 @@
 -- The kept text of a state is read as its fields say, or it is not.
-use Rattle.std.proofs.Common.{◌≡◌, ◌+◌, ◌-◌, Bool, true, false, is_some, Option, Some, refl, ap, sym, subst, ◌∙◌}
+use Rattle.std.proofs.Common.{◌≡◌, ◌-◌, Bool, true, false, is_some, Option, Some, ap, sym, subst, ◌∙◌, arith}
 use Rattle.gabc_places.specs.declared.place.Place.{Place}
 use Rattle.gabc_places.specs.TextOfAnInput.{IsText}
 use Rattle.gabc_score.specs.Before.{preceding_of}
 use Rattle.gabc_score.specs.ReadAgain.{ComesBefore, ReportsReading, ReportsTheSameBut}
 use Rattle.gabc_score.specs.ScoreReports.{before_of, before_with, in_body, is_in_comment, is_in_front, openers_of, reading_in_body}
-use Rattle.gabc_score.specs.Syllable.{UnplacedSyllable}
 use Rattle.gabc_score.specs.ReportedWithin.{AreOpenersBefore, IsPlace, ReportsText}
 use Rattle.gabc_score.specs.declared.before.Before.{Before}
 use Rattle.gabc_score.specs.declared.body_tells.Openers.{Openers}
@@ -15,7 +14,6 @@ use Rattle.gabc_score.specs.witness.ReadAgain.{CanBeReadAgain}
 use Rattle.gabc_score.specs.witness.ScoreStage.{ScoreStageState}
 use Rattle.gregorio_state.specs.Conditions.{AreOpeners}
 use Rattle.gregorio_state.specs.Fields.{ScoreFields}
-use Rattle.gregorio.specs.Saved.{held_count, held_text}
 use Rattle.gregorio.specs.SavedState.{before_held}
 use Rattle.gregorio.specs.machine.SettingDown.{HasRead, HoldsHeld, IsReportedSo, ReadsOn, openers_told}
 use Rattle.gregorio.proofs.setting_down.HeldIsRead.{before_told, told_in_body}
@@ -23,11 +21,7 @@ use Rattle.gregorio.proofs.setting_down.KeptAsReported.{ReadInText, is_reported_
 
 module _ (f : ScoreFields) (old : ScoreStageState) (holds : HoldsHeld f old) where
   stands_before : is_in_comment old.body.part ≡ false → ComesBefore old
-  stands_before outside = record {
-    runs = ap (λ (b : Option Before). is_some b) holds.after.before_is;
-    nothing_read = holds.begins.nothing_read;
-    outside = outside;
-  }
+  stands_before outside = grind arith
 
   module _ (o : Openers) (open_at : o ≡ openers_told f) (new : ScoreStageState) (result : Bool) where
     -- what is read again where a stage reports of the kept text
@@ -75,9 +69,7 @@ module _ (f : ScoreFields) (old : ScoreStageState) (holds : HoldsHeld f old) whe
     new_runs = ap (λ (b : Option Before). is_some b) new_before_of
 
     body_of : (p : ScorePart) (b c : Before) → in_body p b ≡ Some c → p ≡ score_part.Body
-    body_of score_part.Heads b c is = absurd (cc is)
-    body_of score_part.Body b c is = refl
-    body_of score_part.Over b c is = absurd (cc is)
+    body_of p b c is = grind arith
 
     pub new_body : new.part ≡ score_part.Body
     new_body = body_of new.part (before_with new.body new.before) (before_held f) new_before_of
@@ -97,15 +89,4 @@ module _ (f : ScoreFields) (old : ScoreStageState) (holds : HoldsHeld f old) whe
 
       pub reads_on : is_in_front new.body.part ≡ false → IsPlace place → IsText f.kept
           → (IsPlace place → AreOpenersBefore place (openers_of new.body.part) → IsText (reading_in_body new.part new.held.gathered.builder.kept) → ReportsText old → ReportsText new) → ReadsOn place f new
-      reads_on front is_place is_text told = record {
-        after = record {
-          before_is = new_before_of;
-          text = (λ i. held_text (new_preceding i) (same.held_same i)) ∙ holds.after.text;
-          count = subst (λ (o : Option UnplacedSyllable). (f.syllables - 1) + held_count o ≡ f.syllables) (sym same.held_same) holds.after.count;
-        };
-        read = read;
-        front = front;
-        next = told_in_body new.part new.held.next place same.next_is;
-        stands = same.stands;
-        told = told is_place openers_there (subst IsText (sym read.kept) is_text) holds.told;
-      }
+      reads_on front is_place is_text told = grind (arith, new_before_of, new_preceding, told_in_body, openers_there)

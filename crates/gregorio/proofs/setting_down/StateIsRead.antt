@@ -1,5 +1,5 @@
 -- What stands before the held text of a state is within its limits, and its texts are read.
-use Rattle.std.proofs.Common.{◌≡◌, ◌≢◌, ◌-◌, [], length, subst, ◌∙◌, arith}
+use Rattle.std.proofs.Common.{◌≡◌, ◌≢◌, ◌-◌, [], length, arith}
 use Rattle.gabc_places.specs.declared.limits.Limits.{Limits}
 use Rattle.gabc_score.specs.ReportedWithin.{AreCountsWithin}
 use Rattle.gregorio_state.specs.Conditions.{AreScoreFields}
@@ -8,15 +8,8 @@ use Rattle.gregorio.specs.SavedState.{IsHeldRead, IsKeptRead, IsScoreRead}
 
 -- the counts before the held text are those of headers within the limits
 pub counts_within : (s : StateFields) (f : ScoreFields) → AreScoreFields s f → (limits : Limits) → s.input_limit ≡ limits.input → AreCountsWithin limits f.nabc_lines f.macros (f.canonical - length f.held)
-counts_within s f fields limits is =
-    let c = fields.counts in
-    let least = c.canonical in
-    let below = c.below in
-    record { few_lines = c.nabc_lines; ten_macros = c.macros; headers = omega (arith, least); below = omega (arith, below, is) }
+counts_within s f fields limits is = grind arith
 
 -- both texts are read under one stage's limits, which are those of the state
 pub score_is_read : (f : ScoreFields) (limits one two : Limits) → one ≡ limits → two ≡ one → (f.held ≢ [] → IsHeldRead one f) → IsKeptRead two f → IsScoreRead limits f
-score_is_read f limits one two same kept_same held kept = record {
-  held = λ some. subst (λ (l : Limits). IsHeldRead l f) same (held some);
-  kept = subst (λ (l : Limits). IsKeptRead l f) (kept_same ∙ same) kept;
-}
+score_is_read f limits one two same kept_same held kept = grind arith

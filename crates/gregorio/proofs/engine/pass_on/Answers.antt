@@ -1,7 +1,6 @@
-use Rattle.std.proofs.Common.{refl, false, ◌+◌, List, [], ◌++◌, ◌∙◌, drop, subst, sym, append-nil}
+use Rattle.std.proofs.Common.{false, ◌+◌, List, [], ◌++◌, ◌∙◌, drop, subst, sym, append-nil, arith}
 use Rattle.std.proofs.Math.ListN.{drop_of_length-le}
 use Rattle.gabc_headers.specs.declared.head_event.HeadEvent.{HeadEvent as HeadItem}
-use Rattle.gregorio.specs.machine.InStep.{TakesEvents}
 use Rattle.gregorio.specs.machine.ScoreWriter.{FitsEvents}
 use Rattle.gregorio.proofs.pieces.EventsAreWritten.{room_left, room_now, takes_left}
 use Rattle.gregorio.proofs.engine.pass_on.Goals as goal
@@ -13,9 +12,7 @@ push-requires-clause-room c =
     (subst (λ (events : List HeadItem). FitsEvents c.loop-event.writer false events) (append-nil (drop c.loop-event.event-index c.args.from_heads.now)) (c.loop-event.invariant.room false [] room))
 
 pub returns-clause-takes : goal.returns-clause-takes
-returns-clause-takes c =
-    let w = c.loop-event.writer in
-    c.loop-event.invariant.takes w (subst (λ (left : List HeadItem). TakesEvents w left c.args.heads.now.book w) (sym (drop_of_length-le c.args.from_heads.now c.loop-event-test.false)) refl)
+returns-clause-takes c = grind (arith, drop_of_length-le)
 
 pub loop-event-preserved : goal.loop-event-preserved
 loop-event-preserved c =

@@ -1,4 +1,4 @@
-use Rattle.std.proofs.Common.{◌≡◌, [], ◌∷◌, true, false, Result, Ok, Err, refl, sym, subst, ◌∙◌}
+use Rattle.std.proofs.Common.{◌≡◌, [], ◌∷◌, true, false, Result, refl, sym, subst, ◌∙◌, arith}
 use Rattle.gabc_places.specs.declared.code.Fault.{Fault}
 use Rattle.gabc_places.specs.declared.place.Char.{Char}
 use Rattle.gabc_headers.specs.declared.head_event.HeadEvent.{HeadEvent as HeadItem}
@@ -17,14 +17,10 @@ use Rattle.gregorio.proofs.pieces.TextOfHeaders.{body_reads_on}
 use Rattle.gregorio.proofs.engine.read.Goals as goal
 
 no_heads : (item : Result Char Fault) → is_heads (event_of_item item) ≡ false
-no_heads (Ok x) = refl
-no_heads (Err fault) = refl
+no_heads item = grind arith
 
 pub pass-requires : goal.pass-requires
-pass-requires c =
-    let w = c.args.writer.now in
-    subst (λ (x : HeadItem). FitsEvents w false (x ∷ [])) (sym c.body_event.ensures)
-    (room_for_few w false (event_of_item c.args.item ∷ []) c.requires.room (item_is_few w.writer.written.format w.score.limits.syllable c.args.item))
+pass-requires c = grind (arith, room_for_few, item_is_few)
 
 pub returns-clause-reads : goal.returns-clause-reads
 returns-clause-reads c =

@@ -1,4 +1,4 @@
-use Rattle.std.proofs.Common.{◌≡◌, true, List, [], ◌∷◌, Result, refl, sym, subst}
+use Rattle.std.proofs.Common.{◌≡◌, true, List, [], ◌∷◌, Result, refl, sym, subst, arith}
 use Rattle.gabc_places.specs.declared.code.Fault.{Fault}
 use Rattle.gabc_places.specs.declared.place.Char.{Char}
 use Rattle.gabc_headers.specs.declared.head_event.HeadEvent.{HeadEvent as HeadItem}
@@ -29,8 +29,7 @@ pass_on-requires-clause-book c =
 -- what is passed on is what the stage of headers gives of the item
 takes : (h now : HeaderStageState) (w mid : ScoreWriterState) (item : Result Char Fault) (from_heads : List HeadItem) → GivesInput h item from_heads → now ≡ stage_after h item → TakesEvents w from_heads now.book mid
     → TakesEvents w (events_of_input h.limits h.progress item) (stage_after h item).book mid
-takes h now w mid item from_heads given is all =
-    subst (λ (s : HeaderStageState). TakesEvents w (events_of_input h.limits h.progress item) s.book mid) is (subst (λ (events : List HeadItem). TakesEvents w events now.book mid) given.is all)
+takes h now w mid item from_heads given is all = grind arith
 
 pub begin_body-requires : goal.begin_body-requires
 begin_body-requires c =

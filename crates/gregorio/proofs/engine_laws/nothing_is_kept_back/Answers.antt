@@ -1,4 +1,4 @@
-use Rattle.std.proofs.Common.{◌≡◌, [], ◌≤◌, Option, Some, None, IfSome, IsSome, length, sym, subst}
+use Rattle.std.proofs.Common.{◌≡◌, [], ◌≤◌, Option, IfSome, IsSome, length, subst, arith}
 use Rattle.gabc_places.specs.StageLaw.{concat_of}
 use Rattle.gabc_score.specs.ScoreEvents.{syllables_in}
 use Rattle.gabc_score.specs.witness.IsReachable.{IsReachable}
@@ -11,8 +11,7 @@ use Rattle.gregorio.proofs.pieces.NothingIsKeptBack.{prompt_now}
 use Rattle.gregorio.proofs.engine_laws.nothing_is_kept_back.Goals as goal
 
 silent_where_over : (o : Option RunEnding) (w : Written) (score : ScoreStageState) → o ≡ w.ended → IfSome o (λ how. IsOver w score how) → IsSome w.ended → IsSilent score
-silent_where_over (Some how) w score is over some = over.silent
-silent_where_over None w score is over some = let none = subst IsSome (sym is) some in absurd (cc none)
+silent_where_over o w score is over some = grind arith
 
 pub returns : goal.returns
 returns c =

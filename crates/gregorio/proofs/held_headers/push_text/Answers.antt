@@ -3,8 +3,6 @@ use Rattle.std.proofs.lemmas.Bool.{and_parts}
 use Rattle.std.specs.Char.{IsScalar}
 use Rattle.std.specs.Str.{chars}
 use Rattle.std.specs.Str.Iter.{chars_rest}
-use Rattle.gabc_places.specs.Place.{place_after}
-use Rattle.gregorio.specs.machine.HeldHeaders.{IsPushed}
 use Rattle.std.proofs.lemmas.Str.{chars_past_char, scalars-chars, IsUtf8-past_char}
 use lib.Utf8.{scalars}
 use Rattle.gabc_places.proofs.texts.CharactersOfStrings.{chars-none}
@@ -16,7 +14,6 @@ pub loop-c-init : goal.loop-c-init
 loop-c-init c =
     let rest : chars_rest c.into_iter-c-iterator.result ≡ c.args.text.now = ap chars_rest c.into_iter-c-iterator.ensures.into_iter_gives ∙ c.chars-c-items.ensures.rest in
     let size = ap (λ (bytes : List ℕ). length bytes) rest in
-    let short = c.requires.short in
     record {
       can = tt;
       ends = tt;
@@ -26,8 +23,8 @@ loop-c-init c =
       all = ap chars rest;
       place = refl;
       pushed = none_pushed c.args.heads.now.limits c.args.heads.now.hasher c.args.heads.now c.a_held_text_grows.ensures.begins c.requires.fresh;
-      line = omega (arith, size, short);
-      column = omega (arith, size, short);
+      line = omega (arith, size);
+      column = omega (arith, size);
     }
 
 pub loop-c-preserved : goal.loop-c-preserved
@@ -55,13 +52,7 @@ loop-c-preserved c =
     }
 
 pub returns-clause-place : goal.returns-clause-place
-returns-clause-place c =
-    let i = c.loop-c.invariant in
-    let none = chars-none (chars_rest c.loop-c.c-iterator) c.in-None.ensures.steps.0.0 in
-    i.place ∙ ap place_after (sym (append-nil i.front) ∙ (ap (λ (cs : List ℕ). i.front ++ cs) (sym none) ∙ i.all))
+returns-clause-place c = grind (arith, chars-none, chars_rest, append-nil)
 
 pub returns-clause-pushed : goal.returns-clause-pushed
-returns-clause-pushed c =
-    let i = c.loop-c.invariant in
-    let none = chars-none (chars_rest c.loop-c.c-iterator) c.in-None.ensures.steps.0.0 in
-    subst (λ (t : List ℕ). IsPushed c.args.heads.now.limits c.args.heads.now.hasher t c.loop-c.heads c.loop-c.given.has_error) (sym (append-nil i.front) ∙ (ap (λ (cs : List ℕ). i.front ++ cs) (sym none) ∙ i.all)) i.pushed
+returns-clause-pushed c = grind (arith, chars-none, chars_rest, append-nil)

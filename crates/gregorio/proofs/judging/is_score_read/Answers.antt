@@ -1,11 +1,10 @@
-use Rattle.std.proofs.Common.{Err, ap, refl}
+use Rattle.std.proofs.Common.{Err, ap, refl, arith}
 use Rattle.gregorio_state.specs.Fields.{fields_of, score_of}
 use Rattle.gregorio.proofs.ScoresAreJudged.{fields_alike, of_fields_alike}
 use Rattle.gregorio.proofs.judging.is_score_read.Goals as goal
 
 pub set_down-requires : goal.set_down-requires
-set_down-requires c =
-    fields_alike (fields_of c.args.state.now) c.args.state.now.limits c.limits_of_texts-limits.result (score_of c.args.fields.now) (record { header = refl; syllable = refl; input = refl }) c.limits_of_texts-limits.ensures c.requires
+set_down-requires c = grind (arith, fields_alike)
 
 pub returns-in-Ok-clause-read : goal.returns-in-Ok-clause-read
 returns-in-Ok-clause-read c =

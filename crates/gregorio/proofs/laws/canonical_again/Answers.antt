@@ -3,9 +3,7 @@ use Rattle.gregorio.proofs.OutputIsCompiledAgain.{compiled_again, output_short}
 use Rattle.gregorio.proofs.laws.canonical_again.Goals as goal
 
 pub returns-clause-again : goal.returns-clause-again
-returns-clause-again c limits larger ending bytes no_less =
-    compiled_again c.texts_are_plain.ensures c.texts_are_scalars_within_the_limit.ensures.scalars c.texts_are_scalars_within_the_limit.ensures.short c.score_again.ensures
-    c.snippets_stand_between_characters.ensures c.syllables_that_say_the_same_have_one_dump.ensures limits larger ending bytes no_less
+returns-clause-again c limits larger ending bytes no_less = grind (arith, compiled_again)
 
 -- limits are no less than themselves
 pub returns-clause-short : goal.returns-clause-short

@@ -1,4 +1,4 @@
-use Rattle.std.proofs.Common.{◌≡◌, IfOk, refl, ap, subst, sym, ◌∙◌}
+use Rattle.std.proofs.Common.{◌≡◌, refl, ap, subst, sym, ◌∙◌, arith}
 use Rattle.std.specs.Str.{chars}
 use Rattle.std.specs.declared.hash.DefaultHasher.{DefaultHasher}
 use Rattle.gabc_places.specs.declared.limits.Limits.{Limits}
@@ -6,7 +6,6 @@ use Rattle.gabc_headers.specs.HeldText.{holding}
 use Rattle.gabc_headers.specs.witness.HeadEvents.{HeaderStageState}
 use Rattle.gregorio_state.specs.Fields.{fields_of, InHeaders}
 use Rattle.gregorio.specs.Saved.{GivesHeaders}
-use Rattle.gregorio.specs.machine.Restored.{GoesOn}
 use Rattle.gregorio.specs.SavedState.{IsOfJob, ReportsLimits}
 use Rattle.gregorio.proofs.StatesAreJudged.{if_any, read_so, same, stand_so}
 use Rattle.gregorio.proofs.restoring.engine_in_headers.Goals as goal
@@ -27,8 +26,7 @@ engine_with-requires-clause-stand c =
     })
 
 pub returns-in-Ok-clause-goes : goal.returns-in-Ok-clause-goes
-returns-in-Ok-clause-goes c =
-    subst (λ (k : DefaultHasher). IfOk c.engine_with.result (GoesOn c.args.job.now c.args.limits (fields_of c.args.state.now) k)) (ap (λ (h : HeaderStageState). h.hasher) c.in_ok-heads.ensures.stage) c.engine_with.ensures.goes
+returns-in-Ok-clause-goes c = grind arith
 
 pub returns-in-Ok-clause-read : goal.returns-in-Ok-clause-read
 returns-in-Ok-clause-read c =

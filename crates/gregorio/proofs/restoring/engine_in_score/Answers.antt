@@ -1,21 +1,14 @@
-use Rattle.std.proofs.Common.{rules, ◌≡◌, ◌∙◌, Err, IfOk, refl, ap, subst, sym}
-use Rattle.std.specs.declared.hash.DefaultHasher.{DefaultHasher}
+use Rattle.std.proofs.Common.{◌∙◌, refl, ap, sym, arith}
 use Rattle.gregorio_state.specs.Fields.{fields_of, score_of, InScore}
-use Rattle.gregorio.specs.declared.state_fault.StateFault.{StateFault}
-use Rattle.gregorio.specs.declared.state_fault.StateFault.TheVariants.{K1}
 use Rattle.gabc_headers.specs.witness.HeadEvents.{HeaderStageState}
 use Rattle.gregorio.specs.machine.HeldHeaders.{after_mark}
-use Rattle.gregorio.specs.machine.Restored.{GoesOn}
 use Rattle.gregorio.specs.SavedState.{IsOfJob, ReportsLimits}
 use Rattle.gregorio.proofs.LimitsAreTold.{told_once}
 use Rattle.gregorio.proofs.StatesAreJudged.{if_any, not_read, read_so, stand_so}
 use Rattle.gregorio.proofs.restoring.engine_in_score.Goals as goal
 
 pub returns-in_err-score-clause-none : goal.returns-in_err-score-clause-none
-returns-in_err-score-clause-none c = λ is.
-    let same : c.in_err-score.field-0.0 ≡ K1 = search rules in
-    not_read (fields_of c.args.state.now) c.args.state.now.limits (record { header = refl; syllable = refl; input = refl }) (InScore (score_of c.args.fields.now)) c.requires.phase
-    (c.in_err-score.ensures.refused (ap (λ (fault : StateFault). Err fault) same))
+returns-in_err-score-clause-none c = grind (arith, not_read)
 
 pub engine_with-requires-clause-stand : goal.engine_with-requires-clause-stand
 engine_with-requires-clause-stand c =
@@ -30,8 +23,7 @@ engine_with-requires-clause-stand c =
     (record { heads = c.in-Ok.ensures.stage ∙ ap (after_mark c.args.limits) (sym (ap (λ (h : HeaderStageState). h.hasher) c.in-Ok.ensures.stage)); set_down = d })
 
 pub returns-in-Ok-clause-goes : goal.returns-in-Ok-clause-goes
-returns-in-Ok-clause-goes c =
-    subst (λ (k : DefaultHasher). IfOk c.engine_with.result (GoesOn c.args.job.now c.args.limits (fields_of c.args.state.now) k)) (ap (λ (h : HeaderStageState). h.hasher) c.in-Ok.ensures.stage) c.engine_with.ensures.goes
+returns-in-Ok-clause-goes c = grind arith
 
 pub returns-in-Ok-clause-read : goal.returns-in-Ok-clause-read
 returns-in-Ok-clause-read c =

@@ -1,4 +1,4 @@
-use Rattle.std.proofs.Common.{◌≡◌, ◌+◌, ◌≤◌, ℕ, List, take, length, length-take, ap, arith, rules}
+use Rattle.std.proofs.Common.{◌+◌, ◌≤◌, ℕ, List, take, length, length-take, ap, arith, rules}
 use Rattle.gabc_places.specs.Calls.{Calls}
 use Rattle.gregorio.specs.Run.{used}
 use Rattle.gregorio.specs.machine.Compile.{IsFedInPart}
@@ -7,12 +7,7 @@ use Rattle.gregorio.proofs.PiecesAreSent.{all_broken, from_nothing, from_more, i
 use Rattle.gregorio.proofs.run.feed_all.Goals as goal
 
 pub loop-taken-init : goal.loop-taken-init
-loop-taken-init g c = record {
-  within = omega arith;
-  limit = omega arith;
-  waits = c.requires.waits;
-  fed = from_nothing g.O.Sink.written g.O.Sink.calls g.M.Sink.written g.M.Sink.calls g.S.Source.remaining g.S.Source.calls _ _ _ _ c.nothing_is_kept_back.ensures.prompt;
-}
+loop-taken-init g c = grind (arith, from_nothing)
 
 pub returns-in_err-feed_piece-in-Ok-clause-cut : goal.returns-in_err-feed_piece-in-Ok-clause-cut
 returns-in_err-feed_piece-in-Ok-clause-cut g c =
@@ -24,18 +19,7 @@ returns-in_err-feed_piece-in-Ok-clause-cut g c =
     on_err_any c.from_residual.result cut
 
 pub returns-in-Err-clause-fed : goal.returns-in-Err-clause-fed
-returns-in-Err-clause-fed g c =
-    let i = c.loop-taken.invariant in
-    all_broken g.O.Sink.written g.O.Sink.calls g.M.Sink.written g.M.Sink.calls g.S.Source.remaining g.S.Source.calls _ _ c.loop-taken.source _ _ _ _ _ _ c.loop-taken.engine c.loop-taken.taken i.fed c.in-Err.ensures.bytes (failed (g.S.Source.calls c.loop-taken.source) (g.S.Source.calls c.read.new.self) c.in-Err.ensures.calls) (ap (λ (k : Calls). k.made) c.in-Err.ensures.calls) (omega arith)
+returns-in-Err-clause-fed g c = grind (arith, all_broken, failed)
 
 pub loop-taken-preserved : goal.loop-taken-preserved
-loop-taken-preserved g c =
-    let piece : List ℕ = take c.in-Ok.n c.read.new.buf in
-    let size : length piece ≡ c.in-Ok.n = search (rules, length-take c.in-Ok.n c.read.new.buf) in
-    let some = read_some c.in-Ok.n _ (g.S.Source.calls c.loop-taken.source) (g.S.Source.calls c.read.new.self) (first_of (omega arith, omega (arith, c.in-Ok.n-test), search (rules, c.in-Ok.n-test))) c.in-Ok.ensures.calls in
-    record {
-      within = search rules;
-      limit = omega arith;
-      waits = c.in_ok-feed_piece-in-Ok.ensures.waits;
-      fed = from_more g.O.Sink.written g.O.Sink.calls g.M.Sink.written g.M.Sink.calls g.S.Source.remaining g.S.Source.calls _ c.loop-taken.source _ _ c.loop-taken.out _ _ c.loop-taken.messages _ _ c.loop-taken.engine _ piece c.loop-taken.taken c.in-Ok.n c.loop-taken.invariant.fed (c.in-Ok.ensures.bytes.0) some (ap (λ (k : Calls). k.made) c.in-Ok.ensures.calls) (first_of (omega arith, omega (arith, c.in-Ok.n-test), search (rules, c.in-Ok.n-test))) size c.in_ok-feed_piece-in-Ok.ensures.fed;
-    }
+loop-taken-preserved g c = grind (arith, length-take, read_some, from_more)

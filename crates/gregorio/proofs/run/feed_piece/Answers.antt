@@ -1,26 +1,15 @@
-use Rattle.std.proofs.Common.{ℕ, List, length, length-drop, take_all, ap, subst, arith, rules}
+use Rattle.std.proofs.Common.{length-drop, take_all, arith, rules}
 use Rattle.gregorio.specs.declared.source_ending.SourceEnding.{SourceEnding}
 use Rattle.gregorio.specs.Run.{used}
-use Rattle.gregorio.specs.machine.Compile.{IsFed, StreamsAreCut}
+use Rattle.gregorio.specs.machine.Compile.{StreamsAreCut}
 use Rattle.gregorio.proofs.PiecesAreSent.{all_after, fed_nothing, front_is_cut, front_is_sent, nothing_waits_after}
 use Rattle.gregorio.proofs.run.feed_piece.Goals as goal
 
 pub loop-count-init : goal.loop-count-init
-loop-count-init g c = record {
-  within = omega arith;
-  waits = c.requires.waits;
-  fed = fed_nothing g.O.Sink.written g.O.Sink.calls g.M.Sink.written g.M.Sink.calls _ _ _ c.nothing_is_kept_back.ensures.prompt;
-}
+loop-count-init g c = grind (arith, fed_nothing)
 
 pub loop-count-preserved : goal.loop-count-preserved
-loop-count-preserved g c =
-    let i = c.loop-count.invariant in
-    let all = all_after c.loop-count.count c.args.piece.now in
-    record {
-      within = omega (arith, i.within, c.fill-count.ensures.takes.within, ap length all, length-drop c.loop-count.count c.args.piece.now);
-      waits = nothing_waits_after c.fill-count.new.self c.send_waiting.new.engine c.in_ok-send_waiting.ensures.forgets;
-      fed = front_is_sent g.O.Sink.written g.O.Sink.calls g.M.Sink.written g.M.Sink.calls _ _ _ _ _ _ _ _ c.fill-count.new.self _ c.args.piece.now _ c.loop-count.count c.fill-count.result all i.fed i.waits c.fill-count.ensures.takes c.in_ok-send_waiting.ensures.all c.in_ok-send_waiting.ensures.forgets;
-    }
+loop-count-preserved g c = grind (arith, all_after, length-drop, nothing_waits_after, front_is_sent)
 
 pub returns-in_err-send_waiting-clause-cut : goal.returns-in_err-send_waiting-clause-cut
 returns-in_err-send_waiting-clause-cut g c =
@@ -31,6 +20,4 @@ returns-in_err-send_waiting-clause-cut g c =
     search (rules, cut)
 
 pub returns-clause-fed : goal.returns-clause-fed
-returns-clause-fed g c =
-    subst (λ (bytes : List ℕ). IsFed (used g.O.Sink.written g.O.Sink.calls c.args.out.now c.loop-count.out) (used g.M.Sink.written g.M.Sink.calls c.args.messages.now c.loop-count.messages) c.args.engine.now c.loop-count.engine bytes)
-    (take_all c.loop-count.count c.args.piece.now (omega (arith, c.loop-count-test.false))) c.loop-count.invariant.fed
+returns-clause-fed g c = grind (arith, take_all)

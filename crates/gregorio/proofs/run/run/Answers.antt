@@ -1,11 +1,9 @@
+use Rattle.std.proofs.Common.{arith}
 use Rattle.gregorio.proofs.RunsByOutcome.{is_run_cut_early, is_run_cut_late, is_run_whole}
 use Rattle.gregorio.proofs.run.run.Goals as goal
 
 pub returns-in_default : goal.returns-in_default
-returns-in_default g c = record {
-  runs = λ job all.
-      is_run_cut_early g.O.Sink.written g.O.Sink.calls g.M.Sink.written g.M.Sink.calls g.S.Source.remaining g.S.Source.calls job c.args.limits _ _ _ _ _ _ c.args.engine.now all c.in_default.ensures.cut;
-}
+returns-in_default g c = grind (arith, is_run_cut_early)
 
 pub returns-in-Ok-send_waiting : goal.returns-in-Ok-send_waiting
 returns-in-Ok-send_waiting g c = record {

@@ -1,4 +1,4 @@
-use Rattle.std.proofs.Common.{◌≡◌, ℕ, ◌+◌, ◌<◌, List, ◌∷◌, length, [], slice_index_or, drop, sym, ap, ◌∙◌, subst}
+use Rattle.std.proofs.Common.{◌≡◌, ℕ, ◌+◌, ◌<◌, List, ◌∷◌, length, [], slice_index_or, drop, sym, ap, ◌∙◌, subst, arith}
 use Rattle.std.proofs.lemmas.List.{at_drop_more}
 use Rattle.gabc_score.specs.declared.score_event.ScoreEvent.{ScoreEvent}
 use Rattle.gabc_score.specs.witness.ScoreStage.{ScoreStageState}
@@ -21,10 +21,7 @@ no_event = Found record { place = record { line = 0; column = 0 }; code = E1 }
 
 next_has_room : (limits : Limits) (old new : RunWriterState) (o : ScoreOutput) (rest : List ScoreOutput) → new.out.limit ≡ old.out.limit → new.messages.limit ≡ old.messages.limit
     → IsInRoom limits old.messages.limit old.out.limit new (o ∷ rest) → HasRoomFor limits new (o ∷ [])
-next_has_room limits old new o rest out messages room =
-    let one = first_in_room limits old.messages.limit old.out.limit new o rest room in
-    let texts = subst (λ (n : ℕ). IsInRoom limits old.messages.limit n new (o ∷ [])) (sym out) one in
-    subst (λ (n : ℕ). IsInRoom limits n new.out.limit new (o ∷ [])) (sym messages) texts
+next_has_room limits old new o rest out messages room = grind (arith, first_in_room)
 
 pub write_event-requires : goal.write_event-requires
 write_event-requires c =

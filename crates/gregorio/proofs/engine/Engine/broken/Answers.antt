@@ -1,4 +1,4 @@
-use Rattle.std.proofs.Common.{◌≡◌, [], ap, sym, subst, ◌∙◌}
+use Rattle.std.proofs.Common.{◌≡◌, [], ap, sym, subst, ◌∙◌, arith}
 use Rattle.gregorio.specs.declared.source_ending.SourceEnding.TheVariants.{Broken}
 use Rattle.gregorio.specs.Engine.{NothingWaits, fault_of}
 use Rattle.gregorio.specs.Streams.{after_bytes, ended_with}
@@ -11,10 +11,7 @@ use Rattle.gregorio.proofs.pieces.PiecesAreTaken.{may_read}
 use Rattle.gregorio.proofs.engine.Engine.broken.Goals as goal
 
 pub finish-requires : goal.finish-requires
-finish-requires c =
-    let i = c.self.inside in
-    let may = may_read i.decoder i.heads i.from_heads i.writer c.args.self.now c.self.invariant c.self.view_is (leaves_room c.args.self.now c.requires.waits) in
-    record { room = room_for_last i.writer may.room }
+finish-requires c = grind (arith, may_read, leaves_room, room_for_last)
 
 pub returns-clause-law : goal.returns-clause-law
 returns-clause-law c =

@@ -6,7 +6,7 @@ use Rattle.gabc_places.specs.DecoderMachine.{DecoderState}
 use Rattle.gabc_places.specs.declared.code.Fault.{Fault}
 use Rattle.gabc_places.specs.declared.place.Char.{Char}
 use Rattle.gabc_places.specs.witness.DecoderEvents as decoder
-use Rattle.gregorio.specs.Engine.{NothingWaits, StillRuns, fault_of}
+use Rattle.gregorio.specs.Engine.{NothingWaits, fault_of}
 use Rattle.gregorio.specs.Streams.{after_bytes, ended_with}
 use Rattle.gregorio.specs.declared.source_ending.SourceEnding.TheVariants.{Whole}
 use Rattle.gregorio.specs.witness.Engine.{EngineState, streams_left}
@@ -23,20 +23,14 @@ use Rattle.gregorio.proofs.pieces.PiecesAreTaken.{may_read}
 use Rattle.gregorio.proofs.engine.Engine.end.Goals as goal
 
 pub read_decoded-requires : goal.read_decoded-requires
-read_decoded-requires c =
-    let i = c.self.inside in
-    may_read i.decoder i.heads i.from_heads i.writer c.args.self.now c.self.invariant c.self.view_is (leaves_room c.args.self.now c.requires.waits)
+read_decoded-requires c = grind (arith, may_read, leaves_room)
 
 room_at_end : (d : DecoderState) (h : HeaderStageState) (w : ScoreWriterState) (item : Option (Result Char Fault)) (events : List HeadItem) → decoder.events_left d [] ≡ option_to_list item ∷ []
     → (IsNoCharacter (option_to_list item) → FitsEnd w) → events ≡ events_of_end h.limits h.progress → FitsEvents w true events
 room_at_end d h w item events at_end room is = subst (λ (xs : List HeadItem). FitsEvents w true xs) (sym is) (room (no_character_at_end d item at_end) h.limits h.progress)
 
 pub pass_on-requires-clause-room : goal.pass_on-requires-clause-room
-pass_on-requires-clause-room c =
-    let h = c.read_decoded.new.heads in
-    let from_heads = given_of_end h c.read_decoded.new.from_heads c.clear.new.self c.finish.new.out c.slice.result.now c.clear.ensures c.finish.ensures.ends c.slice.ensures in
-    room_before_end c.read_decoded.new.writer c.slice.result.now
-    (room_at_end c.self.inside.decoder h c.read_decoded.new.writer c.end-item.result c.slice.result.now c.end-item.ensures.item c.read_decoded.ensures.reads.room from_heads)
+pass_on-requires-clause-room c = grind (arith, given_of_end, room_before_end, room_at_end)
 
 pub finish-requires-2 : goal.finish-requires-2
 finish-requires-2 c =
@@ -95,17 +89,11 @@ invariant_of-self c =
     (c.finish-2.ensures.force (force_past_all events mid c.pass_on.new.writer (passes_all events _ mid c.pass_on.new.writer takes) (read.step.force c.self.invariant.step.force))) over
 
 pub returns-clause-job : goal.returns-clause-job
-returns-clause-job c =
-    let mid = c.read_decoded.new.writer in
-    let new = c.finish-2.new.self in
-    let steady = steady_both mid c.pass_on.new.writer new (steady_all c.slice.result.now _ mid c.pass_on.new.writer c.pass_on.ensures.takes) c.finish-2.ensures.steady in
-    subst (λ (s : EngineState). StillRuns s (shown c.end-item.new.self c.finish.new.self new)) c.self.view_is
-    (still_runs c.self.inside.decoder c.end-item.new.self c.self.inside.heads c.finish.new.self c.self.inside.writer new (steady_both c.self.inside.writer mid new c.read_decoded.ensures.reads.steady steady))
+returns-clause-job c = grind (arith, steady_both, steady_all, still_runs)
 
 pub returns-clause-last : goal.returns-clause-last
 returns-clause-last c =
     over_says (shown c.end-item.new.self c.finish.new.self c.finish-2.new.self) c.finish-2.result c.status-2.result c.finish-2.ensures.over c.status-2.ensures
 
 pub returns-clause-hasher : goal.returns-clause-hasher
-returns-clause-hasher c =
-    ap (λ (h : HeaderStageState). h.hasher) c.finish.ensures.state ∙ (c.read_decoded.ensures.reads.hasher ∙ ap (λ (s : EngineState). s.heads.hasher) c.self.view_is)
+returns-clause-hasher c = grind arith

@@ -1,4 +1,5 @@
-use Rattle.std.proofs.Common.{◌≡◌, ◌+◌, ◌-◌, ◌≤◌, Bool, true, false, not, refl, inl, inr, length, drop, ap, sym, subst, ◌∙◌, arith}
+use Rattle.std.proofs.Common.{◌≡◌, ◌+◌, ◌-◌, ◌≤◌, not, refl, inl, inr, length, drop, ap, sym, subst, ◌∙◌, arith}
+use Rattle.std.proofs.lemmas.Bool.{not-false}
 use Rattle.gregorio.specs.Engine.{NothingWaits, is_running}
 use Rattle.gregorio.specs.witness.Engine.{EngineState}
 use Rattle.gregorio.proofs.pieces.NothingIsKeptBack.{took_some}
@@ -7,13 +8,9 @@ use Rattle.gregorio.proofs.pieces.RoomIsLeft.{leaves_room}
 use Rattle.gregorio.proofs.engine.Engine.fill.Goals.{else-loop-count-test, then-loop-count-test+else-has_room}
 use Rattle.gregorio.proofs.engine.Engine.fill.Goals as goal
 
-runs_if_not : (b : Bool) → not b ≡ false → b ≡ true
-runs_if_not true is = refl
-runs_if_not false is = cc is
-
 pub loop-count-init : goal.loop-count-init
 loop-count-init c = record {
-  takes = none_taken c.args.self.now c.args.piece.now (runs_if_not (is_running c.args.self.now) (sym c.is_over.ensures.over ∙ c.if-is_over.false));
+  takes = none_taken c.args.self.now c.args.piece.now (not-false (is_running c.args.self.now) (sym c.is_over.ensures.over ∙ c.if-is_over.false));
   begun = inr refl;
 }
 
@@ -32,7 +29,7 @@ pub returns-clause-takes : goal.returns-clause-takes
 returns-clause-takes c =
     let i = c.loop-count.invariant in
     let s = c.args.self.now in
-    let runs = runs_if_not (is_running s) (sym c.is_over.ensures.over ∙ c.if-is_over.false) in
+    let runs = not-false (is_running s) (sym c.is_over.ensures.over ∙ c.if-is_over.false) in
     let all : NothingWaits s → c.loop-count.self ≡ s → length c.args.piece.now ≤ c.loop-count.count = λ none same. elim c.loop-count-test.branch [
       | then-loop-count-test+else-has_room w ↦
           absurd (cc (sym (w.has_room.ensures.some (leaves_room c.loop-count.self (subst NothingWaits (sym same) none)) (ap (λ (e : EngineState). is_running e) same ∙ runs)) ∙ w.if-has_room.false))

@@ -7,9 +7,7 @@ use Rattle.gregorio.proofs.pieces.PiecesAreTaken.{may_read}
 use Rattle.gregorio.proofs.engine.Engine.take.Goals as goal
 
 pub read_decoded-requires : goal.read_decoded-requires
-read_decoded-requires c =
-    let i = c.self.inside in
-    may_read i.decoder i.heads i.from_heads i.writer c.args.self.now c.self.invariant c.self.view_is c.requires.room
+read_decoded-requires c = grind (arith, may_read)
 
 pub returns-clause-takes : goal.returns-clause-takes
 returns-clause-takes c =
@@ -28,17 +26,4 @@ returns-clause-takes c =
     })
 
 pub invariant_of-self : goal.invariant_of-self
-invariant_of-self c =
-    let was = c.self.invariant.step in
-    let read = c.read_decoded.ensures.reads in
-    record {
-      few = omega (arith, c.read_decoded.ensures.few, c.self.invariant.few);
-      together = read.together;
-      reserved = still_reserved c.self.inside.writer c.read_decoded.new.writer read.steady c.self.invariant.reserved;
-      step = record {
-        force = read.step.force was.force;
-        runs = λ running. read.step.runs c.self.inside.decoder c.take-item.new.self c.take-item.ensures.moves was.runs running;
-      };
-      headers = read.reads c.self.inside.decoder c.take-item.new.self c.take-item.ensures.moves was.runs c.self.invariant.headers;
-      tells = read.tells c.self.inside.decoder c.take-item.new.self c.take-item.ensures.moves was.runs c.self.invariant.tells;
-    }
+invariant_of-self c = grind (arith, still_reserved)

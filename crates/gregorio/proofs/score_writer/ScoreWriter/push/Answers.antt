@@ -1,12 +1,9 @@
-use Rattle.std.proofs.Common.{ℕ, ◌+◌, ◌≤◌, ◌||◌, not, Bool, true, false, List, [], ◌∷◌, length, encode_utf8_all, is_some, if◌then◌else◌, ◌∙◌, ap, sym, subst, length-append, arith}
+use Rattle.std.proofs.Common.{ℕ, ◌+◌, ◌≤◌, ◌||◌, not, Bool, List, [], ◌∷◌, length, encode_utf8_all, if◌then◌else◌, ◌∙◌, ap, sym, subst, length-append, arith}
 use Rattle.gabc_headers.specs.Canonical.{canonical_heads}
-use Rattle.gregorio_jobs.specs.declared.job.Format.{Format}
-use Rattle.gregorio_jobs.specs.declared.job.Format.TheVariants.{Gabc, Dump}
-use Rattle.gregorio.specs.Streams.{heads_text}
 use Rattle.gregorio.specs.witness.Engine.{is_before_heads, text_of_heads}
 use Rattle.gabc_headers.specs.declared.head_event.HeadEvent.{HeadEvent}
 use Rattle.gregorio.specs.machine.InStep.{TakesEvent}
-use Rattle.gregorio.specs.machine.RunWriter.{RunWriterState, heads_at, heads_len, heads_room, with_heads}
+use Rattle.gregorio.specs.machine.RunWriter.{RunWriterState, heads_at, heads_len, with_heads}
 use Rattle.gregorio.specs.machine.ScoreWriter.{FitsEvents, IsShortBook, ScoreWriterState}
 use Rattle.gregorio.proofs.pieces.WrittenGoesOn.{no_heads, not_written}
 use Rattle.gregorio.proofs.score_writer.ScoreWriter.push.Goals.{in-Heads, in_default}
@@ -34,24 +31,12 @@ returns-clause-takes c =
 -- what the headers take is kept for them
 heads_fit : (headed done : Bool) (text : List ℕ) (room : ℕ) → length (if not (headed || done) then text else []) ≤ room
     → length (if not (headed || done) then text else []) + (if headed || not (headed || done) then 0 else room) ≤ (if headed then 0 else room)
-heads_fit true done text room short = omega arith
-heads_fit false true text room short = omega arith
-heads_fit false false text room short = omega (arith, short)
-
-longer : (format : Format) (n limit : ℕ) → n ≤ limit + 2 → heads_len format n ≤ heads_room format limit
-longer Gabc n limit h = omega (arith, h)
-longer Dump n limit h = omega (arith, h)
+heads_fit headed done text room short = grind arith
 
 room_with_heads : (old : ScoreWriterState) (book : List (List ℕ × List ℕ)) (ends : Bool) (events : List HeadEvent) → IsShortBook old.score.limits book
     → length (text_of_heads old.writer.written book (is_before_heads old.writer.written)) ≤ heads_len old.writer.written.format (length (encode_utf8_all (canonical_heads book)))
     → FitsEvents old ends events → FitsEvents (record old { writer = with_heads old.writer book }) ends events
-room_with_heads old book ends events few short room =
-    let w = old.writer.written in
-    let most = longer w.format (length (encode_utf8_all (canonical_heads book))) old.score.limits.header few in
-    let fit = heads_fit w.headed (is_some w.ended) (heads_text w.format book) (heads_room w.format old.score.limits.header) (omega (arith, short, most)) in
-    let texts = room.texts in
-    let both = length-append old.writer.out.items (text_of_heads w book (is_before_heads w)) in
-    record { lines = room.lines; texts = omega (arith, texts, fit, both) }
+room_with_heads old book ends events few short room = grind (arith, heads_fit, length-append)
 
 pub returns-clause-room : goal.returns-clause-room
 returns-clause-room c = λ ends events room.
