@@ -87,5 +87,3 @@ facts_of st x = facts_by_states st.state (next_state st.state (class_of_characte
 pub close_emits : (st : NoteStage) (x : Char) (old new : BoundedList NoteEvent) → st.ended ≡ false → st.before.comment ≡ false → raw_state st.state ≡ false → x.c ≡ 41
     → new ≡ extended_by old (event_list (events_in Ends st.macros st.before (facts_of st x) x)) → Pushes (events_left st) (events_left (record st { ended = true })) x 3 old new
 close_emits st x old new f comment outside close p = grind arith
-
--- ---- a text that is a snippet ends outside raw

@@ -53,7 +53,6 @@ module _ (m n : ScoreMachine) (at : Place) (c : ℕ) (cs : List ℕ) (fine : Boo
   gathered_on good = grind (arith, lists_are, with_all_append, later_is)
 
 -- one became whole before
-
 pub held_then : (m : ScoreMachine) (at : Place) (c : ℕ) (cs : List ℕ) → not (is_none m.pair.gathered.made) ≡ true → is_alone m.limits m.pair.gathered (lists_from m at (c ∷ cs)) ≡ false
 held_then m at c cs e = by (lists_from m at (c ∷ cs)) (lists_each m at (c ∷ cs))
   where
