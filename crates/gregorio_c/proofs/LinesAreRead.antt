@@ -1,9 +1,7 @@
 -- Lines of messages are read back: each gives its message, if the numbers of its place are read.
-use Rattle.std.proofs.Common.{◌≡◌, ℕ, zero, suc, ◌/◌, ◌%◌, ◌<◌, ◌≤◌, ◌==◌, Bool, true, false, cond, List, [], ◌∷◌, ◌++◌, refl, sym, ap, subst, ◌∙◌, arith, append_assoc, codes, Some}
-use Rattle.std.proofs.lemmas.Bool.{ne_eqb}
+use Rattle.std.proofs.Common.{◌≡◌, ℕ, zero, suc, ◌/◌, ◌%◌, ◌<◌, ◌≤◌, ◌==◌, Bool, true, false, cond, List, [], ◌∷◌, ◌++◌, refl, sym, subst, arith, append_assoc, codes, Some}
 use Rattle.std.specs.Fmt.{decimal, digits, digits_onto, digit_glyph}
 use Rattle.gabc_places.specs.declared.code.Code.{Code}
-use Rattle.gabc_places.specs.declared.code.Code.TheVariants.{E1}
 use Rattle.gabc_places.specs.declared.place.Place.{Place}
 use Rattle.gabc_places.specs.Code.{severity_of}
 use Rattle.gabc_places.specs.Message.{code_text}
@@ -52,8 +50,7 @@ in_field field message = record { field = field; message = message }
 -- digits end no field
 digits_stay : (field : Field) (message : Message) (ds rest : List ℕ) → AreDigits ds → messages_in (in_field field message) (ds ++ rest) ≡ messages_in (in_field field (message_onto field message ds)) rest
 digits_stay field message [] rest are = refl
-digits_stay field message (c ∷ cs) rest are =
-    rw (ne_eqb c 10 (λ e. absurd (omega (arith, are.0, e))), ne_eqb c 58 (λ e. absurd (omega (arith, are.0, e)))) (digits_stay field (message_with field message c) cs rest are.1)
+digits_stay field message (c ∷ cs) rest are = grind (arith, digits_stay field (message_with field message c) cs rest are.1)
 
 line_onto : (m : Message) (ds : List ℕ) → message_onto Line m ds ≡ record m { line = number_onto m.line ds }
 line_onto m [] = refl
@@ -69,33 +66,11 @@ as_read m = record m { line = number_onto 0 (decimal m.line); column = number_on
 
 -- what stands after the place
 code_is_read : (code : Code) (line column : ℕ) (rest : List ℕ) → messages_in (in_field Column (record { line = line; column = column; severity = 0; code = 0 })) (codes ": " ++ (code_text code ++ (10 ∷ rest))) ≡ record { line = line; column = column; severity = severity_number (severity_of code); code = number_of code } ∷ messages_in before_line rest
-code_is_read E1 line column rest = refl
-code_is_read _ line column rest = refl
+code_is_read code line column rest = grind arith
 
 -- the line that reports a code at a place
 abbrev pub line_at : Place → Code → List ℕ
 line_at place code = fault_line stdin_name (Some (record { place = place; code = code }))
 
 pub line_is_read : (place : Place) (code : Code) (rest : List ℕ) → messages_in before_line (line_at place code ++ rest) ≡ as_read (message_at place code) ∷ messages_in before_line rest
-line_is_read place code rest =
-    ap (messages_in before_line) joined
-    ∙ digits_stay Line nothing (decimal place.line) after_line (decimal_are_digits place.line)
-    ∙ ap (λ m. messages_in (in_field Line m) after_line) (line_onto nothing (decimal place.line))
-    ∙ digits_stay Column with_line (decimal place.column) after_column (decimal_are_digits place.column)
-    ∙ ap (λ m. messages_in (in_field Column m) after_column) (column_onto with_line (decimal place.column))
-    ∙ code_is_read code (number_onto 0 (decimal place.line)) (number_onto 0 (decimal place.column)) rest
-  where
-    nothing : Message
-    nothing = record { line = 0; column = 0; severity = 0; code = 0 }
-
-    with_line : Message
-    with_line = record nothing { line = number_onto 0 (decimal place.line) }
-
-    after_column : List ℕ
-    after_column = codes ": " ++ (code_text code ++ (10 ∷ rest))
-
-    after_line : List ℕ
-    after_line = 58 ∷ (decimal place.column ++ after_column)
-
-    joined : line_at place code ++ rest ≡ stdin_name ++ (58 ∷ (decimal place.line ++ after_line))
-    joined = simp append_assoc refl
+line_is_read place code rest = grind (arith, digits_stay, decimal_are_digits, line_onto, column_onto, code_is_read, append_assoc)

@@ -17,9 +17,7 @@ most_stays count (message ∷ messages) reached = most_stays (counted_by count m
 
 -- the message whose place has numbers below the last value is read as it is
 message_is_read : (message : Message) → has_place (as_read message) ≡ true → as_read message ≡ message
-message_is_read message has =
-    let both = and_parts _ _ has in
-    ap₂ (λ l c. record message { line = l; column = c }) (number_is_read message.line (ltb-true _ _ both.0)) (number_is_read message.column (ltb-true _ _ both.1))
+message_is_read message has = grind (arith, and_parts, number_is_read, ltb-true)
 
 pub record AreAsRead (count : ℕ) (messages : List Message) : Type 0 where
   pub same : map as_read messages ≡ messages

@@ -20,11 +20,7 @@ pub record IsTakenWith (count : ℕ) (buf : List Message) (at : ℕ) (message : 
 
 module _ (count : ℕ) (buf : List Message) (at next : ℕ) (new : List Message) (len : ℕ) where
   pub taken_with_none : next ≡ count → new ≡ buf → len ≡ at → IsTakenWith count buf at None next new len
-  taken_with_none c b n = record {
-    counts = λ rest. ap (λ i. counted_after i rest) c;
-    fills = λ rest. ap₂ (λ l i. filled l i rest) b n;
-    goes_on = λ rest. ap₂ (λ l i. filled_len l i rest) b n;
-  }
+  taken_with_none c b n = grind arith
 
   pub taken_with_some : (message : Message) → next ≡ counted_by count message → new ≡ filled buf at (message ∷ []) → len ≡ filled_len buf at (message ∷ [])
       → IsTakenWith count buf at (Some message) next new len

@@ -1,5 +1,5 @@
 -- The messages that are read of the lines of a score are its messages, if each is read with a place.
-use Rattle.std.proofs.Common.{◌≡◌, ℕ, Bool, true, false, cond, List, [], ◌∷◌, ◌++◌, length, map, None, Some, Option, refl, sym, ap, subst, ◌∙◌, append_assoc, zero-add, ◌-◌, ◌^◌, ◌<◌}
+use Rattle.std.proofs.Common.{◌≡◌, ℕ, Bool, true, false, cond, List, [], ◌∷◌, ◌++◌, length, map, None, Some, Option, refl, sym, ap, subst, ◌∙◌, append_assoc, zero-add, ◌-◌, ◌^◌, ◌<◌, arith}
 use Rattle.std.proofs.lemmas.List.{append-nil, map-append}
 use Rattle.std.specs.List.{flat_map}
 use Rattle.gabc_places.specs.declared.code.Fault.{Fault}
@@ -34,9 +34,7 @@ module _ (all : Bool) where
   fault_is_read (Some fault) = ap (messages_in before_line) (sym (append-nil (line_at fault.place fault.code))) ∙ line_is_read fault.place fault.code []
 
   lines_are_read : (score : Score) → messages_in before_line (lines_of stdin_name all score) ≡ map as_read (messages_by all score)
-  lines_are_read score =
-      findings_are_read score.findings (fault_line stdin_name score.fault) ∙ ap (λ ms. map as_read (flat_map (shown_message all) score.findings) ++ ms) (fault_is_read score.fault)
-      ∙ sym (map-append as_read (flat_map (shown_message all) score.findings) (fault_message score.fault))
+  lines_are_read score = grind (arith, findings_are_read, fault_is_read, map-append)
 
   module _ (score : Score) (count : ℕ) (are : AreCounted count (lines_of stdin_name all score)) where
     counted : count ≡ counted_after 0 (map as_read (messages_by all score))

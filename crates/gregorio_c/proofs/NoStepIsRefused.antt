@@ -1,9 +1,8 @@
 -- The number of a step that is made is none with which nothing is written.
-use Rattle.std.proofs.Common.{◌≡◌, ℕ, ◌≤◌, inl, inr, List, subst, arith}
+use Rattle.std.proofs.Common.{◌≡◌, ℕ, ◌≤◌, List, subst, arith}
 use Rattle.gabc_places.specs.declared.limits.Limits.{Limits}
 use Rattle.gregorio_jobs.specs.declared.job.Job.{Job}
 use Rattle.gregorio_jobs.specs.declared.job.Status.{Status}
-use Rattle.gregorio_jobs.specs.declared.job.Status.TheVariants.{Whole, Errors, Fatal, ReadFault}
 use Rattle.gregorio_jobs.specs.Status.{code_of}
 use Rattle.gregorio.specs.declared.source_ending.SourceEnding.{SourceEnding}
 use Rattle.gregorio.specs.Engine.{EndsByInput}
@@ -12,16 +11,10 @@ use Rattle.gregorio_c.specs.Steps.{Begins, Ends, Feeds, IsOver, Made, goes_on}
 use Rattle.gregorio_c.specs.machine.Steps.{WritesNothing}
 
 none_of : (n : ℕ) → (n ≡ 3 → ⊥) → (n ≡ 5 → ⊥) → (7 ≤ n → ⊥) → WritesNothing n → ⊥
-none_of n a b d (inl e) = a e
-none_of n a b d (inr (inl e)) = b e
-none_of n a b d (inr (inr h)) = d h
+none_of n a b d h = grind arith
 
 by_code : (status : Status) → EndsByInput status → WritesNothing (code_of status) → ⊥
-by_code Whole by = none_of 0 (λ e. absurd (cc e)) (λ e. absurd (cc e)) (λ h. absurd (omega (arith, h)))
-by_code Errors by = none_of 1 (λ e. absurd (cc e)) (λ e. absurd (cc e)) (λ h. absurd (omega (arith, h)))
-by_code Fatal by = none_of 2 (λ e. absurd (cc e)) (λ e. absurd (cc e)) (λ h. absurd (omega (arith, h)))
-by_code ReadFault by = none_of 4 (λ e. absurd (cc e)) (λ e. absurd (cc e)) (λ h. absurd (omega (arith, h)))
-by_code _ by = absurd by
+by_code status by = grind (arith, none_of)
 
 on_goes : WritesNothing goes_on → ⊥
 on_goes = none_of 6 (λ e. absurd (cc e)) (λ e. absurd (cc e)) (λ h. absurd (omega (arith, h)))
@@ -44,18 +37,13 @@ module _ (job : Job) (limits : Limits) (made : Made) where
 -- ---- what is answered, whether there is room for all that is made or not
 
 refusal : (n : ℕ) → IsRefusal n → WritesNothing n
-refusal n (inl e) = inl e
-refusal n (inr (inl e)) = inr (inl e)
-refusal n (inr (inr h)) = inr (inr (omega (arith, h)))
+refusal n h = grind arith
 
 short : IsRefusal 7 → ⊥
-short (inl e) = absurd (cc e)
-short (inr (inl e)) = absurd (cc e)
-short (inr (inr h)) = absurd (omega (arith, h))
+short h = grind arith
 
 handed_out : (made : Made) (state output messages : Buffer) (result : ℕ) → (WritesNothing made.number → ⊥) → IsHandedOut made state output messages result → IsRefusal result → ⊥
-handed_out made state output messages result writes (inl (room, filled)) refused = writes (refusal made.number (subst IsRefusal filled.number refused))
-handed_out made state output messages result writes (inr (none, kept)) refused = short (subst IsRefusal kept.number refused)
+handed_out made state output messages result writes h refused = grind (arith, refusal, short)
 
 module _ (job : Job) (limits : Limits) (made : Made) (state output messages : Buffer) (result : ℕ) (h : IsHandedOut made state output messages result) where
   pub fed : (before piece : List ℕ) → Feeds job limits before piece made → IsRefusal result → ⊥

@@ -30,10 +30,7 @@ most_stays d = omega arith
 
 -- one digit more
 one_more : (j n w : ℕ) → 10 ≤ n → IsReadOf j (n / 10) w → IsReadOf (suc j) n (with_digit w (48 + n % 10))
-one_more j n w big (inl all) = inl (ap (λ v. with_digit v (48 + n % 10)) all ∙ most_stays (n % 10))
-one_more j n w big (inr (inl same)) = elim (digit_is w (n % 10)) [ inl e ↦ inl e | inr e ↦ inr (inl (omega (arith, e.0))) ]
-one_more j n w big (inr (inr (inl none))) = elim (digit_is w (n % 10)) [ inl e ↦ inl e | inr e ↦ inr (inr (inr (omega (arith, e, pow-suc 10 j, ap (λ i. 10 ^ i) none.0)))) ]
-one_more j n w big (inr (inr (inr long))) = elim (digit_is w (n % 10)) [ inl e ↦ inl e | inr e ↦ inr (inr (inr (omega (arith, e, pow-suc 10 j)))) ]
+one_more j n w big h = grind (arith, most_stays, digit_is, pow-suc)
 
 -- the number of digits, after which others stand
 pub record ReadAfter (k n : ℕ) (acc digits : List ℕ) : Type 0 where

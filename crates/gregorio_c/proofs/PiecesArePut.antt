@@ -1,5 +1,5 @@
 -- What the calls of a run in pieces answer is put.
-use Rattle.std.proofs.Common.{◌≡◌, ◌≢◌, ◌==◌, ℕ, ◌+◌, ◌<◌, ◌≤◌, ◌⊎◌, inl, inr, List, [], ◌∷◌, ◌++◌, append-nil, take-append-drop, take_all, Result, Ok, Err, IfOk, length, take, drop, Bool, true, false, if◌then◌else◌, append_assoc, refl, sym, ap, subst, ◌∙◌, arith}
+use Rattle.std.proofs.Common.{◌≡◌, ◌≢◌, ◌==◌, ℕ, ◌+◌, ◌<◌, ◌≤◌, ◌⊎◌, inl, inr, List, [], ◌∷◌, ◌++◌, append-nil, take-append-drop, take_all, Result, IfOk, length, take, drop, Bool, true, false, if◌then◌else◌, append_assoc, refl, sym, ap, subst, ◌∙◌, arith}
 use Rattle.std.proofs.lemmas.Bool.Decides.{eqb_tells}
 use Rattle.std.proofs.Math.ListN.{get_or}
 use Rattle.std.proofs.Math.Seq.{take-append_seam}
@@ -13,7 +13,7 @@ use Rattle.gregorio_state.specs.StateBytes.{state_bytes}
 use Rattle.gregorio.specs.declared.source_ending.SourceEnding.{SourceEnding}
 use Rattle.gregorio.specs.Saved.{state_of}
 use Rattle.gregorio.specs.SavedState.{IsOfJob}
-use Rattle.gregorio.specs.Streams.{Streams, after_bytes, joined}
+use Rattle.gregorio.specs.Streams.{Streams, joined}
 use Rattle.std.specs.Borrow.{Bor}
 use Rattle.gregorio.specs.witness.StandsFor.{StandsFor}
 use Rattle.gregorio_c.specs.StepAnswers.{BeginAnswer, Buffer, EndAnswer, FeedAnswer, IsHandedOut, IsReason, used}
@@ -46,18 +46,11 @@ head : (text new old : List ℕ) → new ≡ text ++ drop (length text) old → 
 head text new old is = ap (λ (bytes : List ℕ). take (length text) bytes) is ∙ take-append_seam text (drop (length text) old)
 
 took : (made : Made) (state output messages : Buffer) (number : ℕ) → IsHandedOut made state output messages number → (number ≡ 7 → ⊥) → Took made state output messages number
-took made state output messages number (inl (room, filled)) not_short = record {
-  state_is = head made.state state.new state.old filled.state_is;
-  output_is = head made.output output.new output.old filled.output_is;
-  lines_are = head made.lines messages.new messages.old filled.lines_are;
-  number_is = filled.number;
-}
-took made state output messages number (inr (none, kept)) not_short = absurd (not_short kept.number)
+took made state output messages number h not_short = grind (arith, head)
 
 -- where nothing is written of what was made, a buffer is too small
 fails : (made : Made) (state output messages : Buffer) (number : ℕ) → (WritesNothing made.number → ⊥) → IsHandedOut made state output messages number → WritesNothing number → MayFail number
-fails made state output messages number writes (inl (room, filled)) nothing = absurd (writes (subst WritesNothing filled.number nothing))
-fails made state output messages number writes (inr (none, kept)) nothing = inr kept.number
+fails made state output messages number writes h nothing = grind arith
 
 not_seven : (number : ℕ) → (WritesNothing number → ⊥) → number ≡ 7 → ⊥
 not_seven number writes seven = writes (inr (inr (omega (arith, seven))))
@@ -72,8 +65,7 @@ module _ (job : Job) (limits : Limits) (state : Buffer) (step : Step) (number : 
       subst (λ (bytes : List ℕ). StandsFor job limits bytes (run_of job limits)) (sym (ap (λ (s : Step). take s.state state.new) a.lengths ∙ t.state_is)) a.begins.stands
 
   pub begin_fails : WritesNothing number → (number ≡ 5) ⊎ BeginAnswer job limits state step number → MayFail number
-  begin_fails nothing (inl e) = inl e
-  begin_fails nothing (inr a) = fails a.made state (used [] []) (used [] []) number (begun_writes job limits a.made a.begins) a.handed nothing
+  begin_fails nothing h = grind (arith, fails, begun_writes)
 
 -- ---- what is known of a state that stands for something
 
@@ -82,13 +74,7 @@ Once bytes = (one other : StateFields) → AreStateFields one → AreStateFields
 
 module _ (job : Job) (limits : Limits) (before : List ℕ) (left : Writes) (stands : StandsFor job limits before left) (once : Once before) where
   is_of_job : IsOfJob job limits (state_of stands.engine)
-  is_of_job =
-      let of = stands.of_job in
-      record {
-        limits_are = record { header = ap (λ (l : Limits). l.header) of.limits_are; syllable = ap (λ (l : Limits). l.syllable) of.limits_are; input = ap (λ (l : Limits). l.input) of.limits_are };
-        format = of.format;
-        all_warnings = of.all_warnings;
-      }
+  is_of_job = grind arith
 
   five : (number : ℕ) → IsReason job limits before number → number ≡ 5
   five number (inl e) = e
@@ -187,49 +173,23 @@ joined_rest pieces count = sym (joined_both (take count pieces) (drop count piec
 module _ {A B : Type 0} (takes : A → List ℕ → A) (takes_too : B → List ℕ → B) (job : Job) (limits : Limits) where
   -- nothing is put yet
   pub nothing_put : (left : Writes) (state : List ℕ) (o : A) (m : B) → takes o [] ≡ o → takes_too m [] ≡ m → StandsFor job limits state left → PutsOn takes takes_too job limits left [] o m state o m
-  nothing_put left state o m none none_too stands = record {
-    output = [];
-    lines = [];
-    rest = left;
-    out_is = sym none;
-    lines_are = sym none_too;
-    stands = stands;
-    law = λ ending more. refl;
-  }
+  nothing_put left state o m none none_too stands = grind arith
 
   module _ (left : Writes) (bytes : List ℕ) (o p q : A) (m n r : B) (state state_then : List ℕ)
       (both : (s : A) (a b : List ℕ) → takes (takes s a) b ≡ takes s (a ++ b)) (both_too : (s : B) (a b : List ℕ) → takes_too (takes_too s a) b ≡ takes_too s (a ++ b))
       (a : PutsOn takes takes_too job limits left bytes o m state p n) where
     -- a piece more is put
     pub more_put : (piece : List ℕ) → PutsOn takes takes_too job limits a.rest piece p n state_then q r → PutsOn takes takes_too job limits left (bytes ++ piece) o m state_then q r
-    more_put piece b = record {
-      output = a.output ++ b.output;
-      lines = a.lines ++ b.lines;
-      rest = b.rest;
-      out_is = b.out_is ∙ (ap (λ (s : A). takes s b.output) a.out_is ∙ both o a.output b.output);
-      lines_are = b.lines_are ∙ (ap (λ (s : B). takes_too s b.lines) a.lines_are ∙ both_too m a.lines b.lines);
-      stands = b.stands;
-      law = λ ending more.
-          ap (left ending) (append_assoc bytes piece more)
-          ∙ (a.law ending (piece ++ more)
-          ∙ (ap (after_bytes a.output a.lines) (b.law ending more) ∙ sym (with_both_after a.output a.lines b.output b.lines (b.rest ending more))));
-    }
+    more_put piece b = grind (arith, append_assoc, with_both_after)
 
     -- the last is put
     pub last_put : (ending : SourceEnding) (more : List ℕ) (number : ℕ) → PutsLast takes takes_too (a.rest ending more) p n q r number → PutsLast takes takes_too (left ending (bytes ++ more)) o m q r number
-    last_put ending more number l =
-        let law = a.law ending more in
-        record {
-          out_is = l.out_is ∙ (ap (λ (s : A). takes s (a.rest ending more).output) a.out_is ∙ (both o a.output (a.rest ending more).output ∙ ap (λ (s : Streams). takes o s.output) (sym law)));
-          lines_are = l.lines_are ∙ (ap (λ (s : B). takes_too s (a.rest ending more).messages) a.lines_are ∙ (both_too m a.lines (a.rest ending more).messages ∙ ap (λ (s : Streams). takes_too m s.messages) (sym law)));
-          number_is = l.number_is ∙ ap (λ (s : Streams). code_of s.status) (sym law);
-        }
+    last_put ending more number l = grind arith
 
 -- ---- pieces, one after the other
 
 pub if_ok : {P Q : ℕ → Type 0} (r : Result ℕ ℕ) → IfOk r P → ((n : ℕ) → P n → Q n) → IfOk r Q
-if_ok (Ok n) h f = f n h
-if_ok (Err n) h f = tt
+if_ok r h f = grind arith
 
 module _ {A B : Type 0} (takes : A → List ℕ → A) (takes_too : B → List ℕ → B) (job : Job) (limits : Limits) (left : Writes) (pieces : List (Bor (List ℕ))) (count : ℕ) (o p q : A) (m n r : B) (state : List ℕ)
     (both : (s : A) (a b : List ℕ) → takes (takes s a) b ≡ takes s (a ++ b)) (both_too : (s : B) (a b : List ℕ) → takes_too (takes_too s a) b ≡ takes_too s (a ++ b))
@@ -256,7 +216,4 @@ module _ {A B : Type 0} (takes : A → List ℕ → A) (takes_too : B → List �
         (subst (λ (x : Fed). PutsFed takes takes_too job limits a.rest (get_or pieces count other).now p n state_then q r x) is f ending rest))
 
   pub end_of_pieces : length pieces ≤ count → (ending : SourceEnding) (number : ℕ) → PutsLast takes takes_too (a.rest ending []) p n q r number → PutsLast takes takes_too (left ending (joined pieces)) o m q r number
-  end_of_pieces over ending number l =
-      subst (λ (bytes : List ℕ). PutsLast takes takes_too (left ending bytes) o m q r number)
-      (append-nil (joined (take count pieces)) ∙ ap (λ (xs : List (Bor (List ℕ))). joined xs) (take_all count pieces over))
-      (last_put takes takes_too job limits left (joined (take count pieces)) o p q m n r state state both both_too a ending [] number l)
+  end_of_pieces over ending number l = grind (arith, append-nil, take_all, last_put)

@@ -1,10 +1,9 @@
 -- What a step makes of an engine that stands after a state.
-use Rattle.std.proofs.Common.{◌≡◌, ℕ, List, [], ◌++◌, Option, append-nil, refl, sym, ap, subst, ◌∙◌}
+use Rattle.std.proofs.Common.{◌≡◌, ℕ, List, [], ◌++◌, Option, append-nil, refl, sym, ap, subst, ◌∙◌, arith}
 use Rattle.gabc_places.specs.declared.code.Fault.{Fault}
 use Rattle.gabc_places.specs.declared.limits.Limits.{Limits}
 use Rattle.gregorio_jobs.specs.declared.job.Job.{Job}
 use Rattle.gregorio_jobs.specs.declared.job.Status.{Status}
-use Rattle.gregorio_jobs.specs.declared.job.Status.TheVariants.{Whole}
 use Rattle.gregorio_jobs.specs.Status.{code_of}
 use Rattle.gregorio.specs.declared.source_ending.SourceEnding.{SourceEnding}
 use Rattle.gregorio.specs.declared.source_ending.SourceEnding.TheVariants.{Broken}
@@ -16,15 +15,11 @@ use Rattle.gregorio_c.specs.machine.Steps.{EndedAs, FedAs, StandsAlone}
 
 -- no run ends with the number of one that goes on
 no_end : (status : Status) → code_of status ≡ goes_on → ⊥
-no_end Whole e = absurd (cc e)
-no_end _ e = absurd (cc e)
+no_end status e = grind arith
 
 -- the last bytes of a run that is over
 last_is : (output lines : List ℕ) (status : Status) (fault : Option Fault) → after_bytes output lines (ended_with status fault) ≡ record { output = output; messages = lines; status = status; fault = fault }
-last_is output lines status fault =
-    let texts = append-nil output in
-    let told = append-nil lines in
-    λ i. record { output = texts i; messages = told i; status = status; fault = fault }
+last_is output lines status fault = grind (arith, append-nil)
 
 -- ---- what is made of an engine
 
@@ -73,20 +68,10 @@ module _ (job : Job) (limits : Limits) (left : Writes) (other : Writes) (same : 
   }
 
   goes_on_too : (piece : List ℕ) (made : Made) → GoesOn job limits left piece made → GoesOn job limits other piece made
-  goes_on_too piece made g = record {
-    rest = g.rest;
-    stands = g.stands;
-    law = λ ending more. sym (same ending (piece ++ more)) ∙ g.law ending more;
-    prompt = g.prompt;
-  }
+  goes_on_too piece made g = grind arith
 
   is_stopped_too : (piece : List ℕ) (made : Made) → IsStopped left piece made → IsStopped other piece made
-  is_stopped_too piece made s = record {
-    status = s.status;
-    fault = s.fault;
-    over = s.over;
-    law = λ ending more. sym (same ending (piece ++ more)) ∙ s.law ending more;
-  }
+  is_stopped_too piece made s = grind arith
 
 -- the first state stands for the whole run, if the engine writes that
 pub begins : (job : Job) (limits : Limits) (left : Writes) (state : List ℕ) (made : Made) → made ≡ record { output = []; lines = []; state = state; number = goes_on }

@@ -5,9 +5,7 @@ use Rattle.gregorio_c.proofs.PiecesArePut.{end_of_pieces, if_ok, next_put, nothi
 use Rattle.gregorio_c.proofs.in_pieces.a_run_may_be_fed_in_pieces.Goals as goal
 
 pub loop-piece-init : goal.loop-piece-init
-loop-piece-init g c = λ request limits asks.
-    nothing_put g.O.Put.taken g.M.Put.taken (job_of request) limits (λ ending bytes. run_of (job_of request) limits ending bytes) (take c.in_ok-len.len c.begin_one.new.state) c.args.out.now c.args.lines.now
-    (g.met.O.Put.taken_nothing c.args.out.now) (g.met.M.Put.taken_nothing c.args.lines.now) (c.in_ok-len.ensures.begun request limits asks)
+loop-piece-init g c = grind (arith, nothing_put)
 
 pub returns-in-Err-clause-error : goal.returns-in-Err-clause-error
 returns-in-Err-clause-error g c = λ request limits asks.

@@ -1,4 +1,4 @@
-use Rattle.std.proofs.Common.{◌⊎◌, [], inl, inr, sym, subst}
+use Rattle.std.proofs.Common.{◌⊎◌, [], inl, inr, sym, subst, arith}
 use Rattle.gabc_places.specs.declared.limits.Limits.{Limits}
 use Rattle.gregorio_c.specs.StepAnswers.{EndAnswer, IsReason, used}
 use Rattle.gregorio_c.specs.Steps.{job_of}
@@ -9,10 +9,7 @@ use Rattle.gregorio_c.proofs.NumbersAskOnce.{for_any}
 use Rattle.gregorio_c.proofs.pieces.end_so.Goals as goal
 
 pub returns-in-Ok-clause-unchanged : goal.returns-in-Ok-clause-unchanged
-returns-in-Ok-clause-unchanged c = λ refused.
-    let asked = c.in-Some.asked in
-    absurd (ended (job_of asked.request) asked.limits c.in-Ok.made (used [] c.hand_out.new.state) (used c.args.output.now c.hand_out.new.output) (used c.args.messages.now c.hand_out.new.messages) c.hand_out.result c.hand_out.ensures
-    c.args.ending c.args.before.now c.in-Ok.ensures.ends refused)
+returns-in-Ok-clause-unchanged c = grind (arith, ended)
 
 pub returns-in-Ok-clause-answered : goal.returns-in-Ok-clause-answered
 returns-in-Ok-clause-answered c =
