@@ -10,7 +10,8 @@ WIDTH = 150
 HEAD = """# The public calls
 
 Printed by `tools/believe --write-promises` from the comments of the sources: do not edit it. [PROMISES.md](PROMISES.md) says how to read it, and what is promised from end to end.
-For each public call it has its comment, what the call asks for (`requires`, as it is written), and the names of what it promises (`ensures`; a clause without a name is not listed).
+For each public call it has its comment, what the call asks for (`requires`, as it is written), and the names of what it promises (`ensures`; a clause without a name is not listed;
+*Promises nothing* says that there is no clause, so that only safety and the end of the call are proved).
 `tools/believe --list CALL` prints the clauses themselves, with all definitions that they rest on.
 """
 
@@ -46,6 +47,7 @@ def entry_of(function):
     words = f"`{name}`: {' '.join(it for it in function.doc if it)}"
     words += f" *Asks for* {', '.join(asked)}." if asked else ""
     words += f" *Promises* {', '.join(promised)}." if promised else ""
+    words += "" if any(kind == "ensures" for kind, _, _ in function.clauses) else " *Promises nothing.*"
     return paragraph(words, "- ", "  ")
 
 

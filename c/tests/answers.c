@@ -83,6 +83,45 @@ static void try_refusals(void) {
   check(lengths.output == 77 && lengths.messages == 78 && count == 79 && output[0] == UNTOUCHED, "nothing written", 0);
 }
 
+/* Returns a score of so many copies of a syllable; the caller frees it. `length` gets how many bytes it has. */
+static uint8_t *score_of(const char *syllable, size_t copies, size_t *length) {
+  static const char head[] = "name:x;\n%%\n";
+  size_t each = strlen(syllable), from = sizeof head - 1;
+  uint8_t *made = malloc(from + copies * each);
+  if (!made) return NULL;
+  memcpy(made, head, from);
+  for (size_t i = 0; i < copies; i++) memcpy(made + from + i * each, syllable, each);
+  *length = from + copies * each;
+  return made;
+}
+
+/* A score with more messages than fit into 16 bits finds memory. */
+static void try_many_messages(void) {
+  size_t length, room = 0;
+  uint8_t *score = score_of("A(f?)\n", 70000, &length);
+  struct gregorio_lengths lengths;
+  check(gregorio_compile(score, length, GREGORIO_GABC, 0, NULL, 0, NULL, 0, NULL, 0, &lengths) == GREGORIO_ERRORS, "70,000 messages", 0);
+  check(lengths.messages > 70000 * sizeof "<stdin>:3:4: error: E1: ", "the length of 70,000 messages", 0);
+  check(gregorio_messages(score, length, 0, NULL, 0, NULL, 0, &room) == GREGORIO_ERRORS && room == 70000, "70,000 records", 0);
+  free(score);
+}
+
+/* An output of 300 MB finds memory, and its last line counts the syllables. */
+static void try_long_output(void) {
+  static const char last[] = "\nend 4200000\n";
+  size_t length, end = sizeof last - 1;
+  uint8_t *score = score_of("(f)", 4200000, &length);
+  struct gregorio_lengths lengths = {0, 0};
+  check(gregorio_compile(score, length, GREGORIO_DUMP, 0, NULL, 0, NULL, 0, NULL, 0, &lengths) == GREGORIO_WHOLE, "300 MB of output", 0);
+  check(lengths.output > 300000000, "the length of 300 MB of output", 0);
+  size_t room = lengths.output;
+  uint8_t *output = malloc(room);
+  check(output && gregorio_compile(score, length, GREGORIO_DUMP, 0, NULL, 0, output, room, NULL, 0, &lengths) == GREGORIO_WHOLE, "300 MB of output in their buffer", 0);
+  check(output && lengths.output == room && memcmp(output + room - end, last, end) == 0, "the last line of 300 MB of output", 0);
+  free(output);
+  free(score);
+}
+
 int main(int count, char **tables) {
   size_t number = 0;
   struct test_case it;
@@ -102,5 +141,7 @@ int main(int count, char **tables) {
   }
   check(number > 0, "there are cases", 0);
   try_refusals();
+  try_many_messages();
+  try_long_output();
   return summary("answers");
 }

@@ -16,6 +16,9 @@ static uint8_t names[ROOM], output[ROOM], messages[ROOM], state[ROOM];
 static struct gregorio_message records[64];
 static const uint8_t *score;
 static size_t length;
+/* The state of a run with all warnings that has read the names. */
+static uint8_t held[ROOM];
+static size_t held_length;
 
 typedef bool (*reader)(const uint64_t *key, size_t key_length);
 
@@ -42,6 +45,27 @@ static bool reads_in_pieces(const uint64_t *key, size_t key_length) {
   if (gregorio_begin(GREGORIO_GABC, 0, &options, count, state, ROOM, &step) != GREGORIO_RUNS) return false;
   if (feed(&options, count, &step, score, length - 3) != GREGORIO_RUNS) return false;
   return feed(&options, count, &step, score + length - 3, 3) == GREGORIO_RUNS;
+}
+
+/* Gives the state of a run with all warnings to one without: its names are read again before it is said to be of another run. For a score without headers it does
+ * nothing. */
+static bool judges_another(const uint64_t *key, size_t key_length) {
+  struct gregorio_options options = {65536, 16384, UINT32_MAX, 0, {0, 0}};
+  struct gregorio_step step;
+  size_t count = key_length > 0 ? 1 : 0;
+  if (count > 0) memcpy(options.key, key, sizeof options.key);
+  if (length == 3) return gregorio_begin(GREGORIO_GABC, 1, &options, count, state, ROOM, &step) == GREGORIO_RUNS;
+  return gregorio_feed(GREGORIO_GABC, 0, &options, count, held, ROOM, held_length, NULL, 0, output, ROOM, messages, ROOM, &step) == GREGORIO_OTHER_STATE;
+}
+
+/* Makes the state for `judges_another`. */
+static bool hold_another(size_t names_length) {
+  struct gregorio_options options = {65536, 16384, UINT32_MAX, 0, {1, 2}};
+  struct gregorio_step step;
+  if (gregorio_begin(GREGORIO_GABC, 1, &options, 1, held, ROOM, &step) != GREGORIO_RUNS) return false;
+  if (gregorio_feed(GREGORIO_GABC, 1, &options, 1, held, ROOM, step.state, names, names_length, output, ROOM, messages, ROOM, &step) != GREGORIO_RUNS) return false;
+  held_length = step.state;
+  return true;
 }
 
 /* The processor time of one round, in seconds. */
@@ -81,5 +105,7 @@ int main(int count, char **words) {
   try_reader(reads_whole, names_length, 0.5, "gregorio_compile", 1);
   try_reader(tells_messages, names_length, 0.5, "gregorio_messages", 2);
   try_reader(reads_in_pieces, names_length, 0.8, "gregorio_feed", 3);
+  check(hold_another(names_length), "a state with the names", 4);
+  try_reader(judges_another, names_length, 0.8, "a state of another run", 4);
   return summary("keys");
 }

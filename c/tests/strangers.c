@@ -1,5 +1,5 @@
 /* States of strangers: what bytes cost that are refused, whatever limits they name. Bytes of below 1 kB take at most 0.4 ms, and 0.15 ms for each further kB,
- * and no more than 8 MB of memory for 64 kB of state, in proportion above.
+ * and no more than 1 MB of memory, and 8 MB for 64 kB of state, in proportion above.
  *
  * Linked with --wrap for `malloc`, `realloc` and `free`, which count what is asked for at one time.
  *
@@ -61,7 +61,7 @@ static void refuse(size_t length, uint32_t answer, const char *what, size_t numb
     double took = (double)(clock() - begun) / CLOCKS_PER_SEC;
     if (took < least) least = took;
   }
-  double allowed_bytes = length > 65536 ? (8 << 20) * ((double)length / 65536) : 8 << 20;
+  double allowed_bytes = length <= 1024 ? 1 << 20 : length <= 65536 ? 8 << 20 : (8 << 20) * ((double)length / 65536);
   printf("strangers: %s: %zu bytes, %.3f ms, %.2f MB\n", what, length, 1e3 * least, (double)(most - before) / 1e6);
   check(least <= allowed, what, number);
   check((double)(most - before) <= allowed_bytes, what, number);
@@ -78,6 +78,16 @@ static void try_text(const char *what, const uint8_t *input, size_t length, uint
   }
 }
 
+/* The state of a run under the usual limits with all warnings, which is given to one without. */
+static void try_other_flags(const uint8_t *input, size_t length, size_t number) {
+  struct gregorio_step step;
+  bool begun = gregorio_begin(GREGORIO_GABC, 1, NULL, 0, state, ROOM, &step) == GREGORIO_RUNS;
+  check(begun, "other flags", number);
+  begun = begun && gregorio_feed(GREGORIO_GABC, 1, NULL, 0, state, ROOM, step.state, input, length, output, ROOM / 2, output + ROOM / 2, ROOM / 2, &step) == GREGORIO_RUNS;
+  check(begun, "other flags", number);
+  if (begun) refuse(step.state, GREGORIO_OTHER_STATE, "other flags", number);
+}
+
 int main(void) {
   static const uint8_t beginning[] = "name: Kyrie;\n", body[] = "%%\n(c4) Ky(f)ri(gfg)e<i>";
   state = malloc(ROOM), text = malloc(ROOM), output = malloc(ROOM);
@@ -85,6 +95,8 @@ int main(void) {
   memset(text, 'a', ROOM);
   try_text("headers", beginning, sizeof beginning - 1, ' ', 1);
   try_text("a body", body, sizeof body - 1, '<', 2);
+  try_other_flags(beginning, sizeof beginning - 1, 1);
+  try_other_flags(body, sizeof body - 1, 2);
   memcpy(text, "x:", 2);
   try_text("64 kB of headers", text, 65000, '\n', 3);
   try_text("1 MB of headers", text, 1000000, '\n', 4);

@@ -137,7 +137,7 @@ class Lists(unittest.TestCase):
             above[depth:] = declared
 
     def test_folders(self) -> None:
-        """The list of docs/CODE.md has each folder of crates with code or proofs, and the file of wrong bodies."""
+        """The list of docs/CODE.md has each folder of crates with code or proofs, and the files of wrong bodies."""
         named = {line.split()[0] for line in block("docs/CODE.md", "test: folders").splitlines()}
         there = {f"{it.name}/" for it in (ROOT / "crates").glob("*/*") if it.is_dir()} | {f"specs/{it.name}/" for it in (ROOT / "crates").glob("*/specs/*") if it.is_dir()}
-        self.assertEqual(named, there - {"data/", "out/"} | {it.name for it in (ROOT / "crates").glob("*/*.toml")})
+        self.assertEqual(named, there - {"data/", "out/"} | {it.name for it in (ROOT / "crates").glob("*/wrong_bodies.*")})
