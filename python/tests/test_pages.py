@@ -35,6 +35,8 @@ class Claims(unittest.TestCase):
             return "no test runs" in " ".join(it.words.lower().split())
         if kind == "recipe":
             return re.search(rf"(?:recipe|recipe {re.escape(page)}|name=) ?{re.escape(name)}(?![\w-])", self.scripts) is not None
+        if kind == "score":
+            return f'scores_of("{page}")' in self.tests
         if it.mark:
             return f'block("{page}", "{it.mark}")' in self.tests
         return f"lines_of {it.language} {page}" in self.scripts
