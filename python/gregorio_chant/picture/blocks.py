@@ -8,6 +8,7 @@ from gregorio_chant.items import (
     Alteration, Bar, Break, Clef, Custos, Descriptor, Fusion, Glyph, Item, NabcSnippet, Note, NoteSnippet, Space, Syllable,
 )
 from gregorio_chant.picture import staff
+from gregorio_chant.picture.episemata import Neume, add_signs
 from gregorio_chant.picture.faces import OWN, Drawn, Face
 from gregorio_chant.picture.neumes import has_oriscus, neume_of
 from gregorio_chant.picture.rhythm import signs_around
@@ -15,6 +16,7 @@ from gregorio_chant.picture.shapes import STEM
 from gregorio_chant.picture.shown import shown
 from gregorio_chant.picture.values import Block, Rect, Sign, Words, height_of, step_of
 from gregorio_chant.picture.widths import width_of
+from gregorio_chant.rhythm import episemata_of
 
 NABC_SIZE, NABC_ROW = 9.0, 12.0
 _BLANK = 10.0
@@ -29,11 +31,7 @@ def _distance(space: Space) -> float:
         return _BLANK
     if not space.spelling.startswith("/["):
         return _SPACES.get(space.spelling, _AFTER_NEUME)
-    try:
-        factor = float(space.spelling[2:-1])
-    except ValueError:
-        return _BLANK
-    return _BLANK * min(max(factor, -0.5), 10.0) if factor == factor else _BLANK
+    return _BLANK if space.factor is None else _BLANK * min(max(space.factor, -0.5), 10.0)
 
 
 _MOST_KEPT = 4096
@@ -47,7 +45,7 @@ def _drawn(glyph: Glyph, lines: int, face: Face, following: str | None) -> Drawn
         neume = neume_of(glyph, face, following)
         around, more = signs_around(neume, lines)
         first = neume.heads[0]
-        drawn = Drawn((*around, *neume.signs), neume.width + more, first.x + first.width / 2)
+        drawn = Drawn((*around, *neume.signs), neume.heads, neume.width + more, first.x + first.width / 2)
         if len(face.kept) >= _MOST_KEPT:
             face.kept.clear()
         face.kept[key] = drawn
@@ -63,6 +61,7 @@ class _Writer:
         self._snippet, self._lines, self._face = snippet, lines, face
         self._following, self._base = following, base
         self.blocks: list[Block] = []
+        self._neumes: list[Neume] = []
         self._has_space = False
         # The last note, where the next one is fused to it.
         self._fused: Note | None = None
@@ -104,7 +103,15 @@ class _Writer:
         if self._fused is not None:
             signs = (_join(height_of(step_of(self._fused.pitch)), height_of(step_of(first.pitch))), *signs)
         self._put(Block(glyph.place.offset - self._base, signs, drawn.width, _AFTER_NEUME, drawn.anchor, first.pitch))
+        self._neumes.append(Neume(self.blocks[-1], tuple(it._replace(note=note) for it, note in zip(drawn.heads, glyph.notes))))
         self._fused, self._last = None, last
+
+    def finish(self) -> list[Block]:
+        """Adds the signs that depend on several neumes, and returns the blocks."""
+        covered = episemata_of(self._snippet.items)
+        if covered or any(head.note.ictus for it in self._neumes for head in it.heads):
+            add_signs(self._neumes, covered)
+        return self.blocks
 
     @cached_property
     def _pitches(self) -> dict[int, str | None]:
@@ -124,7 +131,7 @@ class _Writer:
     def _add_sign(self, item: Clef | Alteration | Bar | Custos) -> None:
         offset = item.place.offset - self._base
         if isinstance(item, Clef):
-            signs, width = staff.clef(item.spelling, self._face.shapes)
+            signs, width = staff.clef(item, self._face.shapes)
             self._put(Block(offset, signs, width, _AFTER_CLEF, clef=item))
         elif isinstance(item, Alteration):
             signs, width = staff.alteration(item, self._face.shapes)
@@ -146,7 +153,7 @@ def _blocks_of_notes(snippet: NoteSnippet, lines: int, following: str | None, fa
     writer = _Writer(snippet, lines, following, face, base)
     for item in snippet.items:
         writer.add(item)
-    return writer.blocks
+    return writer.finish()
 
 
 def _words_of_nabc(snippet: NabcSnippet) -> Words:

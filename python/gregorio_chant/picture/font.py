@@ -38,17 +38,12 @@ _SPECIAL = {
     ("torculus-resupinus", 0, "quilisma"): "TorculusResupinusQuilisma", ("scandicus", 1, "oriscus"): "Salicus",
 }
 _STEPS = ("", "One", "Two", "Three", "Four", "Five")
-_ENDS = {"~": "Deminutus", "<": "Ascendens", ">": "Descendens"}
+_ENDS = {"deminutus": "Deminutus", "augmented": "Ascendens", "diminished": "Descendens", None: ""}
 _MOST_ORIGIN = 2000
 
 
 class NoFace(ValueError):
     """A file that is no font with GregorioTeX's glyph names."""
-
-
-def _end_of(note: Note) -> str:
-    """Returns what liquescence the name of a glyph says."""
-    return next((name for sign, name in _ENDS.items() if sign in note.spelling), "")
 
 
 def _joined_names(glyph: Glyph, count: int) -> Iterator[str]:
@@ -58,26 +53,26 @@ def _joined_names(glyph: Glyph, count: int) -> Iterator[str]:
     other = [(kind, at, it.shape) for at, it in enumerate(notes) if it.shape != "punctum"]
     begin = _JOINED.get(kind) if not other else _SPECIAL.get(other[0]) if len(other) == 1 else None
     steps = [abs(step_of(it.pitch) - step_of(before.pitch)) for before, it in zip(notes, notes[1:])]
-    if begin is None or not all(0 < it < len(_STEPS) for it in steps) or any(_end_of(it) for it in notes[:-1]):
+    if begin is None or not all(0 < it < len(_STEPS) for it in steps) or any(it.liquescence for it in notes[:-1]):
         return
     height = "".join(_STEPS[it] for it in steps)
-    end = ("InitioDebilis" if notes[0].spelling.startswith("-") else "") + _end_of(notes[-1])
+    end = ("InitioDebilis" if notes[0].is_initio_debilis else "") + _ENDS[notes[-1].liquescence]
     for name in (begin, *(["PesQuadratum"] if begin == "Pes" and end else [])):
         yield f"{name}{height}{end or 'Nothing'}"
 
 
 def _single_name(note: Note, shape: str, rises: bool) -> str | None:
     """Returns the name of the glyph that is a note by itself."""
-    end = _end_of(note)
+    end = _ENDS[note.liquescence]
     if shape == "inclinatum":
-        return None if "r" in note.spelling else f"PunctumInclinatum{'Auctus' if end == 'Ascendens' else 'Deminutus'}" if end else None
+        return None if note.is_hollow else f"PunctumInclinatum{'Auctus' if end == 'Ascendens' else 'Deminutus'}" if end else None
     if shape in ("oriscus", "oriscus-scapus"):
         begin = f"{'Ascendens' if rises else 'Descendens'}Oriscus{'Scapus' if shape.endswith('scapus') else ''}"
         return "OriscusDeminutus" if end == "Deminutus" and shape == "oriscus" else begin
     begin = _SINGLES.get(shape, "")
     if begin == "Stropha" and end:
         return "StrophaAucta"
-    if shape == "punctum" and note.spelling.startswith("-"):
+    if shape == "punctum" and note.is_initio_debilis:
         return "PunctumDeminutus"
     return f"{begin}{end}" if begin in ("Punctum", "VirgaReversa") else begin
 

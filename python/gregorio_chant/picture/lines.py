@@ -62,7 +62,7 @@ class _Setter:
         before = len(self.placed), self._notes, self._text, self._translation
         for part in unit:
             self.add(part)
-        if max(self._notes, self._text) <= self._width:
+        if max(self._notes, self._text, self._translation) <= self._width:
             return True
         del self.placed[before[0] :]
         _, self._notes, self._text, self._translation = before
@@ -161,7 +161,7 @@ class LineMaker:
         """Returns a setter after the clef in force; none stands where the part begins with its
         own."""
         begins_with_clef = part is not None and bool(part.blocks) and part.blocks[0][1].clef is not None
-        width = 0.0 if self._clef is None or begins_with_clef else staff.clef(self._clef.spelling, self._shapes).width + 8.0
+        width = 0.0 if self._clef is None or begins_with_clef else staff.clef(self._clef, self._shapes).width + 8.0
         setter = _Setter(width, self._width - _CUSTOS_ROOM)
         self._starts_at = width
         return setter
@@ -201,7 +201,7 @@ class LineMaker:
         """Ends the line, and begins the next one."""
         line = Line(self._setter.placed, width=self._width)
         if self._clef is not None and self._starts_at:
-            line.signs += staff.clef(self._clef.spelling, self._shapes).signs
+            line.signs += staff.clef(self._clef, self._shapes).signs
         self._clef = next((it.part.clef for it in reversed(line.parts) if it.part.clef is not None), self._clef)
         self._setter = self._begin(None)
         return line

@@ -145,7 +145,8 @@ class PartMaker:
         for line in texts[1:]:
             parts.append(_part_of(syllable, len(parts), _NO_BLOCKS))
             _add_text(parts[-1], line, 0.0)
-        if syllable.translation:
+        # The translation `/` says that the one before it ends here.
+        if syllable.translation and syllable.translation != "/":
             left = first.text_left if first.has_text else first.left
             first.translation = _shortened(syllable.translation, TRANSLATION_SIZE, room).moved(left)
         if text.above:

@@ -132,7 +132,8 @@ class Painter:
         if words.size != SIZE:
             attributes["font-size"] = _often(words.size)
         if len(words.text) > 1:
-            attributes["textLength"] = _often(words.width)
+            # A face with other letters is squeezed as a whole, and not the gaps between its letters alone.
+            attributes |= {"textLength": _often(words.width), "lengthAdjust": "spacingAndGlyphs"}
         element = SubElement(parent, "text", attributes)
         element.text = _kept_blanks(words.text)
         if words.title:

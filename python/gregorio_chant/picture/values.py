@@ -5,7 +5,7 @@ from __future__ import annotations
 from dataclasses import dataclass, field
 from typing import NamedTuple, Union
 
-from gregorio_chant.items import Clef, Syllable
+from gregorio_chant.items import Clef, Note, Syllable
 
 STEP = 5.0
 PITCHES = "abcdefghijklmnp"
@@ -46,6 +46,20 @@ class Rect(NamedTuple):
 
 
 Sign = Union[Use, Rect]
+
+
+class Head(NamedTuple):
+    """Where the head of a note stands. `covered` says whether the next note stands over it,
+    `covers` whether it stands over the one before, and `foot` is how much lower than that of a head
+    its black goes: below the first note of a broad stroke."""
+
+    note: Note
+    x: float
+    y: float
+    width: float
+    covers: bool = False
+    covered: bool = False
+    foot: float = 0.0
 
 
 class Words(NamedTuple):
