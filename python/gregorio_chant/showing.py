@@ -11,7 +11,7 @@ from urllib.parse import quote
 
 from gregorio_chant import checking
 from gregorio_chant.files import read
-from gregorio_chant.picture import OWN, USUAL_WIDTH, Face, Names, draw
+from gregorio_chant.picture import Look, Names, draw
 from gregorio_chant.picture.page import Entry, Shown, index_of, page_of
 from gregorio_chant.reports import Checked, counted, summary_of
 from gregorio_chant.results import Kind
@@ -33,8 +33,8 @@ class Wanted:
     paths: tuple[str, ...]
     output: str | None = None
     svg: bool = False
-    face: Face = OWN
-    width: float = USUAL_WIDTH
+    look: Look = Look()
+    with_messages: bool = True
     with_rules: bool = False
     exclude: tuple[str, ...] = ()
     settings: Finder = NoSettings()
@@ -82,7 +82,7 @@ class _Scores:
             yield checked, content.data
 
     def shown(self, checked: Checked, data: bytes, prefix: str) -> Shown:
-        picture = draw(data, checked.messages, width=self._wanted.width, names=Names(prefix, links=True), face=self._wanted.face)
+        picture = draw(data, checked.messages, look=self._wanted.look, names=Names(prefix, links=True))
         return Shown(checked, printable(checked.shown_name), picture, text_of(data), prefix)
 
     def summary(self) -> str:
@@ -145,7 +145,7 @@ def _show_one(wanted: Wanted, scores: _Scores, names: list[str]) -> None:
         raise UnknownCode(f"--svg writes one picture, and here are {counted(len(names), 'score')}" if len(names) != 1 else "--svg writes a file, and no folder")
     _refuse_own_input(wanted.files, names)
     for checked, data in scores.all(names):
-        _write(wanted, draw(data, checked.messages, width=wanted.width, face=wanted.face).pieces)
+        _write(wanted, draw(data, checked.messages, look=wanted.look).pieces)
 
 
 def _show_page(wanted: Wanted, scores: _Scores, names: list[str]) -> None:

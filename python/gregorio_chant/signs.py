@@ -4,6 +4,7 @@ nowhere else."""
 from __future__ import annotations
 
 import re
+from dataclasses import dataclass
 from functools import lru_cache
 from typing import NamedTuple
 
@@ -17,7 +18,8 @@ _SIZES = {"3": "left", "4": "centre", "5": "right"}
 AUTO, OVER, UNDER = "auto", "over", "under"
 
 
-class Episema(NamedTuple):
+@dataclass(frozen=True, slots=True)
+class Episema:
     """A horizontal episema. It covers `count` notes: the one that has it, and those before that one.
     `side` is `auto`, `over` or `under`. `size` is `whole`, or of a small episema how it is aligned:
     `left`, `centre` or `right`. `is_bridged` says whether it may be joined to the episema of the

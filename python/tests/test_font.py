@@ -9,7 +9,7 @@ from typing import Any
 from xml.etree import ElementTree as Xml
 
 from gregorio_chant.dump import Score
-from gregorio_chant.picture import OWN, Face, draw, lay_out
+from gregorio_chant.picture import OWN, Face, Look, draw, lay_out
 from gregorio_chant.picture.neumes import neume_of
 from gregorio_chant.picture.values import Rect, height_of, step_of
 from support import EXAMPLES, SCORE, InFolder, command, has, scores_of_tables, without
@@ -137,7 +137,7 @@ class Greciliae(unittest.TestCase):
             self.assertIn(name, seen)
 
     def test_licence(self) -> None:
-        svg = draw((EXAMPLES / "introit.gabc").read_bytes(), face=self.face).svg
+        svg = draw((EXAMPLES / "introit.gabc").read_bytes(), look=Look(face=self.face)).svg
         self.assertRegex(svg, "(?s)<metadata>Neumes: outlines of the font greciliae\n.*SIL Open Font License.*</metadata>")
         self.assertEqual([it for it, count in _counts(re.findall(r'<path id="([^"]*)"', svg)) if count > 1], [])
 

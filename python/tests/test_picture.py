@@ -19,7 +19,7 @@ import gregorio_chant.picture
 from gregorio_chant import check
 from gregorio_chant.codes import CODES
 from gregorio_chant.dump import Glyph, Score, ScoreError, Syllable
-from gregorio_chant.picture import draw, lay_out, picture
+from gregorio_chant.picture import Look, draw, lay_out, picture
 from gregorio_chant.picture import words
 from gregorio_chant.picture.layout import staff_lines
 from gregorio_chant.picture.neumes import neume_of
@@ -59,7 +59,7 @@ def described(lines: list[Line]) -> str:
             part = placed.part
             signs = " ".join(_signs(block.signs, placed.x + x) for x, block in part.blocks)
             texts = "".join(f" {it.text!r}@{placed.x + it.x:.1f}" for it in (*part.texts, *part.above, *([part.translation] if part.translation else [])))
-            nabc = "".join(f" nabc{it.y:.0f} {it.text!r}" for _, block in part.blocks for it in block.neumes)
+            nabc = "".join(f" nabc{it.row} {it.words.text!r}" for _, block in part.blocks for it in block.neumes if it.words is not None)
             written.append(f"  {part.syllable.number}.{part.number} at {placed.x:.1f}:{texts}{nabc} {signs}".rstrip())
         written.append("  hyphens" + "".join(f" {it.x:.1f}" for it in line.hyphens))
     return "\n".join(written) + "\n"
@@ -306,7 +306,7 @@ class Pictures(unittest.TestCase):
     def test_tables(self) -> None:
         """Each score of the tables of runs has a picture."""
         for score in scores_of_tables():
-            Xml.fromstring(draw(score, width=300.0).svg)
+            Xml.fromstring(draw(score, look=Look(width=300.0)).svg)
 
     def test_bad_input(self) -> None:
         many = "nabc-lines: 4;\n%%\n(c4) a(f|vi|pu|ta|cl|g|vi|pu)\n"
@@ -335,7 +335,7 @@ class Pictures(unittest.TestCase):
     def test_styles(self) -> None:
         texts = {
             it.text: it.attrib for it in Xml.fromstring(picture(
-                "name: x;\n%%\n(c4) <b>bb</b>(f) <i>ii</i>(f) <e>ee</e>(f) <sc>ss</sc>(f) <tt>tt</tt>(f) <ul>uu</ul>(f) <c>cc</c>(f) <sp>V/</sp>vv(f) <sp>'ae</sp>x(f)\n"
+                "name: x;\n%%\n(c4) xx(f) <b>bb</b>(f) <i>ii</i>(f) <e>ee</e>(f) <sc>ss</sc>(f) <tt>tt</tt>(f) <ul>uu</ul>(f) <c>cc</c>(f) <sp>V/</sp>vv(f) <sp>'ae</sp>x(f)\n"
             )).iter(f"{SVG}text")
         }
         for text, name, value in (

@@ -11,7 +11,7 @@ from subprocess import CompletedProcess
 from urllib.parse import unquote_to_bytes
 from xml.etree import ElementTree as Xml
 
-from gregorio_chant.picture import Names, draw
+from gregorio_chant.picture import Look, Names, draw
 from gregorio_chant.picture.page import Shown, page_of
 from gregorio_chant.reports import Checked
 from support import EXAMPLES, FAULTY, SCORE, InFolder, command
@@ -204,7 +204,7 @@ class Output(InFolder):
         root = Xml.fromstring(ran.stdout)
         self.assertEqual(root.get("width"), "300")
         self.assertTrue(any(it.tag.endswith("}style") for it in root))
-        self.assertEqual(ran.stdout.decode(), draw(FAULTY.encode(), width=300.0).svg)
+        self.assertEqual(ran.stdout.decode(), draw(FAULTY.encode(), look=Look(width=300.0)).svg)
         self.put("b.gabc", SCORE)
         for words in (("a.gabc", "b.gabc"), ("-o", "./", "a.gabc"), (".", "--exclude", "*")):
             self.assertEqual(command("show", "--svg", *words).returncode, 3, words)

@@ -6,7 +6,7 @@ import argparse
 from gregorio_chant import showing
 from gregorio_chant.commands.words import OUTSIDE, STATUSES, Parser, add_files, add_no_config, examples, paths_of, positive, settings_of
 from gregorio_chant.needs import need
-from gregorio_chant.picture import OWN, USUAL_WIDTH, Face
+from gregorio_chant.picture import OWN, USUAL_WIDTH, Face, Look
 from gregorio_chant.selection import UnknownCode
 from gregorio_chant.streams import CANNOT_READ_OR_WRITE, printable, reason_of, tell
 
@@ -31,6 +31,7 @@ def add(commands: argparse._SubParsersAction[Parser]) -> Parser:
     it.add_argument("--svg", action="store_true", help="write the picture of one score alone, as SVG")
     it.add_argument("--width", type=positive, default=int(USUAL_WIDTH), metavar="N", help="how wide a picture is, in pixels (as ever %(default)s)")
     it.add_argument("--font", metavar="FILE", help="draw neumes with the outlines of this font, which has the glyph names of GregorioTeX, as greciliae.ttf")
+    it.add_argument("--no-initial", action="store_true", help="leave the first letter in the text, and not before the first line, whatever initial-style says")
     it.add_argument("--watch", action="store_true", help="write again when a score changes, until Control-C ends it")
     it.add_argument("--rules", action="store_true", help="show what the rules find too; they stand outside the proof of the compiler")
     add_no_config(it)
@@ -46,8 +47,9 @@ def run(words: argparse.Namespace) -> int:
         return CANNOT_READ_OR_WRITE
 
     def wanted() -> showing.Wanted:
+        look = Look(float(words.width), face, has_initial=not words.no_initial)
         return showing.Wanted(
-            paths_of(words), words.output, words.svg, face, float(words.width), words.rules, tuple(words.exclude), settings_of(words),
+            paths_of(words), words.output, words.svg, look, with_rules=words.rules, exclude=tuple(words.exclude), settings=settings_of(words),
         )
 
     if not words.watch:

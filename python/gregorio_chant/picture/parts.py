@@ -5,9 +5,10 @@ from __future__ import annotations
 from collections.abc import Iterator
 from typing import NamedTuple
 
-from gregorio_chant.items import Clef, Syllable
+from gregorio_chant.items import Break, Clef, Syllable
 from gregorio_chant.picture.blocks import begin_of_notes, blocks_of
 from gregorio_chant.picture.faces import OWN, Face
+from gregorio_chant.picture.hands import PLAIN, Hand
 from gregorio_chant.picture.shown import shown
 from gregorio_chant.picture.values import Block, Part, Words
 from gregorio_chant.picture.widths import styled_width, width_of
@@ -28,7 +29,7 @@ class _Row(NamedTuple):
     has_anchor: bool
     first: str | None
     clef: Clef | None
-    ends_line: str
+    ends_line: Break | None
     is_bar: bool
 
 
@@ -37,7 +38,8 @@ def _row_of(blocks: list[tuple[float, Block]], width: float) -> _Row:
     anchor: float | None = None
     first: str | None = None
     clef: Clef | None = None
-    ends_line, has_bar = "", False
+    ends_line: Break | None = None
+    has_bar = False
     for x, it in blocks:
         if anchor is None and it.anchor is not None:
             anchor = x + it.anchor
@@ -64,7 +66,7 @@ def _cut_into_rows(blocks: list[Block], room: float) -> Iterator[_Row]:
             row, x = [], 0.0
         row.append((round(x, 2), block))
         x += block.width + block.after
-        if block.ends_line:
+        if block.ends_line is not None:
             yield _row_of(row, x - block.after)
             row, x = [], 0.0
     if row:
@@ -111,7 +113,7 @@ def _part_of(syllable: Syllable, number: int, row: _Row) -> Part:
     """Returns a part with these blocks and no text."""
     return Part(
         syllable, number, row.blocks, row.left, row.right, has_anchor=row.has_anchor, first=row.first, clef=row.clef, ends_line=row.ends_line,
-        is_bar=row.is_bar,
+        is_bar=row.is_bar, begins=number == 0 and syllable.begins_word,
     )
 
 
@@ -128,8 +130,8 @@ class PartMaker:
     """Makes syllables to parts on lines of a staff with this much room. The rows of notes that were
     made last are kept, since a score has its snippets often."""
 
-    def __init__(self, lines: int, room: float, face: Face = OWN) -> None:
-        self._lines, self._room, self._face = lines, room, face
+    def __init__(self, lines: int, room: float, face: Face = OWN, hand: Hand = PLAIN) -> None:
+        self._lines, self._room, self._face, self._hand = lines, room, face, hand
         self._kept: dict[tuple[str, str | None], list[_Row]] = {}
 
     def parts_of(self, syllable: Syllable, following: str | None) -> tuple[list[Part], SyllableText]:
@@ -169,7 +171,7 @@ class PartMaker:
         return rows
 
     def _made(self, syllable: Syllable, following: str | None) -> list[_Row]:
-        return list(_cut_into_rows(blocks_of(syllable, self._lines, following, self._face), self._room)) or [_NO_BLOCKS]
+        return list(_cut_into_rows(blocks_of(syllable, self._lines, following, self._face, self._hand), self._room)) or [_NO_BLOCKS]
 
 
 def _add_ends(parts: list[Part]) -> None:

@@ -6,17 +6,16 @@ from dataclasses import dataclass
 from functools import lru_cache
 from xml.etree.ElementTree import Element, SubElement, tostring
 
-from gregorio_chant.picture.blocks import NABC_ROW
 from gregorio_chant.picture.codes import CODE_ROW, CODE_SIZE, Code, marks_of
 from gregorio_chant.picture.marks import Mark, Places
-from gregorio_chant.picture.parts import ABOVE_SIZE
 from gregorio_chant.picture.shown import shown
-from gregorio_chant.picture.values import Line, Placed, Rect, Sign, Words
+from gregorio_chant.picture.spaces import SPACES
+from gregorio_chant.picture.values import Line, Neumes, Placed, Rect, Sign, Use, Words
 from gregorio_chant.picture.widths import FACES
 from gregorio_chant.picture.words import SIZE
 from gregorio_chant.results import Kind
 
-MARGIN = 12.0
+MARGIN = SPACES.margin
 # The style of pictures: a file of its own holds it, a page has it once.
 STYLE = (
     f".chant{{color:#000;font-family:{FACES};fill:currentColor}}.chant .paper{{fill:#fff}}.chant .staff{{fill:none;stroke:#a43;stroke-width:.7}}"
@@ -46,6 +45,11 @@ def _kept_blanks(text: str) -> str:
         return text
     at = text.find(inner) if inner else 0
     return "\u00a0" * (at if inner else len(text)) + inner + "\u00a0" * (len(text) - at - len(inner) if inner else 0)
+
+
+def attributes_of(styles: frozenset[str]) -> dict[str, str]:
+    """Returns the attributes of text in these styles."""
+    return dict(_ATTRIBUTES[it] for it in sorted(styles) if it in _ATTRIBUTES)
 
 
 @dataclass(frozen=True)
@@ -96,8 +100,10 @@ class Painter:
         """Returns the group of a line, whose staff has its lowest line at `y`, with the codes
         above it."""
         group = Element("g", {"transform": f"translate({number(MARGIN)},{number(y)})"})
-        staff = "".join(f"M0,{number(-10.0 * it)}h{number(line.width)}" for it in range(self._staff))
+        staff = "".join(f"M{number(line.indent)},{number(-10.0 * it)}h{number(line.width - line.indent)}" for it in range(self._staff))
         SubElement(group, "path", {"class": "staff", "d": staff})
+        for words in line.initial:
+            self._words(group, words, 0.0, words.y)
         self._signs(group, line.signs, 0.0)
         for placed in line.parts:
             self._part(group, line, placed)
@@ -128,7 +134,7 @@ class Painter:
     def _words(parent: Element, words: Words, x: float, y: float) -> None:
         attributes = {"x": number(x + words.x), "y": _often(y)}
         if words.styles:
-            attributes.update(_ATTRIBUTES[it] for it in sorted(words.styles) if it in _ATTRIBUTES)
+            attributes |= attributes_of(words.styles)
         if words.size != SIZE:
             attributes["font-size"] = _often(words.size)
         if len(words.text) > 1:
@@ -155,19 +161,23 @@ class Painter:
         self._field(group, line, placed)
         for x, block in part.blocks:
             self._signs(group, block.signs, placed.x + x)
-            for words in block.neumes:
-                self._words(group, words, placed.x + x, self._row(line, int(words.y)))
+            for it in block.neumes:
+                self._neumes(group, it, placed.x + x, line.rows[it.row - 1])
         for words in part.texts:
             self._words(group, words, placed.x, line.text)
         if part.translation is not None:
-            self._words(group, part.translation._replace(styles=frozenset("i")), placed.x, line.text + 15.0)
+            self._words(group, part.translation._replace(styles=frozenset("i")), placed.x, line.translation)
         for words in part.above:
-            self._words(group, words._replace(styles=frozenset("i")), placed.x, line.top + ABOVE_SIZE)
+            self._words(group, words._replace(styles=frozenset("i")), placed.x, line.above)
 
-    @staticmethod
-    def _row(line: Line, row: int) -> float:
-        """Returns the y of a row of NABC: the first one stands nearest to the staff."""
-        return line.top + (ABOVE_SIZE if line.has_above else 0.0) + (line.rows - row + 1) * NABC_ROW - 3.0
+    def _neumes(self, parent: Element, neumes: Neumes, x: float, y: float) -> None:
+        """Paints NABC, with its text and its names as a title."""
+        if neumes.words is not None:
+            self._words(parent, neumes.words, x, y)
+            return
+        group = SubElement(parent, "g", {"class": "nabc"})
+        add(group, "title", neumes.title)
+        self._signs(group, (Use(it.shape, it.x, it.y + y) for it in neumes.signs), x)
 
     def _field(self, parent: Element, line: Line, placed: Placed) -> None:
         """Paints a field under a part that has messages."""
