@@ -19,7 +19,7 @@ import gregorio_chant.picture
 from gregorio_chant import check
 from gregorio_chant.codes import CODES
 from gregorio_chant.dump import Glyph, Score, ScoreError, Syllable
-from gregorio_chant.picture import Look, draw, lay_out, picture
+from gregorio_chant.picture import OWN, Look, draw, lay_out, picture
 from gregorio_chant.picture import words
 from gregorio_chant.picture.layout import staff_lines
 from gregorio_chant.picture.neumes import neume_of
@@ -30,6 +30,7 @@ from support import EXAMPLES, ROOT, scores_of_tables
 LAYOUTS = ROOT / "python" / "tests" / "layouts"
 SVG = "{http://www.w3.org/2000/svg}"
 NAMES = sorted(it.stem for it in EXAMPLES.glob("*.gabc"))
+PLAIN = Look(face=OWN, hand="text")
 # The examples whose layouts are kept.
 KEPT = ("antiphon", "two-lines")
 # Every kind of neume, with notes of each.
@@ -201,13 +202,13 @@ class Neumes(unittest.TestCase):
         self.assertGreater(len(kinds), 15)
 
     def test_every_shape(self) -> None:
-        """Each shape of the table is drawn of some notes."""
+        """Each shape of the plain face is drawn of some notes."""
         notes = " ".join(KINDS.values()).replace("wg", "fwg")
         scores = [
             f"name: x;\n%%\n(c4) a({notes} F~ Fr fr2 fr3 fr4 fr5 fr6 fr7 fr8 fx fy f# fx? kgk) (z) (c4@f3) b(f+ k+ ` ^ , ; ;1 : :? :: ,_ :' z0)\n",
             "name: x;\n%%\n(c4) a(gfg hfh ifi jfj kfk)\n",
         ]
-        used = {it.get("id") for score in scores for it in Xml.fromstring(picture(score)).iter(f"{SVG}path") if it.get("id")}
+        used = {it.get("id") for score in scores for it in Xml.fromstring(draw(score.encode(), look=PLAIN).svg).iter(f"{SVG}path") if it.get("id")}
         self.assertEqual(used, set(SHAPES))
 
     def test_around(self) -> None:
@@ -279,7 +280,7 @@ class Pictures(unittest.TestCase):
 
     def test_codes_stand_over_their_notes(self) -> None:
         """Characters that were left out before do not move the place of a message."""
-        root = Xml.fromstring(picture("name: x;\n%%\n(c4) a(&&&&&f g h i) b(f g&&&& h&)\n"))
+        root = Xml.fromstring(draw(b"name: x;\n%%\n(c4) a(&&&&&f g h i) b(f g&&&& h&)\n", look=PLAIN).svg)
         codes = [float(it.get("x") or 0) for it in root.iter(f"{SVG}text") if it.get("class") == "code"]
         notes = [float(it.get("x") or 0) for it in root.iter(f"{SVG}use") if it.get("href") == "#punctum"]
         self.assertEqual(len(notes), 7)
@@ -318,12 +319,12 @@ class Pictures(unittest.TestCase):
             with self.subTest(score[:40]):
                 root = Xml.fromstring(picture(score))
                 self.assertTrue(any(it.get("id") for it in root.iter(f"{SVG}g")))
-        self.assertEqual([it.text for it in Xml.fromstring(picture(many)).iter(f"{SVG}text") if it.get("font-size") == "9"], ["vi", "pu", "ta", "cl", "vi", "pu"])
+        self.assertEqual([it.text for it in Xml.fromstring(draw(many.encode(), look=PLAIN).svg).iter(f"{SVG}text") if it.get("font-size") == "9"], ["vi", "pu", "ta", "cl", "vi", "pu"])
 
     def test_hostile(self) -> None:
         """No text of a score makes an element or leaves its own."""
         root = Xml.fromstring(picture(HOSTILE))
-        known = {"svg", "title", "style", "defs", "path", "rect", "use", "g", "text"}
+        known = {"svg", "title", "metadata", "style", "defs", "path", "rect", "use", "g", "text"}
         self.assertEqual({it.tag.removeprefix(SVG) for it in root.iter()}, known)
         whole = "".join(root.itertext())
         self.assertIn("<script>alert(1)</script> \" ' ]]> <U+202E> &amp", whole)

@@ -11,9 +11,11 @@ from xml.etree.ElementTree import Element, SubElement
 from gregorio_chant import library
 from gregorio_chant.dump import Syllable, read_in_turn
 from gregorio_chant.picture.codes import CODE_ROW, codes_of
+from gregorio_chant.picture.hands import Hand
 from gregorio_chant.picture.layout import Layout, staff_lines
 from gregorio_chant.picture.look import USUAL_WIDTH, Look
 from gregorio_chant.picture.marks import Mark, Places, places_of
+from gregorio_chant.picture.nabc import hand_of
 from gregorio_chant.picture.shown import shown
 from gregorio_chant.picture.svg import MARGIN, STYLE, Names, Painter, add, number, text_of
 from gregorio_chant.picture.title import Headers, Title, initial_of
@@ -39,7 +41,7 @@ class Picture:
         return "".join(self.pieces)
 
 
-def draw(data: bytes, messages: Sequence[Message] | None = None, *, look: Look = Look(), names: Names = Names()) -> Picture:
+def draw(data: bytes, messages: Sequence[Message] | None = None, *, look: Look | None = None, names: Names = Names()) -> Picture:
     """Returns a picture of a score that looks so, with these messages: all of the compiler's if none
     are given."""
     told = tuple(library.check(data).messages if messages is None else messages)
@@ -48,7 +50,8 @@ def draw(data: bytes, messages: Sequence[Message] | None = None, *, look: Look =
         read, syllables = read_in_turn(dump) if dump else ((), iter(()))
         headers = Headers(read)
         places = places_of(data, told, dump.count("\nsyllable "))
-        drawing = _Drawing(headers, syllables, places, look, names)
+        look = look or Look()
+        drawing = _Drawing(headers, syllables, places, look, hand_of(look.hand, dump), names)
         body = list(drawing.body() if dump else drawing.nothing())
         name = headers.last("name")
         return Picture(name, told, [drawing.head(name), *body, "</svg>\n"], drawing.places)
@@ -75,12 +78,12 @@ def picture(score: str | bytes, *, width: float = USUAL_WIDTH) -> str:
 class _Drawing:
     """Draws line by line, and knows how high the picture is so far."""
 
-    def __init__(self, headers: Headers, syllables: Iterable[Syllable], places: Places, look: Look, names: Names) -> None:
-        self._headers, self._look, self._names, self._places = headers, look, names, places
+    def __init__(self, headers: Headers, syllables: Iterable[Syllable], places: Places, look: Look, hand: Hand, names: Names) -> None:
+        self._headers, self._look, self._hand, self._names, self._places = headers, look, hand, names, places
         self._width = max(look.width, _LEAST_WIDTH)
         staff = staff_lines(headers.last("staff-lines"))
         self._initial = initial_of(headers) if look.has_initial else None
-        self._layout = Layout(syllables, self._width - 2 * MARGIN, staff, look.face, look.hand, look.spaces, self._initial)
+        self._layout = Layout(syllables, self._width - 2 * MARGIN, staff, look.face, hand, look.spaces, self._initial)
         self._painter = Painter(names, places, staff)
         self._y = MARGIN
 
@@ -96,7 +99,7 @@ class _Drawing:
             "class": "chant", "font-size": "16", **({} if self._names.links else {"role": "img"}),
         })
         add(root, "title", name or "A score without a name")
-        face, hand = self._look.face, self._look.hand
+        face, hand = self._look.face, self._hand
         origins = [face.origin] if face.origin else []
         if hand.origin and any(it in hand.shapes for it in self._painter.used):
             origins.append(hand.origin)
@@ -106,7 +109,7 @@ class _Drawing:
             SubElement(root, "style").text = STYLE
         shapes = SubElement(root, "defs")
         for shape in self._painter.used:
-            path = (self._look.hand.shapes.get(shape) or self._look.face.shapes[shape]).path
+            path = (hand.shapes.get(shape) or face.shapes[shape]).path
             SubElement(shapes, "path", {"id": self._names.shape(shape), "d": path, "fill-rule": "evenodd"})
         SubElement(root, "rect", {"class": "paper", "width": "100%", "height": "100%"})
         return text_of(root).removesuffix("</svg>\n") + "\n"
@@ -127,7 +130,7 @@ class _Drawing:
             yield self._painter.line(line, codes, self._y)
             self._y += line.bottom + self._look.spaces.between_lines
         yield from self._codes(self._places.after)
-        if self._layout.not_drawn:
+        if self._look.has_notes and self._layout.not_drawn:
             yield self._note(self._layout.not_drawn)
 
     def nothing(self) -> Iterator[str]:

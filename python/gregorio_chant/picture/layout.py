@@ -96,6 +96,7 @@ def _first_pitch(line: Line) -> str | None:
     return next((it.part.first for it in line.parts if it.part.first is not None), None)
 
 
-def lay_out(syllables: Iterable[Syllable], width: float, staff: int = USUAL_LINES, face: Face = OWN) -> list[Line]:
-    """Returns all lines of a score."""
-    return list(Layout(syllables, width, staff, face).lines())
+def lay_out(syllables: Iterable[Syllable], width: float, staff: int = USUAL_LINES, face: Face = OWN, hand: Hand = PLAIN) -> list[Line]:
+    """Returns all lines of a score, without an initial; in plain shapes and with NABC as text unless
+    another face and hand are given."""
+    return list(Layout(syllables, width, staff, face, hand).lines())

@@ -55,10 +55,12 @@ def attributes_of(styles: frozenset[str]) -> dict[str, str]:
 @dataclass(frozen=True)
 class Names:
     """The names of a picture's parts: `prefix` begins its ids, which no two pictures of a page
-    share, and `links` says whether marks lead to messages."""
+    share, and `links` says whether marks lead to messages, whose ids begin with `messages` if this is
+    another one."""
 
     prefix: str = ""
     links: bool = False
+    messages: str | None = None
 
     def shape(self, name: str) -> str:
         return f"{self.prefix}{name}"
@@ -67,7 +69,10 @@ class Names:
         return f"{self.prefix}s{index + 1}" + (f"-{part + 1}" if part else "")
 
     def message(self, index: int) -> str:
-        return f"{self.prefix}m{index}"
+        return f"{self.prefix if self.messages is None else self.messages}m{index}"
+
+    def code(self, index: int) -> str:
+        return f"{self.prefix}m{index}-at"
 
 
 def text_of(element: Element) -> str:
@@ -199,9 +204,8 @@ class Painter:
         """Paints the code of a message, as a link where messages stand beside the picture."""
         message = mark.message
         if self._names.links:
-            name = self._names.message(mark.number)
-            self.places[mark.number] = f"{name}-at"
-            parent = SubElement(parent, "a", {"href": f"#{name}", "id": f"{name}-at"})
+            name = self.places[mark.number] = self._names.code(mark.number)
+            parent = SubElement(parent, "a", {"href": f"#{self._names.message(mark.number)}", "id": name})
         code = SubElement(parent, "text", {"class": "code", "x": number(x), "y": number(y)})
         code.text = shown(words or message.code)
         add(code, "title", f"{message.line}:{message.column}: {message.kind.value}: {message.code}: {message.text}")
