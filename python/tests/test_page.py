@@ -25,12 +25,12 @@ _HAS_PACKAGES = has("starlette") and has("uvicorn")
 MOST = 1_000_000
 
 
-@unittest.skipUnless(_HAS_PACKAGES, "there is no starlette, or no uvicorn")
 def _without_links(text: str) -> str:
     """Returns HTML without the links into pictures: a page of `show` has two of these."""
     return re.sub(' <a[^>]*>in the picture</a>', "", text)
 
 
+@unittest.skipUnless(_HAS_PACKAGES, "there is no starlette, or no uvicorn")
 class Serving(Asking):
     """Each test starts the server on a free port of this machine, and ends it."""
 

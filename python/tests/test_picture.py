@@ -20,8 +20,8 @@ from gregorio_chant import check
 from gregorio_chant.codes import CODES
 from gregorio_chant.dump import Glyph, Score, ScoreError, Syllable
 from gregorio_chant.picture import OWN, Look, draw, lay_out, picture
-from gregorio_chant.picture import words
-from gregorio_chant.picture.layout import staff_lines
+from gregorio_chant.picture.languages import language_of
+from gregorio_chant.picture.layout import Layout, staff_lines
 from gregorio_chant.picture.neumes import neume_of
 from gregorio_chant.picture.shapes import SHAPES
 from gregorio_chant.picture.values import Line, Rect, Sign, height_of, step_of
@@ -249,14 +249,14 @@ def _rects(notes: str) -> list[Rect]:
 
 class Pictures(unittest.TestCase):
     def test_syllables(self) -> None:
-        """Each syllable is a group with an id, its place in the score that the user has, and its
-        source."""
+        """Each syllable is a group with an id, its place in the score that the user has, and what is
+        sung."""
         score = "name: x;\r\n%%\n(c4)   KY(f)ri % a comment\n  (g&fg)e(e.)"
         groups = [it for it in Xml.fromstring(picture(score)).iter(f"{SVG}g") if it.get("id")]
         self.assertEqual([(it.get("id"), it.get("data-line"), it.get("data-column")) for it in groups], [
             ("s1", "3", "1"), ("s2", "3", "8"), ("s3", "3", "13"), ("s4", "4", "9"),
         ])
-        self.assertEqual([it.findtext(f"{SVG}title") for it in groups], ["(c4)", "KY(f)", "ri(gfg)", "e(e.)"])
+        self.assertEqual([it.findtext(f"{SVG}title") for it in groups], [None, "KY: fa", "ri: sol fa sol", "e: mi"])
 
     def test_each_finding(self) -> None:
         """A score with each code has a picture in which that code stands as text, with its place
@@ -356,8 +356,28 @@ class Pictures(unittest.TestCase):
         self.assertAlmostEqual(middle("llall"), 16 * (0.264 * 2 + 0.457 / 2), 1)
         self.assertAlmostEqual(middle("qui"), 16 * (0.503 + 0.531 + 0.271 / 2), 1)
 
+    def test_centre_by_language(self) -> None:
+        """Where the first vowel is depends on the header `language`."""
+        def middle(text: str, language: str) -> float:
+            score = Score.parse(f"name: x;\n%%\n(c4) {text}(f)\n")
+            (line,) = Layout(score.syllables, 700.0, language=language_of(language)).lines()
+            return -line.parts[1].part.text_left
+        self.assertGreater(middle("praise", "English"), middle("praise", ""))
+        self.assertGreater(middle("ia", "latin"), middle("ia", "hu"))
+        self.assertEqual(middle("qui", "french"), middle("qui", "la"))
+
+    def test_for_who_cannot_see(self) -> None:
+        """A line is a group that is named by its words, in its language; hyphens are left out."""
+        root = Xml.fromstring(picture("name: x;\n%%\n(c4) KY(f)ri(gfg)e(e.) * e(f)lé(g)ison(h) (::)\n"))
+        self.assertEqual([(it.get("aria-label"), it.get("lang")) for it in root.iter(f"{SVG}g") if it.get("aria-label")], [("KYrie * eléison", "la")])
+        (hidden,) = [it for it in root.iter(f"{SVG}g") if it.get("aria-hidden")]
+        self.assertEqual(set(hidden.itertext()), {"-"})
+        flat = Xml.fromstring(picture("name: x;\nlanguage: de;\n%%\n(c4) a(f) O(ixi)\n"))
+        self.assertEqual([it.findtext(f"{SVG}title") for it in flat.iter(f"{SVG}g") if it.get("id")], [None, "a: fa", "O: si\u266d"])
+        self.assertIn('lang="de"', picture("name: x;\nlanguage: de;\n%%\n(c4) a(f)\n"))
+
     def test_examples(self) -> None:
-        for module in (gregorio_chant.picture, words, sys.modules["gregorio_chant.picture.shown"]):
+        for module in (gregorio_chant.picture, sys.modules["gregorio_chant.picture.languages"], sys.modules["gregorio_chant.picture.shown"]):
             tried = doctest.testmod(module)
             self.assertGreater(tried.attempted, 0)
             self.assertEqual(tried.failed, 0)

@@ -12,6 +12,7 @@ from gregorio_chant import library
 from gregorio_chant.dump import Syllable, read_in_turn
 from gregorio_chant.picture.codes import CODE_ROW, codes_of
 from gregorio_chant.picture.hands import Hand
+from gregorio_chant.picture.languages import language_of
 from gregorio_chant.picture.layout import Layout, staff_lines
 from gregorio_chant.picture.look import USUAL_WIDTH, Look
 from gregorio_chant.picture.marks import Mark, Places, places_of
@@ -81,10 +82,11 @@ class _Drawing:
     def __init__(self, headers: Headers, syllables: Iterable[Syllable], places: Places, look: Look, hand: Hand, names: Names) -> None:
         self._headers, self._look, self._hand, self._names, self._places = headers, look, hand, names, places
         self._width = max(look.width, _LEAST_WIDTH)
+        language = language_of(headers.last("language"))
         staff = staff_lines(headers.last("staff-lines"))
         self._initial = initial_of(headers) if look.has_initial else None
-        self._layout = Layout(syllables, self._width - 2 * MARGIN, staff, look.face, hand, look.spaces, self._initial)
-        self._painter = Painter(names, places, staff)
+        self._layout = Layout(syllables, self._width - 2 * MARGIN, staff, look.face, hand, look.spaces, self._initial, language)
+        self._painter = Painter(names, places, staff, language)
         self._y = MARGIN
 
     @property
@@ -96,7 +98,7 @@ class _Drawing:
         height = number(self._y + MARGIN)
         root = Element("svg", {
             "xmlns": "http://www.w3.org/2000/svg", "viewBox": f"0 0 {number(self._width)} {height}", "width": number(self._width), "height": height,
-            "class": "chant", "font-size": "16", **({} if self._names.links else {"role": "img"}),
+            "class": "chant", "font-size": "16", "role": "group",
         })
         add(root, "title", name or "A score without a name")
         face, hand = self._look.face, self._hand

@@ -10,6 +10,7 @@ from gregorio_chant.picture.blocks import first_pitch
 from gregorio_chant.picture.faces import OWN, Face
 from gregorio_chant.picture.hands import PLAIN, Hand
 from gregorio_chant.picture.initial import Initial
+from gregorio_chant.picture.languages import LATIN
 from gregorio_chant.picture.lines import LineMaker
 from gregorio_chant.picture.parts import PartMaker
 from gregorio_chant.picture.spaces import SPACES, Spaces
@@ -54,6 +55,7 @@ class Layout:
     hand: Hand = PLAIN
     spaces: Spaces = SPACES
     initial: Initial | None = None
+    language: str = LATIN
     attributes: int = 0
     raw: int = 0
 
@@ -70,7 +72,7 @@ class Layout:
             yield line
 
     def _parts(self) -> Iterator[Part]:
-        maker = PartMaker(self.staff, self._room, self.face, self.hand)
+        maker = PartMaker(self.staff, self._room, self.face, self.hand, self.language)
         for syllable, pitch in _with_pitches(self.syllables):
             parts, text = maker.parts_of(syllable, pitch)
             if "[" in syllable.spelling:

@@ -9,6 +9,7 @@ from gregorio_chant.items import Break, Clef, Syllable
 from gregorio_chant.picture.blocks import begin_of_notes, blocks_of
 from gregorio_chant.picture.faces import OWN, Face
 from gregorio_chant.picture.hands import PLAIN, Hand
+from gregorio_chant.picture.languages import LATIN
 from gregorio_chant.picture.shown import shown
 from gregorio_chant.picture.values import Block, Part, Words
 from gregorio_chant.picture.widths import styled_width, width_of
@@ -130,13 +131,13 @@ class PartMaker:
     """Makes syllables to parts on lines of a staff with this much room. The rows of notes that were
     made last are kept, since a score has its snippets often."""
 
-    def __init__(self, lines: int, room: float, face: Face = OWN, hand: Hand = PLAIN) -> None:
-        self._lines, self._room, self._face, self._hand = lines, room, face, hand
+    def __init__(self, lines: int, room: float, face: Face = OWN, hand: Hand = PLAIN, language: str = LATIN) -> None:
+        self._lines, self._room, self._face, self._hand, self._language = lines, room, face, hand, language
         self._kept: dict[tuple[str, str | None], list[_Row]] = {}
 
     def parts_of(self, syllable: Syllable, following: str | None) -> tuple[list[Part], SyllableText]:
         """Returns the parts of a syllable before this pitch, and its text."""
-        text, words, middle = read_and_set(syllable.text)
+        text, words, middle = read_and_set(syllable.text, self._language)
         room = self._room
         parts = [_part_of(syllable, at, it) for at, it in enumerate(self._rows_of(syllable, following))]
         texts = _cut(words, room) if words and words[-1].x + words[-1].width > room else [words]

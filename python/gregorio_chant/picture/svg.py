@@ -6,6 +6,7 @@ from dataclasses import dataclass
 from functools import lru_cache
 from xml.etree.ElementTree import Element, SubElement, tostring
 
+from gregorio_chant.items import Syllable
 from gregorio_chant.picture.codes import CODE_ROW, CODE_SIZE, Code, marks_of
 from gregorio_chant.picture.marks import Mark, Places
 from gregorio_chant.picture.shown import shown
@@ -85,11 +86,32 @@ def add(parent: Element, name: str, text: str) -> None:
     SubElement(parent, name).text = shown(text)
 
 
+_ALTERED = {"flat": "\u266d", "sharp": "\u266f"}
+
+
+def sung(syllable: Syllable) -> str:
+    """Returns how a syllable sounds: its text, and the degrees of its notes, or their letters before
+    any clef."""
+    notes = " ".join((it.degree or it.pitch) + _ALTERED.get(it.alteration, "") for it in syllable.notes)
+    text = syllable.plain.strip()
+    return f"{text}: {notes}" if text and notes else notes
+
+
+def words_of(line: Line) -> str:
+    """Returns the words of a line as one text, with its initial."""
+    texts = []
+    for it in line.parts:
+        if it.part.has_text:
+            texts.append((" " if it.part.begins else "") + "".join(words.text for words in it.part.texts))
+    joined = " ".join("".join(texts).split())
+    return shown("".join(it.text for it in line.initial[-1:]) + joined) if line.initial else shown(joined)
+
+
 class Painter:
     """Paints lines as groups, and knows which shapes they use."""
 
-    def __init__(self, names: Names, places: Places, staff: int) -> None:
-        self._names = names
+    def __init__(self, names: Names, places: Places, staff: int, language: str) -> None:
+        self._names, self._language = names, language
         self._places = places
         self._staff = staff
         self._addresses: dict[str, str] = {}
@@ -104,7 +126,11 @@ class Painter:
     def line(self, line: Line, codes: Sequence[Code], y: float) -> str:
         """Returns the group of a line, whose staff has its lowest line at `y`, with the codes
         above it."""
-        group = Element("g", {"transform": f"translate({number(MARGIN)},{number(y)})"})
+        label = words_of(line)
+        group = Element("g", {
+            "transform": f"translate({number(MARGIN)},{number(y)})", **({"role": "group", "aria-label": label} if label else {}),
+            **({"lang": self._language} if label and self._language else {}),
+        })
         staff = "".join(f"M{number(line.indent)},{number(-10.0 * it)}h{number(line.width - line.indent)}" for it in range(self._staff))
         SubElement(group, "path", {"class": "staff", "d": staff})
         for words in line.initial:
@@ -114,8 +140,10 @@ class Painter:
             self._part(group, line, placed)
         for it in codes:
             self.code(group, it.mark, it.x, line.top - 2.5 - CODE_ROW * it.row, it.text)
-        for hyphen in line.hyphens:
-            self._words(group, hyphen, 0.0, line.text)
+        if line.hyphens:
+            hyphens = SubElement(group, "g", {"aria-hidden": "true"})
+            for hyphen in line.hyphens:
+                self._words(hyphens, hyphen, 0.0, line.text)
         return text_of(group)
 
     def _signs(self, parent: Element, signs: Iterable[Sign], x: float) -> None:
@@ -161,8 +189,10 @@ class Painter:
             place = self._places.syllables[index]
             attributes |= {"data-line": str(place.line), "data-column": str(place.column)}
         group = SubElement(parent, "g", attributes)
-        if part.number == 0:
-            add(group, "title", part.syllable.spelling)
+        title = sung(part.syllable) if part.number == 0 else ""
+        if title:
+            group.set("role", "img")
+            add(group, "title", title)
         self._field(group, line, placed)
         for x, block in part.blocks:
             self._signs(group, block.signs, placed.x + x)
