@@ -5,7 +5,7 @@ _gregorio_chant_options() {
   case "$1" in
     check) echo '--staged --exclude --output-format --select --ignore --fail-on --rules --fix --unsafe-fixes --diff --jobs --no-config --quiet --help' ;;
     format) echo '--staged --exclude --check --diff --wrap --canonical --allow --jobs --no-config --quiet --help' ;;
-    show) echo '--exclude --output --svg --width --font --watch --rules --no-config --help' ;;
+    show) echo '--exclude --output --svg --width --no-initial --face --neumes --no-messages --font --watch --rules --no-config --help' ;;
     page) echo '--port --rules --no-config --help' ;;
     explain) echo '--all --help' ;;
     export) echo '--to --exclude --folder --force --tempo --no-config --quiet --help' ;;
@@ -54,6 +54,8 @@ _gregorio_chant() {
     --select | --ignore | --fail-on) _gregorio_chant_list "$word" "$codes rules $rules" ;;
     --allow) _gregorio_chant_list "$word" 'E1 E2 E3 E4 E5 E6 W2 W3 W4 W5 W9 comments spelling' ;;
     --exclude | --output | -o | --font) mapfile -t COMPREPLY < <(compgen -f -- "$word") ;;
+    --face) mapfile -t COMPREPLY < <(compgen -W 'square plain' -- "$word") ;;
+    --neumes) mapfile -t COMPREPLY < <(compgen -W 'auto stgall modern laon text' -- "$word") ;;
     --to) mapfile -t COMPREPLY < <(compgen -W midi -- "$word") ;;
     --folder) mapfile -t COMPREPLY < <(compgen -d -- "$word") ;;
     --jobs | --wrap | --width | --port | --interval | --neume | --text | --tempo) ;;

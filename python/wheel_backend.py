@@ -21,8 +21,8 @@ ROOT = HERE.parent
 LIBRARY = ROOT / "crates" / "gregorio_c" / "out" / "c" / "libgregorio.so"
 PACKAGE = "gregorio_chant"
 EDITORS = ROOT / "editors"
-# The files of the package: its modules, and those of its page.
-SUFFIXES = (".py", ".html", ".css", ".js")
+# The files of the package: its modules, those of its page, and its outlines with their licence.
+SUFFIXES = (".py", ".html", ".css", ".js", ".tsv", ".txt")
 
 
 def _project() -> dict[str, Any]:

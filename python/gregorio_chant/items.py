@@ -1,11 +1,13 @@
 """What a score is made of: headers, syllables, snippets and their items, each with its place and its spelling in the canonical text."""
 from __future__ import annotations
 
+import math
 import re
 from collections.abc import Iterator
 from dataclasses import dataclass, field
 from typing import Protocol, Union
 
+from gregorio_chant.signs import Episema, NoteSigns, signs_of
 from gregorio_chant.source import Place, Source
 
 # The letters of pitches, from low to high.
@@ -13,6 +15,10 @@ PITCHES = "abcdefghijklmnp"
 # How many semitones each degree stands above ut, and what alters a note.
 _SEMITONES = (0, 2, 4, 5, 7, 9, 11)
 _ALTERED = {"none": 0, "flat": -1, "natural": 0, "sharp": 1}
+# How often a shape sounds, if more than once.
+_TIMES = {"bivirga": 2, "distropha": 2, "trivirga": 3, "tristropha": 3}
+# What a bar is, beside its name.
+_BAR = re.compile(r"(?P<name>[`^,;:]+)(?P<digits>[0-9]*)(?P<dotted>\??)(?P<signs>.*)", re.DOTALL)
 # The step of what a clef stands for.
 _CLEF_STEPS = {"c": 7, "f": 3}
 
@@ -114,6 +120,60 @@ class Note(Item):
         step = self.step
         return None if step is None else 12 * (step // 7) + _SEMITONES[step % 7] + _ALTERED[self.alteration]
 
+    @property
+    def signs(self) -> NoteSigns:
+        """All signs that it has, as the properties below."""
+        return signs_of(self.spelling)
+
+    @property
+    def times(self) -> int:
+        """How often it sounds: 2 for a bivirga or a distropha, 3 for a trivirga or a tristropha."""
+        return _TIMES.get(self.shape, 1)
+
+    @property
+    def morae(self) -> int:
+        """How many puncta mora it has; of two, one belongs to the note before it."""
+        return self.signs.morae
+
+    @property
+    def ictus(self) -> str | None:
+        """The side of its ictus: `auto`, `over` or `under`; `None` if it has none."""
+        return self.signs.ictus
+
+    @property
+    def episemata(self) -> tuple[Episema, ...]:
+        """Its horizontal episemata, of which each says how many notes back it reaches."""
+        return self.signs.episemata
+
+    @property
+    def liquescence(self) -> str | None:
+        """`deminutus`, `augmented` or `diminished`; `None` if it is not liquescent."""
+        return self.signs.liquescence
+
+    @property
+    def is_initio_debilis(self) -> bool:
+        return self.signs.is_initio_debilis
+
+    @property
+    def is_hollow(self) -> bool:
+        """Whether it is a cavum, or a hollow punctum inclinatum."""
+        return self.signs.is_hollow
+
+    @property
+    def is_lined(self) -> bool:
+        """Whether lines stand at both of its sides."""
+        return self.signs.is_lined
+
+    @property
+    def over_staff(self) -> tuple[str, ...]:
+        """The signs over the staff at this note: `accent`, `grave`, `circle`, `lower-arc`, `upper-arc`, `flat`, `natural` or `sharp`."""
+        return self.signs.over_staff
+
+    @property
+    def points_up(self) -> bool | None:
+        """Whether an oriscus is told to point up, or down; `None` if the notes after it say so."""
+        return self.signs.points_up
+
 
 @dataclass(frozen=True, slots=True)
 class Alteration(Item):
@@ -122,12 +182,40 @@ class Alteration(Item):
     pitch: str
     sign: str
 
+    @property
+    def is_bracketed(self) -> bool:
+        """Whether it is a reminder, in brackets."""
+        return self.spelling.endswith("?")
+
 
 @dataclass(frozen=True, slots=True)
 class Bar(Item):
     """A bar: `name` is virgula, minimis, minima, minor, maior or finalis."""
 
     name: str
+
+    @property
+    def position(self) -> int | None:
+        """The number after its sign: the position of a Dominican bar, or 0 for a bar on the ledger line over the staff."""
+        digits = self._parts()["digits"]
+        return int(digits[0]) if digits else None
+
+    @property
+    def is_dotted(self) -> bool:
+        return bool(self._parts()["dotted"])
+
+    @property
+    def has_ictus(self) -> bool:
+        return "'" in self._parts()["signs"]
+
+    @property
+    def has_brace(self) -> bool:
+        return "_" in self._parts()["signs"]
+
+    def _parts(self) -> re.Match[str]:
+        found = _BAR.fullmatch(self.spelling)
+        assert found is not None
+        return found
 
 
 @dataclass(frozen=True, slots=True)
@@ -143,6 +231,17 @@ class Space(Item):
         """Whether it parts neumes, among notes."""
         return self.spelling not in ("!", "/0", "/!")
 
+    @property
+    def factor(self) -> float | None:
+        """How wide a spacing `/[..]` is, as a factor of the large one; `None` for every other spacing, and if it is no number."""
+        if not self.spelling.startswith("/["):
+            return None
+        try:
+            factor = float(self.spelling[2:-1])
+        except ValueError:
+            return None
+        return factor if math.isfinite(factor) else None
+
 
 @dataclass(frozen=True, slots=True)
 class Custos(Item):
@@ -154,6 +253,16 @@ class Custos(Item):
 @dataclass(frozen=True, slots=True)
 class Break(Item):
     """The end of a line."""
+
+    @property
+    def is_justified(self) -> bool:
+        """Whether its line is as wide as the others: `z`, and not `Z`."""
+        return self.spelling.startswith("z")
+
+    @property
+    def has_custos(self) -> bool:
+        """Whether a custos may stand at its line's end."""
+        return not self.spelling.endswith("-")
 
 
 @dataclass(frozen=True, slots=True)

@@ -3,13 +3,13 @@
 from __future__ import annotations
 
 import io
-import re
 from collections.abc import Iterator
 from dataclasses import dataclass
 
 import mido
 
 from gregorio_chant.dump import Bar, Note, NoteSnippet, Score, Syllable
+from gregorio_chant.rhythm import morae_of
 
 # How many ticks a note has, and the key of step 0: the c below the one in the middle.
 TICKS = 480
@@ -17,9 +17,6 @@ LOWEST = 48
 _VELOCITY = 80
 # How many notes long the rest of a bar is.
 _RESTS = {"virgula": 0.5, "minimis": 0.5, "minima": 1.0, "minor": 1.0, "maior": 2.0, "finalis": 2.0}
-# How often a shape sounds, if more than once.
-_TIMES = {"bivirga": 2, "distropha": 2, "trivirga": 3, "tristropha": 3}
-_DOTS = re.compile(r"\.+")
 
 
 class NoSound(ValueError):
@@ -39,19 +36,9 @@ class Sound:
     text: str | None
 
 
-def _lengths(snippet: NoteSnippet) -> dict[int, int]:
-    """Returns how many notes long each note is, by its offset: two where a mora stands at it, or
-    two of them at the next note."""
-    lengths: dict[int, int] = {}
-    before: Note | None = None
-    for it in snippet.items:
-        if isinstance(it, Note):
-            dots = _DOTS.search(it.spelling)
-            lengths[it.place.offset] = 2 if dots else 1
-            if dots and len(dots[0]) > 1 and before is not None:
-                lengths[before.place.offset] = 2
-            before = it
-    return lengths
+def _lengths(snippet: NoteSnippet) -> Iterator[int]:
+    """Yields how many notes long each note is: two if a mora stands at it."""
+    return (2 if it else 1 for it in morae_of([it for it in snippet.items if isinstance(it, Note)]))
 
 
 def _lyric(syllable: Syllable) -> str | None:
@@ -78,8 +65,9 @@ def sounds_of(score: Score) -> Iterator[Sound]:
                     continue
                 if it.semitones is None:
                     raise NoSound(it)
-                for _ in range(_TIMES.get(it.shape, 1)):
-                    yield Sound(LOWEST + it.semitones, lengths[it.place.offset] * TICKS, text)
+                length = next(lengths)
+                for _ in range(it.times):
+                    yield Sound(LOWEST + it.semitones, length * TICKS, text)
                     text = None
 
 

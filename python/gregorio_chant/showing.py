@@ -5,14 +5,14 @@ from __future__ import annotations
 import os
 from collections import Counter
 from collections.abc import Iterable, Iterator
-from dataclasses import dataclass
+from dataclasses import dataclass, field, replace
 from pathlib import Path
 from urllib.parse import quote
 
 from gregorio_chant import checking
 from gregorio_chant.files import read
-from gregorio_chant.picture import OWN, USUAL_WIDTH, Face, Names, draw
-from gregorio_chant.picture.page import Entry, Shown, index_of, page_of
+from gregorio_chant.picture import Look, Names, draw
+from gregorio_chant.picture.page import NARROW, Entry, Shown, index_of, page_of
 from gregorio_chant.reports import Checked, counted, summary_of
 from gregorio_chant.results import Kind
 from gregorio_chant.selection import UnknownCode
@@ -33,8 +33,8 @@ class Wanted:
     paths: tuple[str, ...]
     output: str | None = None
     svg: bool = False
-    face: Face = OWN
-    width: float = USUAL_WIDTH
+    look: Look = field(default_factory=Look)
+    with_messages: bool = True
     with_rules: bool = False
     exclude: tuple[str, ...] = ()
     settings: Finder = NoSettings()
@@ -47,6 +47,16 @@ class Wanted:
     def files(self) -> list[Path]:
         """The file that is wanted, if it is one."""
         return [] if self.output is None else [Path(self.output)]
+
+
+def shown_of(checked: Checked, data: bytes, look: Look, prefix: str, *, with_messages: bool = True) -> Shown:
+    """Returns a score as a page shows it: its picture, and one for a phone if the first is wider."""
+    messages = checked.messages if with_messages else ()
+    picture = draw(data, messages, look=look, names=Names(prefix, links=True))
+    narrow = None
+    if look.width > NARROW:
+        narrow = draw(data, messages, look=replace(look, width=NARROW), names=Names(f"{prefix}n-", links=True, messages=prefix))
+    return Shown(checked, printable(checked.shown_name), picture, text_of(data), prefix, narrow, with_messages)
 
 
 class _Scores:
@@ -82,8 +92,7 @@ class _Scores:
             yield checked, content.data
 
     def shown(self, checked: Checked, data: bytes, prefix: str) -> Shown:
-        picture = draw(data, checked.messages, width=self._wanted.width, names=Names(prefix, links=True), face=self._wanted.face)
-        return Shown(checked, printable(checked.shown_name), picture, text_of(data), prefix)
+        return shown_of(checked, data, self._wanted.look, prefix, with_messages=self._wanted.with_messages)
 
     def summary(self) -> str:
         return summary_of(self.files, self.failed, self.kinds)
@@ -145,7 +154,7 @@ def _show_one(wanted: Wanted, scores: _Scores, names: list[str]) -> None:
         raise UnknownCode(f"--svg writes one picture, and here are {counted(len(names), 'score')}" if len(names) != 1 else "--svg writes a file, and no folder")
     _refuse_own_input(wanted.files, names)
     for checked, data in scores.all(names):
-        _write(wanted, draw(data, checked.messages, width=wanted.width, face=wanted.face).pieces)
+        _write(wanted, draw(data, checked.messages if wanted.with_messages else (), look=wanted.look).pieces)
 
 
 def _show_page(wanted: Wanted, scores: _Scores, names: list[str]) -> None:

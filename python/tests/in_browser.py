@@ -13,7 +13,7 @@ from collections.abc import Callable
 from pathlib import Path
 from typing import Any
 
-from gregorio_chant.picture import OWN, Face, draw
+from gregorio_chant.picture import OWN, Face, Look, draw
 from gregorio_chant.picture.page import leading_to
 from support import EXAMPLES, FAULTY, SCORE, InFolder, command, has, scores_of_tables
 from test_font import GRECILIAE
@@ -293,6 +293,6 @@ class ByConverter(InFolder):
         scores = [*(it.read_bytes() for it in sorted(EXAMPLES.glob("*.gabc"))), HOSTILE.encode(), kinds, *more]
         for score in scores:
             for dots in ("100", "300"):
-                self.put("a.svg", draw(score, face=face).svg)
+                self.put("a.svg", draw(score, look=Look(face=face)).svg)
                 made = subprocess.run(["rsvg-convert", "-d", dots, "-p", dots, "a.svg"], capture_output=True, check=False)
                 self.assertEqual((made.returncode, made.stderr, made.stdout[:4]), (0, b"", b"\x89PNG"))

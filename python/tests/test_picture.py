@@ -19,9 +19,9 @@ import gregorio_chant.picture
 from gregorio_chant import check
 from gregorio_chant.codes import CODES
 from gregorio_chant.dump import Glyph, Score, ScoreError, Syllable
-from gregorio_chant.picture import draw, lay_out, picture
-from gregorio_chant.picture import words
-from gregorio_chant.picture.layout import staff_lines
+from gregorio_chant.picture import OWN, Look, draw, lay_out, picture
+from gregorio_chant.picture.languages import language_of
+from gregorio_chant.picture.layout import Layout, staff_lines
 from gregorio_chant.picture.neumes import neume_of
 from gregorio_chant.picture.shapes import SHAPES
 from gregorio_chant.picture.values import Line, Rect, Sign, height_of, step_of
@@ -30,6 +30,9 @@ from support import EXAMPLES, ROOT, scores_of_tables
 LAYOUTS = ROOT / "python" / "tests" / "layouts"
 SVG = "{http://www.w3.org/2000/svg}"
 NAMES = sorted(it.stem for it in EXAMPLES.glob("*.gabc"))
+PLAIN = Look(face=OWN, hand="text")
+# The examples whose layouts are kept.
+KEPT = ("antiphon", "two-lines")
 # Every kind of neume, with notes of each.
 KINDS = {
     "pes": "fg fh fi fj wg", "clivis": "gf hf if jf", "torculus": "fgf fhf fif", "porrectus": "gfg hfh ifi jfk kfk", "scandicus": "fgh fghi fhj",
@@ -57,7 +60,7 @@ def described(lines: list[Line]) -> str:
             part = placed.part
             signs = " ".join(_signs(block.signs, placed.x + x) for x, block in part.blocks)
             texts = "".join(f" {it.text!r}@{placed.x + it.x:.1f}" for it in (*part.texts, *part.above, *([part.translation] if part.translation else [])))
-            nabc = "".join(f" nabc{it.y:.0f} {it.text!r}" for _, block in part.blocks for it in block.neumes)
+            nabc = "".join(f" nabc{it.row} {it.words.text!r}" for _, block in part.blocks for it in block.neumes if it.words is not None)
             written.append(f"  {part.syllable.number}.{part.number} at {placed.x:.1f}:{texts}{nabc} {signs}".rstrip())
         written.append("  hyphens" + "".join(f" {it.x:.1f}" for it in line.hyphens))
     return "\n".join(written) + "\n"
@@ -84,11 +87,11 @@ def score_with(notes: str) -> Score:
 
 class Layouts(unittest.TestCase):
     def test_kept(self) -> None:
-        """The layout of each example is what was kept, at two widths."""
-        for name in NAMES:
+        """The layouts of a few examples are what was kept, at two widths."""
+        for name in KEPT:
             with self.subTest(name):
                 self.assertEqual(kept(name), (LAYOUTS / f"{name}.txt").read_text(encoding="utf-8"))
-        self.assertEqual({it.stem for it in LAYOUTS.glob("*.txt")}, set(NAMES))
+        self.assertEqual({it.stem for it in LAYOUTS.glob("*.txt")}, set(KEPT))
 
     def test_nothing_overlaps(self) -> None:
         """On each line the notes of a syllable stand right of those before it, texts too, and
@@ -199,27 +202,23 @@ class Neumes(unittest.TestCase):
         self.assertGreater(len(kinds), 15)
 
     def test_every_shape(self) -> None:
-        """Each shape of the table is drawn of some notes."""
+        """Each shape of the plain face is drawn of some notes."""
         notes = " ".join(KINDS.values()).replace("wg", "fwg")
         scores = [
             f"name: x;\n%%\n(c4) a({notes} F~ Fr fr2 fr3 fr4 fr5 fr6 fr7 fr8 fx fy f# fx? kgk) (z) (c4@f3) b(f+ k+ ` ^ , ; ;1 : :? :: ,_ :' z0)\n",
             "name: x;\n%%\n(c4) a(gfg hfh ifi jfj kfk)\n",
         ]
-        used = {it.get("id") for score in scores for it in Xml.fromstring(picture(score)).iter(f"{SVG}path") if it.get("id")}
+        used = {it.get("id") for score in scores for it in Xml.fromstring(draw(score.encode(), look=PLAIN).svg).iter(f"{SVG}path") if it.get("id")}
         self.assertEqual(used, set(SHAPES))
 
     def test_around(self) -> None:
         """Two dots after a clivis stand at both of its notes, none on a line; the episema of two
-        notes is one line; ledger lines stand outside the staff."""
+        notes is one line."""
         dots = [it for it in _drawn("gf..") if it[0] == "mora"]
         self.assertEqual({y for _, y in dots}, {height_of(3), height_of(1)})
         self.assertEqual({y for shape, y in _drawn("fg..") if shape == "mora"}, {height_of(3), height_of(1)})
         self.assertEqual({y for shape, y in _drawn("f.") if shape == "mora"}, {height_of(3)})
         self.assertEqual(len(_rects("g_f_")), len(_rects("gf")) + 1)
-        self.assertEqual(len(_rects("a")), 1)
-        self.assertEqual(len(_rects("m")), 1)
-        self.assertEqual(len(_rects("p")), 2)
-        self.assertEqual(len(_rects("c")), 0)
 
 
 def _syllables(score: bytes) -> tuple[Syllable, ...]:
@@ -250,14 +249,14 @@ def _rects(notes: str) -> list[Rect]:
 
 class Pictures(unittest.TestCase):
     def test_syllables(self) -> None:
-        """Each syllable is a group with an id, its place in the score that the user has, and its
-        source."""
+        """Each syllable is a group with an id, its place in the score that the user has, and what is
+        sung."""
         score = "name: x;\r\n%%\n(c4)   KY(f)ri % a comment\n  (g&fg)e(e.)"
         groups = [it for it in Xml.fromstring(picture(score)).iter(f"{SVG}g") if it.get("id")]
         self.assertEqual([(it.get("id"), it.get("data-line"), it.get("data-column")) for it in groups], [
             ("s1", "3", "1"), ("s2", "3", "8"), ("s3", "3", "13"), ("s4", "4", "9"),
         ])
-        self.assertEqual([it.findtext(f"{SVG}title") for it in groups], ["(c4)", "KY(f)", "ri(gfg)", "e(e.)"])
+        self.assertEqual([it.findtext(f"{SVG}title") for it in groups], [None, "KY: fa", "ri: sol fa sol", "e: mi"])
 
     def test_each_finding(self) -> None:
         """A score with each code has a picture in which that code stands as text, with its place
@@ -281,7 +280,7 @@ class Pictures(unittest.TestCase):
 
     def test_codes_stand_over_their_notes(self) -> None:
         """Characters that were left out before do not move the place of a message."""
-        root = Xml.fromstring(picture("name: x;\n%%\n(c4) a(&&&&&f g h i) b(f g&&&& h&)\n"))
+        root = Xml.fromstring(draw(b"name: x;\n%%\n(c4) a(&&&&&f g h i) b(f g&&&& h&)\n", look=PLAIN).svg)
         codes = [float(it.get("x") or 0) for it in root.iter(f"{SVG}text") if it.get("class") == "code"]
         notes = [float(it.get("x") or 0) for it in root.iter(f"{SVG}use") if it.get("href") == "#punctum"]
         self.assertEqual(len(notes), 7)
@@ -308,7 +307,7 @@ class Pictures(unittest.TestCase):
     def test_tables(self) -> None:
         """Each score of the tables of runs has a picture."""
         for score in scores_of_tables():
-            Xml.fromstring(draw(score, width=300.0).svg)
+            Xml.fromstring(draw(score, look=Look(width=300.0)).svg)
 
     def test_bad_input(self) -> None:
         many = "nabc-lines: 4;\n%%\n(c4) a(f|vi|pu|ta|cl|g|vi|pu)\n"
@@ -320,12 +319,12 @@ class Pictures(unittest.TestCase):
             with self.subTest(score[:40]):
                 root = Xml.fromstring(picture(score))
                 self.assertTrue(any(it.get("id") for it in root.iter(f"{SVG}g")))
-        self.assertEqual([it.text for it in Xml.fromstring(picture(many)).iter(f"{SVG}text") if it.get("font-size") == "9"], ["vi", "pu", "ta", "cl", "vi", "pu"])
+        self.assertEqual([it.text for it in Xml.fromstring(draw(many.encode(), look=PLAIN).svg).iter(f"{SVG}text") if it.get("font-size") == "9"], ["vi", "pu", "ta", "cl", "vi", "pu"])
 
     def test_hostile(self) -> None:
         """No text of a score makes an element or leaves its own."""
         root = Xml.fromstring(picture(HOSTILE))
-        known = {"svg", "title", "style", "defs", "path", "rect", "use", "g", "text"}
+        known = {"svg", "title", "metadata", "style", "defs", "path", "rect", "use", "g", "text"}
         self.assertEqual({it.tag.removeprefix(SVG) for it in root.iter()}, known)
         whole = "".join(root.itertext())
         self.assertIn("<script>alert(1)</script> \" ' ]]> <U+202E> &amp", whole)
@@ -337,7 +336,7 @@ class Pictures(unittest.TestCase):
     def test_styles(self) -> None:
         texts = {
             it.text: it.attrib for it in Xml.fromstring(picture(
-                "name: x;\n%%\n(c4) <b>bb</b>(f) <i>ii</i>(f) <e>ee</e>(f) <sc>ss</sc>(f) <tt>tt</tt>(f) <ul>uu</ul>(f) <c>cc</c>(f) <sp>V/</sp>vv(f) <sp>'ae</sp>x(f)\n"
+                "name: x;\n%%\n(c4) xx(f) <b>bb</b>(f) <i>ii</i>(f) <e>ee</e>(f) <sc>ss</sc>(f) <tt>tt</tt>(f) <ul>uu</ul>(f) <c>cc</c>(f) <sp>V/</sp>vv(f) <sp>'ae</sp>x(f)\n"
             )).iter(f"{SVG}text")
         }
         for text, name, value in (
@@ -357,8 +356,28 @@ class Pictures(unittest.TestCase):
         self.assertAlmostEqual(middle("llall"), 16 * (0.264 * 2 + 0.457 / 2), 1)
         self.assertAlmostEqual(middle("qui"), 16 * (0.503 + 0.531 + 0.271 / 2), 1)
 
+    def test_centre_by_language(self) -> None:
+        """Where the first vowel is depends on the header `language`."""
+        def middle(text: str, language: str) -> float:
+            score = Score.parse(f"name: x;\n%%\n(c4) {text}(f)\n")
+            (line,) = Layout(score.syllables, 700.0, language=language_of(language)).lines()
+            return -line.parts[1].part.text_left
+        self.assertGreater(middle("praise", "English"), middle("praise", ""))
+        self.assertGreater(middle("ia", "latin"), middle("ia", "hu"))
+        self.assertEqual(middle("qui", "french"), middle("qui", "la"))
+
+    def test_for_who_cannot_see(self) -> None:
+        """A line is a group that is named by its words, in its language; hyphens are left out."""
+        root = Xml.fromstring(picture("name: x;\n%%\n(c4) KY(f)ri(gfg)e(e.) * e(f)lé(g)ison(h) (::)\n"))
+        self.assertEqual([(it.get("aria-label"), it.get("lang")) for it in root.iter(f"{SVG}g") if it.get("aria-label")], [("KYrie * eléison", "la")])
+        (hidden,) = [it for it in root.iter(f"{SVG}g") if it.get("aria-hidden")]
+        self.assertEqual(set(hidden.itertext()), {"-"})
+        flat = Xml.fromstring(picture("name: x;\nlanguage: de;\n%%\n(c4) a(f) O(ixi)\n"))
+        self.assertEqual([it.findtext(f"{SVG}title") for it in flat.iter(f"{SVG}g") if it.get("id")], [None, "a: fa", "O: si\u266d"])
+        self.assertIn('lang="de"', picture("name: x;\nlanguage: de;\n%%\n(c4) a(f)\n"))
+
     def test_examples(self) -> None:
-        for module in (gregorio_chant.picture, words, sys.modules["gregorio_chant.picture.shown"]):
+        for module in (gregorio_chant.picture, sys.modules["gregorio_chant.picture.languages"], sys.modules["gregorio_chant.picture.shown"]):
             tried = doctest.testmod(module)
             self.assertGreater(tried.attempted, 0)
             self.assertEqual(tried.failed, 0)
@@ -420,7 +439,7 @@ def _least_time(work: Callable[[], object], times: int = 5) -> float:
 
 if __name__ == "__main__":
     if sys.argv[1:] == ["--write"]:
-        for example in NAMES:
+        for example in KEPT:
             Path(LAYOUTS / f"{example}.txt").write_text(kept(example), encoding="utf-8")
     else:
         unittest.main()

@@ -3,6 +3,8 @@ what cannot be read or written."""
 from __future__ import annotations
 
 import re
+import shutil
+import subprocess
 import time
 import unittest
 from html.parser import HTMLParser
@@ -11,9 +13,10 @@ from subprocess import CompletedProcess
 from urllib.parse import unquote_to_bytes
 from xml.etree import ElementTree as Xml
 
-from gregorio_chant.picture import Names, draw
+from gregorio_chant.picture import Look, Names, draw
 from gregorio_chant.picture.page import Shown, page_of
 from gregorio_chant.reports import Checked
+from pages import block
 from support import EXAMPLES, FAULTY, SCORE, InFolder, command
 from test_picture import HOSTILE
 
@@ -76,7 +79,7 @@ class OnePage(InFolder):
         """A page has a picture, the messages and the source, whose lines have numbers."""
         self.put("a.gabc", FAULTY)
         page = self.show("a.gabc", status=1)
-        self.assertEqual((page.tags.count("svg"), page.tags.count("li"), page.tags.count("details")), (1, 1, 1))
+        self.assertEqual((page.tags.count("section"), page.tags.count("li"), page.tags.count("details")), (1, 1, 1))
         self.assertIn("character left out of the notes", page.text)
         self.assertIn(FAULTY.split("\n")[2], page.text)
         self.assertEqual([it for it in page.ids if re.fullmatch("p1-l[0-9]+", it)], ["p1-l1", "p1-l2", "p1-l3"])
@@ -133,15 +136,15 @@ class OnePage(InFolder):
         self.put("scores/a.gabc", FAULTY)
         self.put("scores/b.gabc", SCORE)
         self.put("c.gabc", SCORE)
-        self.assertEqual(self.show("scores", "c.gabc", status=1).tags.count("svg"), 2)
-        self.assertEqual(self.show("scores", "scores/b.gabc", status=1).tags.count("svg"), 3)
-        self.assertEqual(self.show("--exclude", "a.gabc", "scores").tags.count("svg"), 0)
+        self.assertEqual(self.show("scores", "c.gabc", status=1).tags.count("section"), 2)
+        self.assertEqual(self.show("scores", "scores/b.gabc", status=1).tags.count("section"), 3)
+        self.assertEqual(self.show("--exclude", "a.gabc", "scores").tags.count("section"), 0)
 
     def test_at_most_two_hundred(self) -> None:
         for number in range(203):
             self.put(f"scores/{number}.gabc", FAULTY)
         page = self.show("scores", status=1)
-        self.assertEqual(page.tags.count("svg"), 200)
+        self.assertEqual(page.tags.count("section"), 200)
         self.assertIn("3 scores more with messages: -o FOLDER/ writes a page for each.", page.text)
 
     def test_rules(self) -> None:
@@ -188,7 +191,7 @@ class Output(InFolder):
         self.assertEqual(len(set(pages)), 5)
         for it in pages:
             page = Page(it.read_text())
-            self.assertEqual(page.tags.count("svg"), 1)
+            self.assertEqual(page.tags.count("section"), 1)
             (back,) = [link for link in page.links if not link.startswith("#")]
             self.assertTrue((it.parent / back).samefile("pages/index.html"))
         names = [it for it in index.words if it.endswith(".gabc")]
@@ -204,10 +207,52 @@ class Output(InFolder):
         root = Xml.fromstring(ran.stdout)
         self.assertEqual(root.get("width"), "300")
         self.assertTrue(any(it.tag.endswith("}style") for it in root))
-        self.assertEqual(ran.stdout.decode(), draw(FAULTY.encode(), width=300.0).svg)
+        self.assertEqual(ran.stdout.decode(), draw(FAULTY.encode(), look=Look(width=300.0)).svg)
         self.put("b.gabc", SCORE)
         for words in (("a.gabc", "b.gabc"), ("-o", "./", "a.gabc"), (".", "--exclude", "*")):
             self.assertEqual(command("show", "--svg", *words).returncode, 3, words)
+
+    def test_clean(self) -> None:
+        """`--no-messages` leaves out messages, their marks, and what is not drawn; the status stays."""
+        self.put("a.gabc", "name: a;\n%%\n(c4) <x>Ky(g[nv:x]5)ri(g)\n")
+        for words in (("--svg",), ()):
+            with_them, without = (command("show", *words, *more, "a.gabc") for more in ((), ("--no-messages",)))
+            self.assertEqual((with_them.returncode, without.returncode), (1, 1))
+            for it in ('class="code"', 'class="mark', "Not drawn"):
+                self.assertIn(it, with_them.stdout.decode())
+                self.assertNotIn(it, without.stdout.decode())
+        self.assertNotIn("character left out", command("show", "--no-messages", "a.gabc").stdout.decode())
+
+    def test_looks(self) -> None:
+        """Faces, hands and the initial are chosen by words."""
+        self.put("a.gabc", "name: a;\nnabc-lines: 1;\n%%\n(c4) Ky(fg|vi)\n")
+        for words, shapes in (
+            ((), {"c-clef", "PesOneNothing", "stgall-vi"}), (("--face", "plain", "--neumes", "text"), {"c-clef", "punctum-under", "punctum-over"}),
+            (("--neumes", "laon"), {"c-clef", "PesOneNothing", "laon-vi"}),
+        ):
+            root = Xml.fromstring(command("show", "--svg", *words, "a.gabc").stdout)
+            self.assertEqual({it.get("id") for it in root.iter() if it.tag.endswith("}path") and it.get("id")}, shapes)
+        sizes = [b'font-size="46"' in command("show", "--svg", *words, "a.gabc").stdout for words in ((), ("--no-initial",))]
+        self.assertEqual(sizes, [True, False])
+
+    def test_phone(self) -> None:
+        """A page has a picture for a desk and one for a phone; each message leads into both, and a
+        narrow picture stands alone."""
+        self.put("a.gabc", FAULTY)
+        page = Page(command("show", "a.gabc").stdout.decode())
+        self.assertEqual(page.tags.count("svg"), 2)
+        self.assertEqual([it for it in page.links if it.endswith("-at")], ["#p1-m1-at", "#p1-n-m1-at"])
+        self.assertEqual([it for it in page.links if it[1:] not in page.ids], [])
+        self.assertEqual(Page(command("show", "--width", "300", "a.gabc").stdout.decode()).tags.count("svg"), 1)
+
+    @unittest.skipUnless(shutil.which("rsvg-convert"), "there is no rsvg-convert")
+    def test_pdf(self) -> None:
+        """The line of the page makes a PDF."""
+        self.put("score.gabc", SCORE)
+        first, second = (it.split() for it in block("docs/PYTHON.md", "test: pdf").split("|"))
+        drawn = command(*first[1:])
+        subprocess.run(second, input=drawn.stdout, check=True)
+        self.assertEqual(Path("score.pdf").read_bytes()[:5], b"%PDF-")
 
     def test_words_refused(self) -> None:
         for words in ((), ("--width", "0", "a.gabc"), ("--width", "x", "a.gabc"), ("--font",)):
@@ -217,7 +262,7 @@ class Output(InFolder):
         self.put("a.gabc", SCORE)
         self.put("file", "")
         ran = command("show", "no.gabc", "a.gabc")
-        self.assertEqual((ran.returncode, Page(ran.stdout.decode()).tags.count("svg")), (4, 1))
+        self.assertEqual((ran.returncode, Page(ran.stdout.decode()).tags.count("section")), (4, 1))
         self.assertIn(b"cannot read no.gabc: No such file or directory", ran.stderr)
         for output in ("file/page.html", "file/pages/"):
             ran = command("show", "-o", output, "a.gabc")

@@ -6,7 +6,9 @@ import argparse
 from gregorio_chant import showing
 from gregorio_chant.commands.words import OUTSIDE, STATUSES, Parser, add_files, add_no_config, examples, paths_of, positive, settings_of
 from gregorio_chant.needs import need
-from gregorio_chant.picture import OWN, USUAL_WIDTH, Face
+from gregorio_chant.picture import OWN, USUAL_WIDTH, Face, Look
+from gregorio_chant.picture.nabc import AUTO, NAMES
+from gregorio_chant.picture.symbols import square_face
 from gregorio_chant.selection import UnknownCode
 from gregorio_chant.streams import CANNOT_READ_OR_WRITE, printable, reason_of, tell
 
@@ -18,6 +20,7 @@ _EXAMPLES = examples((
     "gregorio-chant show -o page.html score.gabc",
     "gregorio-chant show -o pages/ scores",
     "gregorio-chant show --svg score.gabc >score.svg",
+    "gregorio-chant show --svg --no-messages score.gabc | rsvg-convert -f pdf -o score.pdf",
 ))
 
 
@@ -30,7 +33,11 @@ def add(commands: argparse._SubParsersAction[Parser]) -> Parser:
     )
     it.add_argument("--svg", action="store_true", help="write the picture of one score alone, as SVG")
     it.add_argument("--width", type=positive, default=int(USUAL_WIDTH), metavar="N", help="how wide a picture is, in pixels (as ever %(default)s)")
+    it.add_argument("--face", choices=("square", "plain"), default="square", help="draw square notes as chant books have them, or in plain shapes (as ever %(default)s)")
+    it.add_argument("--neumes", choices=NAMES, default=AUTO, help="the hand in which NABC is drawn, or text; auto looks which one the score needs (as ever)")
     it.add_argument("--font", metavar="FILE", help="draw neumes with the outlines of this font, which has the glyph names of GregorioTeX, as greciliae.ttf")
+    it.add_argument("--no-initial", action="store_true", help="leave the first letter in the text, and not before the first line, whatever initial-style says")
+    it.add_argument("--no-messages", action="store_true", help="leave out the messages, and the line that says what is not drawn")
     it.add_argument("--watch", action="store_true", help="write again when a score changes, until Control-C ends it")
     it.add_argument("--rules", action="store_true", help="show what the rules find too; they stand outside the proof of the compiler")
     add_no_config(it)
@@ -40,14 +47,16 @@ def add(commands: argparse._SubParsersAction[Parser]) -> Parser:
 def run(words: argparse.Namespace) -> int:
     """Writes the page. Raises `UnknownCode`, `CannotWrite`, `Missing` and `SettingsError`."""
     try:
-        face = OWN if words.font is None else _face_of(words.font)
+        face = _face_of(words.font) if words.font is not None else OWN if words.face == "plain" else square_face()
     except OSError as error:
         tell(f"cannot read {printable(words.font)}: {reason_of(error)}")
         return CANNOT_READ_OR_WRITE
 
     def wanted() -> showing.Wanted:
+        look = Look(float(words.width), face, words.neumes, has_initial=not words.no_initial, has_notes=not words.no_messages)
         return showing.Wanted(
-            paths_of(words), words.output, words.svg, face, float(words.width), words.rules, tuple(words.exclude), settings_of(words),
+            paths_of(words), words.output, words.svg, look, with_messages=not words.no_messages, with_rules=words.rules,
+            exclude=tuple(words.exclude), settings=settings_of(words),
         )
 
     if not words.watch:

@@ -9,10 +9,11 @@ tests show what it draws.
 """
 from __future__ import annotations
 
-from gregorio_chant.picture.drawing import USUAL_WIDTH, Picture, draw, picture
+from gregorio_chant.picture.drawing import Picture, draw, picture
 from gregorio_chant.picture.faces import OWN, Face
 from gregorio_chant.picture.layout import lay_out
+from gregorio_chant.picture.look import USUAL_WIDTH, Look
 from gregorio_chant.picture.shown import shown
 from gregorio_chant.picture.svg import STYLE, Names
 
-__all__ = ["OWN", "STYLE", "USUAL_WIDTH", "Face", "Names", "Picture", "draw", "lay_out", "picture", "shown"]
+__all__ = ["OWN", "STYLE", "USUAL_WIDTH", "Face", "Look", "Names", "Picture", "draw", "lay_out", "picture", "shown"]

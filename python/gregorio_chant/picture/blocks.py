@@ -5,35 +5,28 @@ from __future__ import annotations
 from collections.abc import Iterable, Sequence
 from functools import cached_property
 from gregorio_chant.items import (
-    Alteration, Bar, Break, Clef, Custos, Descriptor, Fusion, Glyph, Item, NabcSnippet, Note, NoteSnippet, Space, Syllable,
+    Alteration, Bar, Break, Clef, Custos, Fusion, Glyph, Item, NabcSnippet, Note, NoteSnippet, Space, Syllable,
 )
 from gregorio_chant.picture import staff
+from gregorio_chant.picture.episemata import Neume, add_signs
 from gregorio_chant.picture.faces import OWN, Drawn, Face
+from gregorio_chant.picture.hands import PLAIN, Hand, neumes_of
 from gregorio_chant.picture.neumes import has_oriscus, neume_of
 from gregorio_chant.picture.rhythm import signs_around
 from gregorio_chant.picture.shapes import STEM
-from gregorio_chant.picture.shown import shown
-from gregorio_chant.picture.values import Block, Rect, Sign, Words, height_of, step_of
-from gregorio_chant.picture.widths import width_of
+from gregorio_chant.picture.spaces import SPACES
+from gregorio_chant.picture.values import Block, Rect, Sign, height_of, step_of
+from gregorio_chant.rhythm import episemata_of
 
-NABC_SIZE, NABC_ROW = 9.0, 12.0
-_BLANK = 10.0
-# The distance after each spacing of notes, and after what no spacing follows.
-_SPACES = {"/": 4.5, "//": 7.5, "!": 0.0, "/0": 1.2, "/!": 0.6}
-_AFTER_NEUME, _AFTER_ALTERATION, _AFTER_CLEF, _AFTER_BAR, _AFTER_CUSTOS = 2.2, 1.8, 7.0, 5.0, 4.0
+# The distance of each spacing of notes; any other is a large one, which `/[..]` takes as its unit.
+_SPACES = {"/": SPACES.small, "//": SPACES.medium, "!": 0.0, "/0": SPACES.half, "/!": SPACES.tiny}
+_LEAST_FACTOR, _MOST_FACTOR = -0.5, 10.0
 
 
 def _distance(space: Space) -> float:
     """Returns how wide a spacing is."""
-    if space.is_blank:
-        return _BLANK
-    if not space.spelling.startswith("/["):
-        return _SPACES.get(space.spelling, _AFTER_NEUME)
-    try:
-        factor = float(space.spelling[2:-1])
-    except ValueError:
-        return _BLANK
-    return _BLANK * min(max(factor, -0.5), 10.0) if factor == factor else _BLANK
+    factor = 1.0 if space.factor is None else min(max(space.factor, _LEAST_FACTOR), _MOST_FACTOR)
+    return _SPACES.get(space.spelling, SPACES.large * factor)
 
 
 _MOST_KEPT = 4096
@@ -47,7 +40,7 @@ def _drawn(glyph: Glyph, lines: int, face: Face, following: str | None) -> Drawn
         neume = neume_of(glyph, face, following)
         around, more = signs_around(neume, lines)
         first = neume.heads[0]
-        drawn = Drawn((*around, *neume.signs), neume.width + more, first.x + first.width / 2)
+        drawn = Drawn((*around, *neume.signs), neume.heads, neume.width + more, first.x + first.width / 2)
         if len(face.kept) >= _MOST_KEPT:
             face.kept.clear()
         face.kept[key] = drawn
@@ -63,6 +56,7 @@ class _Writer:
         self._snippet, self._lines, self._face = snippet, lines, face
         self._following, self._base = following, base
         self.blocks: list[Block] = []
+        self._neumes: list[Neume] = []
         self._has_space = False
         # The last note, where the next one is fused to it.
         self._fused: Note | None = None
@@ -83,7 +77,7 @@ class _Writer:
         elif isinstance(item, Break):
             if not self.blocks:
                 self._put(Block(item.place.offset - self._base, (), 0.0))
-            self.blocks[-1].ends_line = item.spelling
+            self.blocks[-1].ends_line = item
         elif isinstance(item, (Clef, Alteration, Bar, Custos)):
             self._add_sign(item)
 
@@ -103,8 +97,16 @@ class _Writer:
         signs = drawn.signs
         if self._fused is not None:
             signs = (_join(height_of(step_of(self._fused.pitch)), height_of(step_of(first.pitch))), *signs)
-        self._put(Block(glyph.place.offset - self._base, signs, drawn.width, _AFTER_NEUME, drawn.anchor, first.pitch))
+        self._put(Block(glyph.place.offset - self._base, signs, drawn.width, SPACES.after_neume, drawn.anchor, first.pitch))
+        self._neumes.append(Neume(self.blocks[-1], tuple(it._replace(note=note) for it, note in zip(drawn.heads, glyph.notes))))
         self._fused, self._last = None, last
+
+    def finish(self) -> list[Block]:
+        """Adds the signs that depend on several neumes, and returns the blocks."""
+        covered = episemata_of(self._snippet.items)
+        if covered or any(head.note.ictus for it in self._neumes for head in it.heads):
+            add_signs(self._neumes, covered)
+        return self.blocks
 
     @cached_property
     def _pitches(self) -> dict[int, str | None]:
@@ -124,17 +126,17 @@ class _Writer:
     def _add_sign(self, item: Clef | Alteration | Bar | Custos) -> None:
         offset = item.place.offset - self._base
         if isinstance(item, Clef):
-            signs, width = staff.clef(item.spelling, self._face.shapes)
-            self._put(Block(offset, signs, width, _AFTER_CLEF, clef=item))
+            signs, width = staff.clef(item, self._face.shapes)
+            self._put(Block(offset, signs, width, SPACES.after_clef, clef=item))
         elif isinstance(item, Alteration):
             signs, width = staff.alteration(item, self._face.shapes)
-            self._put(Block(offset, signs, width, _AFTER_ALTERATION))
+            self._put(Block(offset, signs, width, SPACES.after_alteration))
         elif isinstance(item, Bar):
             signs, width = staff.bar(item, self._lines)
-            self._put(Block(offset, signs, width, _AFTER_BAR, width / 2, is_bar=True))
+            self._put(Block(offset, signs, width, SPACES.after_bar, width / 2, is_bar=True))
         elif (pitch := item.pitch or self._pitches[item.place.offset]) is not None:
             signs, width = staff.custos(pitch, self._lines, self._face.shapes)
-            self._put(Block(offset, signs, width, _AFTER_CUSTOS, is_custos=True))
+            self._put(Block(offset, signs, width, SPACES.after_custos, is_custos=True))
 
 
 def _join(before: float, here: float) -> Rect:
@@ -146,27 +148,18 @@ def _blocks_of_notes(snippet: NoteSnippet, lines: int, following: str | None, fa
     writer = _Writer(snippet, lines, following, face, base)
     for item in snippet.items:
         writer.add(item)
-    return writer.blocks
+    return writer.finish()
 
 
-def _words_of_nabc(snippet: NabcSnippet) -> Words:
-    """Returns a snippet of NABC as its text, with the names of its descriptors as a title; its y
-    is the number of its line."""
-    names = " ".join("!".join(it.names) for it in snippet.items if isinstance(it, Descriptor))
-    text = shown(snippet.spelling)
-    width = width_of(text, NABC_SIZE)
-    return Words(text, 0.0, float(snippet.line), round(width, 2), NABC_SIZE, frozenset(("nabc",)), names)
-
-
-def _with_nabc(blocks: list[Block], snippets: list[NabcSnippet], offset: int) -> list[Block]:
+def _with_nabc(blocks: list[Block], snippets: list[NabcSnippet], offset: int, hand: Hand) -> list[Block]:
     """Returns the blocks of a snippet of notes with the NABC above it, and as wide as that."""
-    words = tuple(_words_of_nabc(it) for it in snippets if it.spelling.strip())
-    if not words:
+    rows = tuple(neumes_of(it, hand) for it in snippets if it.spelling.strip())
+    if not rows:
         return blocks
     blocks = blocks or [Block(offset, (), 0.0)]
     taken = sum(it.width + it.after for it in blocks) - blocks[-1].after
-    lacking = max(it.width for it in words) + 3.0 - taken
-    blocks[0].neumes = words
+    lacking = max(it.width for it in rows) + SPACES.between_neumes - taken
+    blocks[0].neumes = rows
     blocks[-1].width += max(lacking, 0.0)
     return blocks
 
@@ -176,8 +169,9 @@ def begin_of_notes(syllable: Syllable) -> int:
     return (syllable.snippets[0] if syllable.snippets else syllable).place.offset
 
 
-def blocks_of(syllable: Syllable, lines: int, following: str | None, face: Face = OWN) -> list[Block]:
-    """Returns the blocks of a syllable; `following` is the first pitch after it."""
+def blocks_of(syllable: Syllable, lines: int, following: str | None, face: Face = OWN, hand: Hand = PLAIN) -> list[Block]:
+    """Returns the blocks of a syllable, with the NABC in this hand; `following` is the first pitch
+    after it."""
     snippets = syllable.snippets
     base = begin_of_notes(syllable)
     if len(snippets) == 1 and isinstance(snippets[0], NoteSnippet):
@@ -190,9 +184,9 @@ def blocks_of(syllable: Syllable, lines: int, following: str | None, face: Face 
         if isinstance(snippet, NabcSnippet):
             nabc.append(snippet)
             continue
-        blocks += _with_nabc(group, nabc, snippet.place.offset - base)
+        blocks += _with_nabc(group, nabc, snippet.place.offset - base, hand)
         nabc, group = [], _blocks_of_notes(snippet, lines, after[at], face, base)
-    return blocks + _with_nabc(group, nabc, syllable.place.offset - base)
+    return blocks + _with_nabc(group, nabc, syllable.place.offset - base, hand)
 
 
 def first_pitch(snippets: Sequence[NoteSnippet | NabcSnippet]) -> str | None:

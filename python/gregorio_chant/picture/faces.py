@@ -6,13 +6,14 @@ from typing import NamedTuple
 
 from gregorio_chant.items import Glyph, Note
 from gregorio_chant.picture.shapes import SHAPES, Shape
-from gregorio_chant.picture.values import Sign
+from gregorio_chant.picture.values import Head, Sign
 
 
 class Drawn(NamedTuple):
-    """A neume with all signs around it; `anchor` is the middle of its first head."""
+    """A neume with the signs around it, and its heads; `anchor` is the middle of the first one."""
 
     signs: tuple[Sign, ...]
+    heads: tuple[Head, ...]
     width: float
     anchor: float
 

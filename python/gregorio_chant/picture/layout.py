@@ -8,12 +8,18 @@ from dataclasses import dataclass
 from gregorio_chant.items import Attribute, Syllable
 from gregorio_chant.picture.blocks import first_pitch
 from gregorio_chant.picture.faces import OWN, Face
+from gregorio_chant.picture.hands import PLAIN, Hand
+from gregorio_chant.picture.initial import Initial
+from gregorio_chant.picture.languages import LATIN
 from gregorio_chant.picture.lines import LineMaker
 from gregorio_chant.picture.parts import PartMaker
+from gregorio_chant.picture.spaces import SPACES, Spaces
 from gregorio_chant.picture.values import Line, Part
 from gregorio_chant.reports import counted
 
 USUAL_LINES = 4
+# What the broadest clef and a custos take of a line, and the least room of a part.
+_CLEF_AND_CUSTOS, _LEAST_ROOM = 45.0, 20.0
 _STAFFS = {"2": 2, "3": 3, "4": 4, "5": 5}
 
 
@@ -46,19 +52,27 @@ class Layout:
     width: float
     staff: int = USUAL_LINES
     face: Face = OWN
+    hand: Hand = PLAIN
+    spaces: Spaces = SPACES
+    initial: Initial | None = None
+    language: str = LATIN
     attributes: int = 0
     raw: int = 0
 
     def lines(self) -> Iterator[Line]:
         """Yields the lines in order."""
-        maker = LineMaker(self.width, self.staff, self.face.shapes)
-        made, following = itertools.tee(maker.lines_of(self._parts()))
+        maker = LineMaker(self.width, self.staff, self.face.shapes, self.spaces, self.initial)
+        parts = self._parts()
+        made, following = itertools.tee(maker.lines_of(parts if self.initial is None else self.initial.take(parts)))
         next(following, None)
         for (line, end), after in itertools.zip_longest(made, following):
-            yield maker.finish(line, end, None if after is None else _first_pitch(after[0]))
+            maker.finish(line, end, None if after is None else _first_pitch(after[0]))
+            if self.initial is not None:
+                self.initial.stand_in(line, is_last=after is None)
+            yield line
 
     def _parts(self) -> Iterator[Part]:
-        maker = PartMaker(self.staff, self._room, self.face)
+        maker = PartMaker(self.staff, self._room, self.face, self.hand, self.language)
         for syllable, pitch in _with_pitches(self.syllables):
             parts, text = maker.parts_of(syllable, pitch)
             if "[" in syllable.spelling:
@@ -69,7 +83,7 @@ class Layout:
     @property
     def _room(self) -> float:
         """What one part may take of a line: all but a clef and a custos."""
-        return max(self.width - 45.0, 20.0)
+        return max(self.width - _CLEF_AND_CUSTOS, _LEAST_ROOM)
 
     @property
     def not_drawn(self) -> str:
@@ -84,6 +98,7 @@ def _first_pitch(line: Line) -> str | None:
     return next((it.part.first for it in line.parts if it.part.first is not None), None)
 
 
-def lay_out(syllables: Iterable[Syllable], width: float, staff: int = USUAL_LINES, face: Face = OWN) -> list[Line]:
-    """Returns all lines of a score."""
-    return list(Layout(syllables, width, staff, face).lines())
+def lay_out(syllables: Iterable[Syllable], width: float, staff: int = USUAL_LINES, face: Face = OWN, hand: Hand = PLAIN) -> list[Line]:
+    """Returns all lines of a score, without an initial; in plain shapes and with NABC as text unless
+    another face and hand are given."""
+    return list(Layout(syllables, width, staff, face, hand).lines())

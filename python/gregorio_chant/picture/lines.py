@@ -1,135 +1,175 @@
-"""Parts on lines: where each stands, its hyphens, the clef at the line's begin and the custos at
-its end, and how high the line is."""
+"""Parts as lines: the clef at a line's begin and the custos at its end, and how high the line is."""
 from __future__ import annotations
 
-from collections.abc import Iterable, Iterator, Mapping
+from collections.abc import Generator, Iterable, Iterator, Mapping, Sequence
+from dataclasses import dataclass
 
-from gregorio_chant.items import Clef
+from gregorio_chant.items import Break, Clef
 from gregorio_chant.picture import staff
-from gregorio_chant.picture.blocks import NABC_ROW, moved
+from gregorio_chant.picture.blocks import moved
+from gregorio_chant.picture.breaking import Room, Unit, breaks_of, units_of
+from gregorio_chant.picture.initial import Initial
 from gregorio_chant.picture.parts import ABOVE_SIZE, TRANSLATION_SIZE
+from gregorio_chant.picture.setting import Cursor, hyphens, right_of, spread
 from gregorio_chant.picture.shapes import Shape
-from gregorio_chant.picture.values import Line, Part, Placed, Rect, Words, height_of
-from gregorio_chant.picture.widths import width_of
-from gregorio_chant.picture.words import SIZE
+from gregorio_chant.picture.spaces import SPACES, Spaces
+from gregorio_chant.picture.values import Line, Part, Placed, Rect, height_of
 
-# Distances between the notes and between the texts of two syllables.
-_NOTES_IN_WORD, _NOTES_OF_WORDS, _WORDS, _TRANSLATIONS = 6.0, 9.0, 5.5, 6.0
-_HYPHEN = round(width_of("-", SIZE), 2)
-_HYPHEN_ROOM = _HYPHEN + 2.0
-_NO_GAP = 0.8
-# What the custos at a line's end takes, and the most of a line that is spread between words.
-_CUSTOS_ROOM, _MOST_SPREAD = 9.0, 0.3
-# How the last line ends.
-LAST = "last"
+# A line of which more is empty is not spread.
+_MOST_SPREAD = 0.4
+# Breaks are chosen by widths that are right within this.
+_MEASURED_WITHIN = 3.0
+# So many units are looked at together; of more the last lines wait for those that follow.
+_MOST_UNITS, _WAITING_LINES = 800, 3
 
 
-class _Setter:
-    """Sets parts on one line, from left to right."""
+@dataclass(frozen=True, slots=True)
+class End:
+    """How a line ends: by the end that the score asks for, if it does, and whether it is the last
+    one."""
 
-    def __init__(self, start: float, width: float) -> None:
-        self.placed: list[Placed] = []
-        self._width = width
-        self._notes = start
-        self._text = start
-        self._translation = start - _TRANSLATIONS
+    asked: Break | None = None
+    is_last: bool = False
 
-    def place(self, part: Part) -> float:
-        """Returns where the anchor of the part would stand."""
-        begins = not self.placed or (part.syllable.begins_word and part.number == 0)
-        gap = 0.0 if not self.placed else _NOTES_OF_WORDS if begins else _NOTES_IN_WORD
-        x = self._notes + gap - part.left if part.blocks else self._text
-        if part.has_text:
-            x = max(x, self._text + (_WORDS if begins and self.placed else 0.0) - part.text_left)
-            if not begins:
-                between = x + part.text_left - self._text
-                x += max(0.0, _HYPHEN_ROOM - between) if between > _NO_GAP else 0.0
-        if part.translation is not None:
-            x = max(x, self._translation + _TRANSLATIONS - part.translation.x)
-        return x
+    @property
+    def is_spread(self) -> bool:
+        return not self.is_last if self.asked is None else self.asked.is_justified
 
-    def add(self, part: Part) -> None:
-        x = self.place(part)
-        self.placed.append(Placed(x, part))
-        self._notes = max(self._notes, x + part.right)
-        if part.has_text:
-            self._text = x + part.text_right
-        if part.translation is not None:
-            self._translation = x + part.translation.x + part.translation.width
-
-    def take(self, unit: list[Part]) -> bool:
-        """Sets the parts, if all of them fit; returns whether they did."""
-        before = len(self.placed), self._notes, self._text, self._translation
-        for part in unit:
-            self.add(part)
-        if max(self._notes, self._text) <= self._width:
-            return True
-        del self.placed[before[0] :]
-        _, self._notes, self._text, self._translation = before
-        return False
+    @property
+    def has_custos(self) -> bool:
+        return self.asked is None or self.asked.has_custos
 
 
-def _units(parts: Iterable[Part]) -> Iterator[list[Part]]:
-    """Yields the parts that no line end should part: a syllable and the bars after it, what is
-    in `<eu>` and in `<nlba>`."""
-    unit: list[Part] = []
-    for part in parts:
-        stays = bool(unit) and not unit[-1].ends_line and part.number == 0 and (
-            (part.is_bar and not part.has_text)
-            or (part.syllable.is_nlba and unit[-1].syllable.is_nlba)
-            or (part.syllable.is_eu and unit[-1].syllable.is_eu)
-        )
-        if unit and not stays:
-            yield unit
-            unit = []
-        unit.append(part)
-    if unit:
-        yield unit
+class LineMaker:
+    """Makes lines of parts, for a picture of `width` and a staff of `lines` lines, in these shapes;
+    `initial` stands before the first ones."""
+
+    def __init__(self, width: float, lines: int, shapes: Mapping[str, Shape], spaces: Spaces = SPACES, initial: Initial | None = None) -> None:
+        self._width, self._lines, self._shapes, self._spaces, self._initial = width, lines, shapes, spaces, initial
+        self._clef: Clef | None = None
+        self._measured: tuple[Clef | None, float] = (None, 0.0)
+        self._made = 0
+
+    def _indent(self, number: int) -> float:
+        """Returns where the staff of a line begins, by its number from 0."""
+        return self._initial.room if self._initial is not None and number < self._initial.lines else 0.0
+
+    def _start(self, part: Part, clef: Clef | None, number: int) -> float:
+        """Returns where the notes of a line begin: after the clef in force, if it does not begin with
+        its own."""
+        begins_with_clef = bool(part.blocks) and part.blocks[0][1].clef is not None
+        return self._indent(number) + (0.0 if clef is None or begins_with_clef else self._clef_width(clef))
+
+    def _clef_width(self, clef: Clef) -> float:
+        """Returns what a clef takes at a line's beginning. The last one is kept."""
+        if clef is not self._measured[0]:
+            self._measured = clef, staff.clef(clef, self._shapes).width + self._spaces.after_line_clef
+        return self._measured[1]
+
+    def lines_of(self, parts: Iterable[Part]) -> Iterator[tuple[Line, End]]:
+        """Yields lines, each with how it ends."""
+        group: list[Unit] = []
+        for unit in units_of(parts):
+            group.append(unit)
+            asked = unit[-1].ends_line
+            if asked is not None:
+                yield from self._broken(group, End(asked))
+                group = []
+            elif len(group) == _MOST_UNITS:
+                group = yield from self._broken_begin(group)
+        if group:
+            yield from self._broken(group, End(is_last=True))
+
+    def _breaks(self, units: Sequence[Unit], end: End) -> list[int]:
+        clefs, clef = [], self._clef
+        for unit in units:
+            clefs.append(clef)
+            clef = _clef_of(unit) or clef
+        width = self._width - self._spaces.custos
+        left = 0 if self._initial is None else max(self._initial.lines - self._made, 0)
+        rooms = [
+            [Room(self._start(unit[0], clef, self._made + number), width) for unit, clef in zip(units, clefs)] for number in range(left + 1)
+        ]
+        return breaks_of(units, rooms, end.asked, self._spaces)
+
+    def _broken(self, units: list[Unit], end: End) -> Iterator[tuple[Line, End]]:
+        """Yields all units as lines, of which the last one ends so."""
+        begin = 0
+        for to in self._breaks(units, end):
+            yield from self._set(units[begin:to], end if to == len(units) else End())
+            begin = to
+
+    def _broken_begin(self, units: list[Unit]) -> Generator[tuple[Line, End], None, list[Unit]]:
+        """Yields units as lines but for the last ones, and returns what is left."""
+        begin = 0
+        for to in self._breaks(units, End())[:-_WAITING_LINES]:
+            yield from self._set(units[begin:to], End())
+            begin = to
+        if begin == 0:
+            yield from self._broken(units, End())
+            return []
+        return units[begin:]
+
+    def _set(self, units: Sequence[Unit], end: End) -> Iterator[tuple[Line, End]]:
+        """Yields units as one line; as several if a unit has parts that do not fit beside each
+        other."""
+        parts = [part for unit in units for part in unit]
+        placed: list[Placed] = []
+        cursor = Cursor(self._start(parts[0], self._clef, self._made), self._spaces)
+        for part in parts:
+            x = cursor.put(part)
+            if placed and cursor.right > self._width - self._spaces.custos + _MEASURED_WITHIN:
+                yield self._line(placed), End()
+                placed = []
+                cursor = Cursor(self._start(part, self._clef, self._made), self._spaces)
+                x = cursor.put(part)
+            placed.append(Placed(x, part))
+        yield self._line(placed), end
+
+    def _line(self, placed: list[Placed]) -> Line:
+        """Returns a line, with the clef in force before it."""
+        indent = self._indent(self._made)
+        line = Line(placed, width=self._width, indent=indent)
+        if self._clef is not None and self._start(placed[0].part, self._clef, self._made) > indent:
+            line.signs += moved(staff.clef(self._clef, self._shapes).signs, indent)
+        self._clef = next((it.part.clef for it in reversed(placed) if it.part.clef is not None), self._clef)
+        self._made += 1
+        return line
+
+    def finish(self, line: Line, end: End, following: str | None) -> None:
+        """Spreads the line, and adds its custos, for the pitch that follows, and what depends on
+        places: heights and the custos."""
+        spaces = self._spaces
+        free = self._width - spaces.custos - right_of(line.parts)
+        if end.is_spread and free <= _MOST_SPREAD * self._width:
+            spread(line.parts, free, self._width)
+        if following is not None and end.has_custos and not _ends_with_custos(line):
+            signs, width = staff.custos(following, self._lines, self._shapes)
+            line.signs += moved(signs, self._width - width - spaces.custos_to_end)
+        line.hyphens = list(hyphens(line.parts))
+        self._set_heights(line)
+
+    def _set_heights(self, line: Line) -> None:
+        """Sets how high a line is, and where its texts and its rows of NABC stand."""
+        spaces = self._spaces
+        top, bottom = _bounds(line, self._shapes)
+        line.top = min(top, height_of(2 * self._lines - 2)) - spaces.over_signs
+        line.rows, line.top = _rows(line, spaces)
+        if any(it.part.above for it in line.parts):
+            line.above = line.top - spaces.over_rows
+            line.top = line.above - ABOVE_SIZE
+        line.text = max(spaces.to_text, bottom + spaces.below_signs)
+        line.translation = line.text + spaces.to_translation
+        has_text = any(it.part.has_text for it in line.parts)
+        if any(it.part.translation for it in line.parts):
+            line.bottom = line.translation + spaces.below_translation
+        else:
+            line.bottom = (line.text if has_text else bottom) + spaces.below_text
 
 
-def _gaps(placed: list[Placed]) -> list[int]:
-    """Returns before which parts a line may be spread: where words or bars begin, and where a
-    hyphen stands."""
-    gaps: list[int] = []
-    text: float | None = None
-    for at, it in enumerate(placed):
-        part = it.part
-        begins = part.syllable.begins_word or not part.has_text or text is None
-        if at and (begins or it.x + part.text_left - (text or 0.0) > _NO_GAP):
-            gaps.append(at)
-        if part.has_text:
-            text = it.x + part.text_right
-    return gaps
-
-
-def _spread(placed: list[Placed], free: float, width: float) -> None:
-    """Spreads a line, if it is not far too short."""
-    gaps = _gaps(placed)
-    if not gaps or free > _MOST_SPREAD * width or free <= 0:
-        return
-    each, moved_by, at_gap = free / len(gaps), 0.0, set(gaps)
-    for at, it in enumerate(placed):
-        moved_by += each if at in at_gap else 0.0
-        it.x += moved_by
-
-
-def _hyphens(placed: list[Placed]) -> Iterator[Words]:
-    """Yields a hyphen between the texts of one word, where these do not touch, and after a word
-    that goes on in the next line."""
-    end: float | None = None
-    goes_on = False
-    for it in placed:
-        part = it.part
-        if not part.has_text:
-            continue
-        if end is not None and goes_on and not part.syllable.begins_word:
-            between = it.x + part.text_left - end
-            if between > _NO_GAP:
-                yield Words("-", round(end + (between - _HYPHEN) / 2, 2), 0.0, _HYPHEN, SIZE)
-        end = it.x + part.text_right
-        goes_on = part.syllable.position in ("beginning", "middle")
-    if end is not None and goes_on:
-        yield Words("-", round(end, 2), 0.0, _HYPHEN, SIZE)
+def _clef_of(unit: Unit) -> Clef | None:
+    """Returns the clef that is in force after a unit, if it has one."""
+    return next((it.clef for it in reversed(unit) if it.clef is not None), None)
 
 
 def _bounds(line: Line, shapes: Mapping[str, Shape]) -> tuple[float, float]:
@@ -142,95 +182,20 @@ def _bounds(line: Line, shapes: Mapping[str, Shape]) -> tuple[float, float]:
     return top, bottom
 
 
-def _rows_above(line: Line) -> tuple[int, bool]:
-    """Returns how many rows of NABC stand above a line, and whether texts do."""
-    rows = [int(words.y) for placed in line.parts for _, block in placed.part.blocks for words in block.neumes]
-    return max(rows, default=0), any(it.part.above for it in line.parts)
-
-
-class LineMaker:
-    """Makes lines of parts, for a picture of `width` and a staff of `lines` lines, in these
-    shapes."""
-
-    def __init__(self, width: float, lines: int, shapes: Mapping[str, Shape]) -> None:
-        self._width, self._lines, self._shapes = width, lines, shapes
-        self._clef: Clef | None = None
-        self._setter = self._begin(None)
-
-    def _begin(self, part: Part | None) -> _Setter:
-        """Returns a setter after the clef in force; none stands where the part begins with its
-        own."""
-        begins_with_clef = part is not None and bool(part.blocks) and part.blocks[0][1].clef is not None
-        width = 0.0 if self._clef is None or begins_with_clef else staff.clef(self._clef.spelling, self._shapes).width + 8.0
-        setter = _Setter(width, self._width - _CUSTOS_ROOM)
-        self._starts_at = width
-        return setter
-
-    def lines_of(self, parts: Iterable[Part]) -> Iterator[tuple[Line, str]]:
-        """Yields lines, each with the end that was asked for it: `z`, `Z`, one of these with a
-        sign, nothing, or `LAST`."""
-        for unit in _units(parts):
-            if not self._setter.placed:
-                self._setter = self._begin(unit[0])
-            if not self._setter.take(unit):
-                yield from self._broken(unit)
-            last = self._setter.placed[-1].part if self._setter.placed else None
-            if last is not None and last.ends_line:
-                yield self._end(), last.ends_line
-        if self._setter.placed:
-            yield self._end(), LAST
-
-    def _broken(self, unit: list[Part]) -> Iterator[tuple[Line, str]]:
-        """Begins a line for what does not fit, and yields the lines that are full; what fits on
-        no line is parted."""
-        if self._setter.placed:
-            yield self._end(), ""
-            self._setter = self._begin(unit[0])
-        if self._setter.take(unit):
-            return
-        for part in unit:
-            if self._setter.placed and not self._setter.take([part]):
-                yield self._end(), ""
-                self._setter = self._begin(part)
-            elif self._setter.placed:
-                continue
-            if not self._setter.placed:
-                self._setter.add(part)
-
-    def _end(self) -> Line:
-        """Ends the line, and begins the next one."""
-        line = Line(self._setter.placed, width=self._width)
-        if self._clef is not None and self._starts_at:
-            line.signs += staff.clef(self._clef.spelling, self._shapes).signs
-        self._clef = next((it.part.clef for it in reversed(line.parts) if it.part.clef is not None), self._clef)
-        self._setter = self._begin(None)
-        return line
-
-    def finish(self, line: Line, end: str, following: str | None) -> Line:
-        """Spreads the line, and adds its custos, for the pitch that follows, and what depends on
-        places."""
-        if not end.startswith("Z") and end != LAST:
-            _spread(line.parts, self._width - _CUSTOS_ROOM - _right_of(line), self._width)
-        if following is not None and not end.endswith("-") and not _ends_with_custos(line):
-            signs, width = staff.custos(following, self._lines, self._shapes)
-            line.signs += moved(signs, self._width - width - 0.5)
-        line.hyphens = list(_hyphens(line.parts))
-        line.top, line.bottom = _bounds(line, self._shapes)
-        line.top = min(line.top, height_of(2 * self._lines - 2))
-        line.rows, line.has_above = _rows_above(line)
-        line.top -= 3.0 + line.rows * NABC_ROW + (ABOVE_SIZE if line.has_above else 0.0)
-        line.text = max(18.0, line.bottom + 14.0)
-        has_text = any(it.part.has_text for it in line.parts)
-        has_translation = any(it.part.translation for it in line.parts)
-        line.bottom = (line.text if has_text or has_translation else line.bottom) + 5.0 + (TRANSLATION_SIZE + 3.0 if has_translation else 0.0)
-        return line
+def _rows(line: Line, spaces: Spaces) -> tuple[tuple[float, ...], float]:
+    """Returns the heights of the rows of NABC over the signs of a line, from the lowest one up, and
+    how high the last one reaches."""
+    neumes = [it for placed in line.parts for _, block in placed.part.blocks for it in block.neumes]
+    top = line.top
+    rows: list[float] = []
+    for number in range(1, max((it.row for it in neumes), default=0) + 1):
+        here = [it for it in neumes if it.row == number]
+        rows.append(top - spaces.between_rows - max((it.down for it in here), default=0.0))
+        top = rows[-1] - max((it.up for it in here), default=0.0)
+    return tuple(rows), top
 
 
 def _ends_with_custos(line: Line) -> bool:
     """Returns whether the last signs of a line are a custos of the score's own."""
     blocks = (block for it in reversed(line.parts) for _, block in reversed(it.part.blocks))
     return next((it.is_custos for it in blocks if it.signs), False)
-
-
-def _right_of(line: Line) -> float:
-    return max((it.x + max(it.part.right, it.part.text_right if it.part.has_text else it.part.right) for it in line.parts), default=0.0)

@@ -2,13 +2,12 @@
 from __future__ import annotations
 
 import itertools
-import re
 from typing import NamedTuple
 
 from gregorio_chant.items import Glyph, Note
 from gregorio_chant.picture.faces import OWN, Face
 from gregorio_chant.picture.shapes import STEM
-from gregorio_chant.picture.values import STEP, Rect, Sign, Use, height_of, step_of
+from gregorio_chant.picture.values import STEP, Head, Rect, Sign, Use, height_of, step_of
 
 # How the notes of a kind follow each other: a letter for each note. n stands right of the note
 # before and is joined to it, o over it; l has a stem at its
@@ -24,24 +23,12 @@ _SHAPES = {
     "bivirga": "punctum", "trivirga": "punctum", "cavum": "cavum", "lined": "punctum", "linea": "linea", "inclinatum": "inclinatum",
 }
 _ORISCI = frozenset(("oriscus", "oriscus-scapus"))
-_ORIENTATION = re.compile(r"[oO]([01])")
+_TAILS = {"augmented": "tail-up", "diminished": "tail-down"}
 # What the heads of two notes a step apart, one over the other, become.
 _OVER, _UNDER = {"punctum": "punctum-over"}, {"punctum": "punctum-under"}
-_TIMES = {"distropha": 2, "bivirga": 2, "tristropha": 3, "trivirga": 3}
-_LINED_CAVUM = re.compile(r"r0")
 _BETWEEN = 1.6
-
-
-class Head(NamedTuple):
-    """Where the head of a note stands. `covered` says whether the next note stands over it,
-    `covers` whether it stands over the one before."""
-
-    note: Note
-    x: float
-    y: float
-    width: float
-    covers: bool = False
-    covered: bool = False
+# How much lower than a head a broad stroke of no height would go at its first note.
+_STROKE_FOOT = 1.2
 
 
 class Neume(NamedTuple):
@@ -76,7 +63,7 @@ def _fitting(plan: str, notes: tuple[Note, ...]) -> str:
     for at, (letter, note) in enumerate(zip(plan, notes)):
         if letter in "st":
             following = notes[at + 1]
-            plain = note.shape == following.shape == "punctum" and not note.spelling.startswith("-")
+            plain = note.shape == following.shape == "punctum" and not note.is_initio_debilis
             if not plain or not 1 <= step_of(note.pitch) - step_of(following.pitch) <= 5:
                 letters[at : at + 2] = ["l" if letter == "s" else "n", "n"]
         elif letter == "o" and notes[at - 1].shape.endswith("quadratum"):
@@ -92,9 +79,9 @@ def _rises(notes: tuple[Note, ...], at: int, following: str | None) -> bool:
     """Returns whether a note, if it is an oriscus, points up: as it is told, else as the first
     other pitch after it has it; `following` is that after the neume (GregorioRef, *Oriscus
     Orientation*)."""
-    told = _ORIENTATION.search(notes[at].spelling)
+    told = notes[at].points_up
     if told is not None:
-        return told[1] == "1"
+        return told
     pitch = notes[at].pitch
     other = next((it.pitch for it in notes[at + 1 :] if it.pitch != pitch), following)
     return other is not None and step_of(other) > step_of(pitch)
@@ -138,9 +125,8 @@ class _Pen:
         self.signs.append(Use(name, 0.0, height_of(step_of(notes[0].pitch))))
         columns = _columns(self._plan[:count], width, self._head_width)
         over = [it == "o" for it in (*self._plan[:count], "")]
-        self.heads += [
-            Head(note, x, height_of(step_of(note.pitch)), self._head_width, over[at], over[at + 1]) for at, (note, x) in enumerate(zip(notes, columns))
-        ]
+        for at, (note, x) in enumerate(zip(notes, columns)):
+            self.heads.append(Head(note, x, height_of(step_of(note.pitch)), self._head_width, over[at], over[at + 1], self._foot(at)))
         self.x = width
         return count
 
@@ -157,6 +143,12 @@ class _Pen:
         else:
             self._head(letter, note, y, following)
 
+    def _foot(self, at: int) -> float:
+        """Returns how much lower than that of a head the black of a note goes, by its number."""
+        if self._plan[at] not in "st":
+            return 0.0
+        return _STROKE_FOOT + step_of(self._glyph.notes[at].pitch) - step_of(self._glyph.notes[at + 1].pitch)
+
     def _join(self, x: float, y: float) -> None:
         """Joins a head at `y` with the one before, at `x`."""
         before = self.heads[-1].y
@@ -172,7 +164,7 @@ class _Pen:
             self._join(self.x + STEM, y)
         shape = f"porrectus-{interval}"
         self.signs.append(Use(shape, self.x, y))
-        self.heads.append(Head(note, self.x, y, self._head_width))
+        self.heads.append(Head(note, self.x, y, self._head_width, foot=_STROKE_FOOT + interval))
         self.x += self._face.shapes[shape].width
 
     def _over(self, note: Note, y: float) -> None:
@@ -232,7 +224,7 @@ class _Pen:
     def _whole(self, name: str, note: Note, y: float) -> None:
         """Writes a note that one shape is, as often as it sounds."""
         first = self.x
-        for time in range(_TIMES.get(note.shape, 1)):
+        for time in range(note.times):
             self.x += _BETWEEN if time else 0.0
             self.signs.append(Use(name, self.x, y))
             self.x += self._face.shapes[name].width
@@ -240,12 +232,11 @@ class _Pen:
 
     def _alone(self, shape: str, width: float, note: Note, y: float) -> None:
         """Writes a head, as often as its shape has it, with what belongs to it."""
-        times = _TIMES.get(note.shape, 1)
+        times = note.times
         first = self.x
         for time in range(times):
             self.x += _BETWEEN if time else 0.0
-            lined = note.shape == "lined" or _LINED_CAVUM.search(note.spelling) is not None
-            if lined:
+            if note.is_lined:
                 self.signs.append(Rect(self.x, y - 4.6, STEM, 9.2))
                 self.x += 1.6
             self.signs.append(Use(shape, self.x, y))
@@ -254,7 +245,7 @@ class _Pen:
             if note.shape in ("virga-reversa", "oriscus-scapus"):
                 self._stem(self.x, y, 2.6)
             self.x += width
-            if lined:
+            if note.is_lined:
                 self.x += 1.6
                 self.signs.append(Rect(self.x - STEM, y - 4.6, STEM, 9.2))
         self._tails(note, self.x, y)
@@ -262,10 +253,9 @@ class _Pen:
 
     def _tails(self, note: Note, right: float, y: float) -> None:
         """Writes the tail of a liquescent note."""
-        for sign, shape in (("<", "tail-up"), (">", "tail-down")):
-            if sign in note.spelling and note.shape != "inclinatum":
-                self.signs.append(Use(shape, right, y))
-
+        tail = _TAILS.get(note.liquescence or "")
+        if tail is not None and note.shape != "inclinatum":
+            self.signs.append(Use(tail, right, y))
 
     def _shape_of(self, note: Note) -> tuple[str, float]:
         """Returns the shape of a note's head, and its width."""
@@ -277,18 +267,18 @@ class _Pen:
 
 def _head_of(note: Note) -> str:
     """Returns the shape of a note's head: a small one for a deminutus and an initio debilis."""
-    is_small = "~" in note.spelling or note.spelling.startswith("-")
+    is_small = note.liquescence == "deminutus" or note.is_initio_debilis
     if note.shape == "inclinatum":
-        if "r" in note.spelling:
+        if note.is_hollow:
             return "inclinatum-cavum"
-        return "inclinatum-small" if is_small or ">" in note.spelling else "inclinatum"
+        return "inclinatum-small" if is_small or note.liquescence == "diminished" else "inclinatum"
     shape = _SHAPES.get(note.shape, "punctum")
     return "small" if is_small and shape == "punctum" else shape
 
 
 def has_oriscus(glyph: Glyph) -> bool:
     """Returns whether a neume has a note that may point up or down."""
-    return ("o" in glyph.spelling or "O" in glyph.spelling) and any(it.shape in _ORISCI for it in glyph.notes)
+    return any(it.shape in _ORISCI for it in glyph.notes)
 
 
 def neume_of(glyph: Glyph, face: Face = OWN, following: str | None = None) -> Neume:

@@ -26,13 +26,16 @@ pre{overflow-x:auto;font-size:.85rem;line-height:1.4}
 pre span{display:block;padding-left:4.5em;text-indent:-4.5em;white-space:pre-wrap;overflow-wrap:anywhere}
 pre span::before{content:attr(data-n);display:inline-block;width:3.5em;margin-right:1em;text-align:right;text-indent:0;opacity:.6}
 table{border-collapse:collapse;margin-bottom:1.5rem}td,th{text-align:left;padding:.2rem .8rem .2rem 0;vertical-align:top}td{overflow-wrap:anywhere}td.n,th.n{text-align:right}
-@media(max-width:36rem){.picture{overflow-x:auto}.chant{max-width:none;width:32rem}}
+.narrow{display:none}
+@media(max-width:36rem){.wide{display:none}.narrow{display:revert}.picture{overflow-x:auto}}
 @media(prefers-color-scheme:dark){body{color:#ddd;background:#161616}a{color:#8bf}.error,.fatal{color:#f88}.warning{color:#db6}
 .chant{color:#ddd}.chant .paper{fill:#161616}.chant .staff{stroke:#c65}.chant .red,.chant .code{fill:#f88}
 .chant .mark{fill:#f66;stroke:#f66}.chant .mark.w{fill:#db6;stroke:#db6}}
-@media print{details,.back{display:none}body{max-width:none;padding:0;color:#000;background:#fff}section{break-inside:avoid-page}
+@media print{details,.back,.messages a+a,.messages .wide,.picture.narrow{display:none}.picture.wide{display:block}.messages a{color:inherit;text-decoration:none}body{max-width:none;padding:0;color:#000;background:#fff}section{break-inside:avoid-page}
 .chant{color:#000}.chant .paper{fill:#fff}}
 """
+# How wide a picture for narrow screens is, in pixels.
+NARROW = 360.0
 # The most bytes of a score that is drawn while it is written, in a browser or an editor.
 MOST_BYTES = 1_000_000
 _POLICY = "default-src 'none'; style-src 'unsafe-inline'; base-uri 'none'; form-action 'none'"
@@ -45,13 +48,16 @@ def text(it: str) -> str:
 
 @dataclass(frozen=True)
 class Shown:
-    """A score on a page: what was found in it, its picture, and what begins its ids."""
+    """A score on a page: what was found in it, its picture, and what begins its ids. `narrow` is a
+    picture for narrow screens; the browser chooses."""
 
     checked: Checked
     name: str
     picture: Picture
     source: str
     prefix: str = ""
+    narrow: Picture | None = None
+    with_messages: bool = True
 
 
 @dataclass
@@ -99,13 +105,21 @@ def list_of_messages(score: Shown) -> Iterator[str]:
         return
     yield '<ol class="messages">\n'
     for number, (message, help) in enumerate(score.checked.helped(), 1):
-        place = score.picture.places.get(number)
-        link = f' <a href="#{place}">in the picture</a>' if place else ""
+        link = "".join(_links(score, number))
         line = f'<a href="#{score.prefix}l{message.line}">{message.line}:{message.column}</a>'
         told = f'<span class="kind {message.kind.value}">{message.kind.value} {text(message.code)}</span>: {text(message.text)}'
         more = f'<span class="help">{text(help)}</span>' if help else ""
         yield f'<li id="{score.prefix}m{number}">{line} {told}{link}{more}</li>\n'
     yield "</ol>\n"
+
+
+def _links(score: Shown, number: int) -> Iterator[str]:
+    """Yields the links from a message into the pictures."""
+    kinds = (("", score.picture),) if score.narrow is None else ((' class="wide"', score.picture), (' class="narrow"', score.narrow))
+    for kind, picture in kinds:
+        place = picture.places.get(number)
+        if place:
+            yield f' <a{kind} href="#{place}">in the picture</a>'
 
 
 def _source(score: Shown) -> Iterator[str]:
@@ -122,10 +136,15 @@ def _source(score: Shown) -> Iterator[str]:
 def section(score: Shown) -> Iterator[str]:
     """Yields the part of a page that a score has."""
     yield f'<section>\n<h2><bdi>{text(score.name)}</bdi></h2>\n'
-    yield '<div class="picture">\n'
+    yield f'<div class="picture{"" if score.narrow is None else " wide"}">\n'
     yield from score.picture.pieces
     yield "</div>\n"
-    yield from list_of_messages(score)
+    if score.narrow is not None:
+        yield '<div class="picture narrow">\n'
+        yield from score.narrow.pieces
+        yield "</div>\n"
+    if score.with_messages:
+        yield from list_of_messages(score)
     yield from _source(score)
     yield "</section>\n"
 

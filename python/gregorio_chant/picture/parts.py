@@ -5,9 +5,11 @@ from __future__ import annotations
 from collections.abc import Iterator
 from typing import NamedTuple
 
-from gregorio_chant.items import Clef, Syllable
+from gregorio_chant.items import Break, Clef, Syllable
 from gregorio_chant.picture.blocks import begin_of_notes, blocks_of
 from gregorio_chant.picture.faces import OWN, Face
+from gregorio_chant.picture.hands import PLAIN, Hand
+from gregorio_chant.picture.languages import LATIN
 from gregorio_chant.picture.shown import shown
 from gregorio_chant.picture.values import Block, Part, Words
 from gregorio_chant.picture.widths import styled_width, width_of
@@ -28,7 +30,7 @@ class _Row(NamedTuple):
     has_anchor: bool
     first: str | None
     clef: Clef | None
-    ends_line: str
+    ends_line: Break | None
     is_bar: bool
 
 
@@ -37,7 +39,8 @@ def _row_of(blocks: list[tuple[float, Block]], width: float) -> _Row:
     anchor: float | None = None
     first: str | None = None
     clef: Clef | None = None
-    ends_line, has_bar = "", False
+    ends_line: Break | None = None
+    has_bar = False
     for x, it in blocks:
         if anchor is None and it.anchor is not None:
             anchor = x + it.anchor
@@ -64,7 +67,7 @@ def _cut_into_rows(blocks: list[Block], room: float) -> Iterator[_Row]:
             row, x = [], 0.0
         row.append((round(x, 2), block))
         x += block.width + block.after
-        if block.ends_line:
+        if block.ends_line is not None:
             yield _row_of(row, x - block.after)
             row, x = [], 0.0
     if row:
@@ -111,7 +114,7 @@ def _part_of(syllable: Syllable, number: int, row: _Row) -> Part:
     """Returns a part with these blocks and no text."""
     return Part(
         syllable, number, row.blocks, row.left, row.right, has_anchor=row.has_anchor, first=row.first, clef=row.clef, ends_line=row.ends_line,
-        is_bar=row.is_bar,
+        is_bar=row.is_bar, begins=number == 0 and syllable.begins_word,
     )
 
 
@@ -128,13 +131,13 @@ class PartMaker:
     """Makes syllables to parts on lines of a staff with this much room. The rows of notes that were
     made last are kept, since a score has its snippets often."""
 
-    def __init__(self, lines: int, room: float, face: Face = OWN) -> None:
-        self._lines, self._room, self._face = lines, room, face
+    def __init__(self, lines: int, room: float, face: Face = OWN, hand: Hand = PLAIN, language: str = LATIN) -> None:
+        self._lines, self._room, self._face, self._hand, self._language = lines, room, face, hand, language
         self._kept: dict[tuple[str, str | None], list[_Row]] = {}
 
     def parts_of(self, syllable: Syllable, following: str | None) -> tuple[list[Part], SyllableText]:
         """Returns the parts of a syllable before this pitch, and its text."""
-        text, words, middle = read_and_set(syllable.text)
+        text, words, middle = read_and_set(syllable.text, self._language)
         room = self._room
         parts = [_part_of(syllable, at, it) for at, it in enumerate(self._rows_of(syllable, following))]
         texts = _cut(words, room) if words and words[-1].x + words[-1].width > room else [words]
@@ -145,7 +148,8 @@ class PartMaker:
         for line in texts[1:]:
             parts.append(_part_of(syllable, len(parts), _NO_BLOCKS))
             _add_text(parts[-1], line, 0.0)
-        if syllable.translation:
+        # The translation `/` says that the one before it ends here.
+        if syllable.translation and syllable.translation != "/":
             left = first.text_left if first.has_text else first.left
             first.translation = _shortened(syllable.translation, TRANSLATION_SIZE, room).moved(left)
         if text.above:
@@ -168,7 +172,7 @@ class PartMaker:
         return rows
 
     def _made(self, syllable: Syllable, following: str | None) -> list[_Row]:
-        return list(_cut_into_rows(blocks_of(syllable, self._lines, following, self._face), self._room)) or [_NO_BLOCKS]
+        return list(_cut_into_rows(blocks_of(syllable, self._lines, following, self._face, self._hand), self._room)) or [_NO_BLOCKS]
 
 
 def _add_ends(parts: list[Part]) -> None:

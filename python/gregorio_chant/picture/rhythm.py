@@ -1,20 +1,13 @@
-"""What stands around the heads of a neume: morae, ictus, episemata, signs over the staff, ledger
-lines."""
+"""What stands around the heads of a neume: morae, signs over the staff, ledger lines. Ictus and
+episemata stand in `episemata`, since those of several neumes belong together."""
 from __future__ import annotations
 
-import re
 from collections.abc import Iterator
 
-from gregorio_chant.picture.neumes import Head, Neume
-from gregorio_chant.picture.values import STEP, Rect, Sign, Use, height_of, step_of
+from gregorio_chant.picture.neumes import Neume
+from gregorio_chant.picture.values import Head, Rect, Sign, Use, height_of, step_of
+from gregorio_chant.rhythm import morae_of
 
-_EPISEMA = re.compile(r"_([0-9]*)")
-_ICTUS = re.compile(r"'([0-9]*)")
-_OVER_STAFF = re.compile(r"r([1-8])")
-_OVER = {
-    "1": "accent", "2": "grave", "3": "circle", "4": "lower-arc", "5": "upper-arc", "6": "flat", "7": "natural", "8": "sharp",
-}
-_THIN = 0.9
 _LEDGER_OVER = 2.0
 MORA_ROOM = 5.0
 
@@ -22,9 +15,8 @@ MORA_ROOM = 5.0
 def signs_around(neume: Neume, lines: int) -> tuple[list[Sign], float]:
     """Returns the signs around a neume on a staff of `lines` lines, and the room that they take
     at its right."""
-    signs: list[Sign] = [*_episemata(neume), *_ledgers(neume, lines)]
+    signs: list[Sign] = [*_ledgers(neume, lines)]
     for head in neume.heads:
-        signs += _ictus(head)
         signs += _over_staff(head, lines)
     morae = _morae(neume)
     signs += morae
@@ -35,12 +27,11 @@ def signs_around(neume: Neume, lines: int) -> tuple[list[Sign], float]:
 def _dot_steps(neume: Neume) -> list[tuple[Head, int]]:
     """Returns the step of each mora with its head: two of the last note stand at the last two
     notes. None stands on a line, and no two at one step."""
+    heads = neume.heads
     wanted: list[tuple[Head, int]] = []
-    for at, head in enumerate(neume.heads):
-        dots = head.note.spelling.count(".")
-        if dots > 1 and at:
-            wanted.append((head, step_of(neume.heads[at - 1].note.pitch)))
-        wanted += [(head, step_of(head.note.pitch))] * (1 if dots > 1 and at else dots)
+    for head, following, count in zip(heads, (*heads[1:], None), morae_of([it.note for it in heads])):
+        bearer = following if following is not None and following.note.morae > 1 else head
+        wanted += [(bearer, step_of(head.note.pitch))] * count
     found: list[tuple[Head, int]] = []
     for head, step in sorted(wanted, key=lambda it: it[1] % 2 == 0):
         if step % 2 == 0:
@@ -61,50 +52,9 @@ def _morae(neume: Neume) -> list[Use]:
     return signs
 
 
-def _ictus(head: Head) -> list[Sign]:
-    found = _ICTUS.search(head.note.spelling)
-    if found is None:
-        return []
-    over = "1" in found[1] or ("0" not in found[1] and head.covers)
-    y = head.y - 8.6 if over else head.y + 4.2
-    return [Rect(head.x + head.width / 2 - _THIN / 2, y, _THIN, 4.4)]
-
-
-def _episema_of(head: Head) -> bool | None:
-    """Returns whether the head has its episema below; nothing where it has none."""
-    found = _EPISEMA.search(head.note.spelling)
-    if found is None:
-        return None
-    return "0" in found[1] or (head.covered and "1" not in found[1])
-
-
-def _episemata(neume: Neume) -> Iterator[Rect]:
-    """Yields a line for each run of heads with an episema on one side."""
-    run: list[Head] = []
-    side: bool | None = None
-    for head in (*neume.heads, None):
-        here = _episema_of(head) if head else None
-        if run and here != side:
-            yield _line(run, below=bool(side))
-            run = []
-        if head and here is not None:
-            run.append(head)
-        side = here
-
-
-def _line(heads: list[Head], *, below: bool) -> Rect:
-    """Returns the line over heads or below them, which does not lie on a line of the staff."""
-    far = max(it.y for it in heads) if below else min(it.y for it in heads)
-    on_line = (far / STEP) % 2 == 0
-    distance = 5.0 if on_line else 7.0
-    y = far + distance if below else far - distance - _THIN
-    left = min(it.x for it in heads)
-    return Rect(left, y, max(it.x + it.width for it in heads) - left, _THIN)
-
-
 def _over_staff(head: Head, lines: int) -> list[Sign]:
     top = min(height_of(2 * lines - 2), head.y) - 9.0
-    return [Use(_OVER[it], head.x + head.width / 2 - 2.0, top) for it in _OVER_STAFF.findall(head.note.spelling)]
+    return [Use(it, head.x + head.width / 2 - 2.0, top) for it in head.note.over_staff]
 
 
 def _ledgers(neume: Neume, lines: int) -> Iterator[Rect]:

@@ -6,17 +6,17 @@ from dataclasses import dataclass
 from functools import lru_cache
 from xml.etree.ElementTree import Element, SubElement, tostring
 
-from gregorio_chant.picture.blocks import NABC_ROW
+from gregorio_chant.items import Syllable
 from gregorio_chant.picture.codes import CODE_ROW, CODE_SIZE, Code, marks_of
 from gregorio_chant.picture.marks import Mark, Places
-from gregorio_chant.picture.parts import ABOVE_SIZE
 from gregorio_chant.picture.shown import shown
-from gregorio_chant.picture.values import Line, Placed, Rect, Sign, Words
+from gregorio_chant.picture.spaces import SPACES
+from gregorio_chant.picture.values import Line, Neumes, Placed, Rect, Sign, Use, Words
 from gregorio_chant.picture.widths import FACES
 from gregorio_chant.picture.words import SIZE
 from gregorio_chant.results import Kind
 
-MARGIN = 12.0
+MARGIN = SPACES.margin
 # The style of pictures: a file of its own holds it, a page has it once.
 STYLE = (
     f".chant{{color:#000;font-family:{FACES};fill:currentColor}}.chant .paper{{fill:#fff}}.chant .staff{{fill:none;stroke:#a43;stroke-width:.7}}"
@@ -48,13 +48,20 @@ def _kept_blanks(text: str) -> str:
     return "\u00a0" * (at if inner else len(text)) + inner + "\u00a0" * (len(text) - at - len(inner) if inner else 0)
 
 
+def attributes_of(styles: frozenset[str]) -> dict[str, str]:
+    """Returns the attributes of text in these styles."""
+    return dict(_ATTRIBUTES[it] for it in sorted(styles) if it in _ATTRIBUTES)
+
+
 @dataclass(frozen=True)
 class Names:
     """The names of a picture's parts: `prefix` begins its ids, which no two pictures of a page
-    share, and `links` says whether marks lead to messages."""
+    share, and `links` says whether marks lead to messages, whose ids begin with `messages` if this is
+    another one."""
 
     prefix: str = ""
     links: bool = False
+    messages: str | None = None
 
     def shape(self, name: str) -> str:
         return f"{self.prefix}{name}"
@@ -63,7 +70,10 @@ class Names:
         return f"{self.prefix}s{index + 1}" + (f"-{part + 1}" if part else "")
 
     def message(self, index: int) -> str:
-        return f"{self.prefix}m{index}"
+        return f"{self.prefix if self.messages is None else self.messages}m{index}"
+
+    def code(self, index: int) -> str:
+        return f"{self.prefix}m{index}-at"
 
 
 def text_of(element: Element) -> str:
@@ -76,11 +86,32 @@ def add(parent: Element, name: str, text: str) -> None:
     SubElement(parent, name).text = shown(text)
 
 
+_ALTERED = {"flat": "\u266d", "sharp": "\u266f"}
+
+
+def sung(syllable: Syllable) -> str:
+    """Returns how a syllable sounds: its text, and the degrees of its notes, or their letters before
+    any clef."""
+    notes = " ".join((it.degree or it.pitch) + _ALTERED.get(it.alteration, "") for it in syllable.notes)
+    text = syllable.plain.strip()
+    return f"{text}: {notes}" if text and notes else notes
+
+
+def words_of(line: Line) -> str:
+    """Returns the words of a line as one text, with its initial."""
+    texts = []
+    for it in line.parts:
+        if it.part.has_text:
+            texts.append((" " if it.part.begins else "") + "".join(words.text for words in it.part.texts))
+    joined = " ".join("".join(texts).split())
+    return shown("".join(it.text for it in line.initial[-1:]) + joined) if line.initial else shown(joined)
+
+
 class Painter:
     """Paints lines as groups, and knows which shapes they use."""
 
-    def __init__(self, names: Names, places: Places, staff: int) -> None:
-        self._names = names
+    def __init__(self, names: Names, places: Places, staff: int, language: str) -> None:
+        self._names, self._language = names, language
         self._places = places
         self._staff = staff
         self._addresses: dict[str, str] = {}
@@ -95,16 +126,24 @@ class Painter:
     def line(self, line: Line, codes: Sequence[Code], y: float) -> str:
         """Returns the group of a line, whose staff has its lowest line at `y`, with the codes
         above it."""
-        group = Element("g", {"transform": f"translate({number(MARGIN)},{number(y)})"})
-        staff = "".join(f"M0,{number(-10.0 * it)}h{number(line.width)}" for it in range(self._staff))
+        label = words_of(line)
+        group = Element("g", {
+            "transform": f"translate({number(MARGIN)},{number(y)})", **({"role": "group", "aria-label": label} if label else {}),
+            **({"lang": self._language} if label and self._language else {}),
+        })
+        staff = "".join(f"M{number(line.indent)},{number(-10.0 * it)}h{number(line.width - line.indent)}" for it in range(self._staff))
         SubElement(group, "path", {"class": "staff", "d": staff})
+        for words in line.initial:
+            self._words(group, words, 0.0, words.y)
         self._signs(group, line.signs, 0.0)
         for placed in line.parts:
             self._part(group, line, placed)
         for it in codes:
             self.code(group, it.mark, it.x, line.top - 2.5 - CODE_ROW * it.row, it.text)
-        for hyphen in line.hyphens:
-            self._words(group, hyphen, 0.0, line.text)
+        if line.hyphens:
+            hyphens = SubElement(group, "g", {"aria-hidden": "true"})
+            for hyphen in line.hyphens:
+                self._words(hyphens, hyphen, 0.0, line.text)
         return text_of(group)
 
     def _signs(self, parent: Element, signs: Iterable[Sign], x: float) -> None:
@@ -128,11 +167,12 @@ class Painter:
     def _words(parent: Element, words: Words, x: float, y: float) -> None:
         attributes = {"x": number(x + words.x), "y": _often(y)}
         if words.styles:
-            attributes.update(_ATTRIBUTES[it] for it in sorted(words.styles) if it in _ATTRIBUTES)
+            attributes |= attributes_of(words.styles)
         if words.size != SIZE:
             attributes["font-size"] = _often(words.size)
         if len(words.text) > 1:
-            attributes["textLength"] = _often(words.width)
+            # A face with other letters is squeezed as a whole, and not the gaps between its letters alone.
+            attributes |= {"textLength": _often(words.width), "lengthAdjust": "spacingAndGlyphs"}
         element = SubElement(parent, "text", attributes)
         element.text = _kept_blanks(words.text)
         if words.title:
@@ -149,24 +189,30 @@ class Painter:
             place = self._places.syllables[index]
             attributes |= {"data-line": str(place.line), "data-column": str(place.column)}
         group = SubElement(parent, "g", attributes)
-        if part.number == 0:
-            add(group, "title", part.syllable.spelling)
+        title = sung(part.syllable) if part.number == 0 else ""
+        if title:
+            group.set("role", "img")
+            add(group, "title", title)
         self._field(group, line, placed)
         for x, block in part.blocks:
             self._signs(group, block.signs, placed.x + x)
-            for words in block.neumes:
-                self._words(group, words, placed.x + x, self._row(line, int(words.y)))
+            for it in block.neumes:
+                self._neumes(group, it, placed.x + x, line.rows[it.row - 1])
         for words in part.texts:
             self._words(group, words, placed.x, line.text)
         if part.translation is not None:
-            self._words(group, part.translation._replace(styles=frozenset("i")), placed.x, line.text + 15.0)
+            self._words(group, part.translation._replace(styles=frozenset("i")), placed.x, line.translation)
         for words in part.above:
-            self._words(group, words._replace(styles=frozenset("i")), placed.x, line.top + ABOVE_SIZE)
+            self._words(group, words._replace(styles=frozenset("i")), placed.x, line.above)
 
-    @staticmethod
-    def _row(line: Line, row: int) -> float:
-        """Returns the y of a row of NABC: the first one stands nearest to the staff."""
-        return line.top + (ABOVE_SIZE if line.has_above else 0.0) + (line.rows - row + 1) * NABC_ROW - 3.0
+    def _neumes(self, parent: Element, neumes: Neumes, x: float, y: float) -> None:
+        """Paints NABC, with its text and its names as a title."""
+        if neumes.words is not None:
+            self._words(parent, neumes.words, x, y)
+            return
+        group = SubElement(parent, "g", {"class": "nabc"})
+        add(group, "title", neumes.title)
+        self._signs(group, (Use(it.shape, it.x, it.y + y) for it in neumes.signs), x)
 
     def _field(self, parent: Element, line: Line, placed: Placed) -> None:
         """Paints a field under a part that has messages."""
@@ -188,9 +234,8 @@ class Painter:
         """Paints the code of a message, as a link where messages stand beside the picture."""
         message = mark.message
         if self._names.links:
-            name = self._names.message(mark.number)
-            self.places[mark.number] = f"{name}-at"
-            parent = SubElement(parent, "a", {"href": f"#{name}", "id": f"{name}-at"})
+            name = self.places[mark.number] = self._names.code(mark.number)
+            parent = SubElement(parent, "a", {"href": f"#{self._names.message(mark.number)}", "id": name})
         code = SubElement(parent, "text", {"class": "code", "x": number(x), "y": number(y)})
         code.text = shown(words or message.code)
         add(code, "title", f"{message.line}:{message.column}: {message.kind.value}: {message.code}: {message.text}")

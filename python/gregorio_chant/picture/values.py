@@ -5,7 +5,7 @@ from __future__ import annotations
 from dataclasses import dataclass, field
 from typing import NamedTuple, Union
 
-from gregorio_chant.items import Clef, Syllable
+from gregorio_chant.items import Break, Clef, Note, Syllable
 
 STEP = 5.0
 PITCHES = "abcdefghijklmnp"
@@ -48,6 +48,20 @@ class Rect(NamedTuple):
 Sign = Union[Use, Rect]
 
 
+class Head(NamedTuple):
+    """Where the head of a note stands. `covered` says whether the next note stands over it,
+    `covers` whether it stands over the one before, and `foot` is how much lower than that of a head
+    its black goes: below the first note of a broad stroke."""
+
+    note: Note
+    x: float
+    y: float
+    width: float
+    covers: bool = False
+    covered: bool = False
+    foot: float = 0.0
+
+
 class Words(NamedTuple):
     """Letters in one style, from x on; y is that of the line that they stand on, and `styles`
     are names of tags, as `i`."""
@@ -62,6 +76,19 @@ class Words(NamedTuple):
 
     def moved(self, x: float, y: float = 0.0) -> Words:
         return Words(self.text, self.x + x, self.y + y, self.width, self.size, self.styles, self.title)
+
+
+class Neumes(NamedTuple):
+    """The NABC of a snippet, in a row over the staff, by its number from 1: shapes, or if there are
+    none its text. `up` and `down` are how far it goes from the line that it stands on."""
+
+    row: int
+    signs: tuple[Use, ...]
+    words: Words | None
+    width: float
+    up: float
+    down: float
+    title: str = ""
 
 
 @dataclass(slots=True)
@@ -79,16 +106,16 @@ class Block:
     clef: Clef | None = None
     is_bar: bool = False
     is_custos: bool = False
-    ends_line: str = ""
-    neumes: tuple[Words, ...] = ()
+    ends_line: Break | None = None
+    neumes: tuple[Neumes, ...] = ()
 
 
 @dataclass(slots=True)
 class Part:
     """A syllable, or what stands of it on one line: blocks at their places from the anchor, and
-    texts. `left` and `right` bound the notes, `text_left` and `text_right` the text, where there
-    is one. It has what stands in the canonical text from `begin` up to `end`, or up to the
-    syllable's end."""
+    texts. `left` and `right` bound the notes, `text_left` and `text_right` the text, if there is
+    one. It has what stands in the canonical text from `begin` up to `end`, or up to the
+    syllable's end. `begins` says whether it begins a word."""
 
     syllable: Syllable
     number: int
@@ -103,10 +130,11 @@ class Part:
     has_anchor: bool = False
     first: str | None = None
     clef: Clef | None = None
-    ends_line: str = ""
+    ends_line: Break | None = None
     is_bar: bool = False
     begin: int = 0
     end: int | None = None
+    begins: bool = False
 
     @property
     def has_text(self) -> bool:
@@ -123,16 +151,19 @@ class Placed:
 
 @dataclass(slots=True)
 class Line:
-    """A line of the picture: its staff goes from 0 to `width`. `top` and `bottom` bound all
-    signs, `text` is where the text stands. Above the signs stand `rows` of NABC, and over these
-    texts, if it `has_above`."""
+    """A line of the picture: its staff goes from `indent` to `width`, and an initial stands before
+    it. `top` and `bottom` bound all signs. The text stands at `text`, translations at `translation`,
+    the rows of NABC at `rows`, from the lowest one up, and texts over the staff at `above`."""
 
     parts: list[Placed]
     signs: list[Sign] = field(default_factory=list)
     hyphens: list[Words] = field(default_factory=list)
+    initial: list[Words] = field(default_factory=list)
+    indent: float = 0.0
     width: float = 0.0
     top: float = 0.0
     bottom: float = 0.0
     text: float = 0.0
-    rows: int = 0
-    has_above: bool = False
+    translation: float = 0.0
+    above: float = 0.0
+    rows: tuple[float, ...] = ()

@@ -2,18 +2,17 @@
 from __future__ import annotations
 
 import re
-import unicodedata
 from dataclasses import dataclass
 from functools import lru_cache
 
 from gregorio_chant.items import MARKUP, special_character
+from gregorio_chant.picture.languages import LATIN, first_vowel
 from gregorio_chant.picture.shown import shown
 from gregorio_chant.picture.values import Words
 from gregorio_chant.picture.widths import styled_width
 
 SIZE = 16.0
 _STYLES = frozenset(("b", "c", "e", "i", "sc", "tt", "ul"))
-_VOWELS = frozenset("aeiouyæœ")
 _ALT = re.compile(r"<alt>(.*?)</alt>", re.DOTALL)
 _BARRED = re.compile("([℣℟])")
 _SPECIAL = re.compile("[<{}$℣℟\n]")
@@ -98,29 +97,11 @@ def read_text(text: str) -> SyllableText:
     return SyllableText(tuple(reader.runs), centre, above, reader.raw)
 
 
-def first_vowel(text: str) -> tuple[int, int]:
-    """Returns where the first vowel begins and ends: not the u of qu, and not an i before a
-    vowel at the beginning. Without one it is the whole text.
-
-    >>> first_vowel("quam"), first_vowel("Iam"), first_vowel("§")
-    ((2, 3), (1, 2), (0, 1))
-    """
-    letters = [unicodedata.normalize("NFD", it)[0].lower() for it in text]
-    for at, letter in enumerate(letters):
-        if letter not in _VOWELS or (letter == "u" and at and letters[at - 1] == "q"):
-            continue
-        following = letters[at + 1] if at + 1 < len(letters) else ""
-        if letter == "i" and following in _VOWELS and not any(it.isalpha() for it in letters[:at]):
-            continue
-        return at, at + 1
-    return 0, len(text)
-
-
-def set_text(text: SyllableText, size: float = SIZE) -> tuple[tuple[Words, ...], float]:
+def set_text(text: SyllableText, size: float = SIZE, language: str = LATIN) -> tuple[tuple[Words, ...], float]:
     """Returns the runs side by side from x 0 on, and where the middle of the centre or of the
     vowel is."""
     plain = text.plain
-    begin, end = text.centre or first_vowel(plain)
+    begin, end = text.centre or first_vowel(plain, language)
     words: list[Words] = []
     x, at, middle = 0.0, 0, 0.0
     for run in text.runs:
@@ -134,11 +115,11 @@ def set_text(text: SyllableText, size: float = SIZE) -> tuple[tuple[Words, ...],
 
 
 @lru_cache(maxsize=4096)
-def read_and_set(text: str) -> tuple[SyllableText, tuple[Words, ...], float]:
+def read_and_set(text: str, language: str = LATIN) -> tuple[SyllableText, tuple[Words, ...], float]:
     """Returns the canonical text of a syllable as runs, these side by side, and where the middle of
     the centre or of the vowel is. What was read last is kept: a score has its syllables often."""
     read = read_text(text)
-    return (read, *set_text(read))
+    return (read, *set_text(read, language=language))
 
 
 def _width(run: Run, letters: int, size: float) -> float:
