@@ -37,6 +37,11 @@ def end_at_signals() -> None:
             signal.signal(it, _end)
 
 
+def leave_signals() -> None:
+    """Leaves signals unheard from now on: all is done, and Python, while it ends, would not do with them what is wanted here."""
+    signal.pthread_sigmask(signal.SIG_BLOCK, _SIGNALS)
+
+
 def leave_interrupts() -> None:
     """Leaves what comes from the keyboard to the process that made this one, which ends it by SIGTERM."""
     for it in (signal.SIGINT, signal.SIGHUP):
