@@ -18,13 +18,38 @@ files. The answers of `compile`, `check` and `Run` are proved. What else stands 
 """
 from __future__ import annotations
 
-from importlib.metadata import version
+from importlib import import_module
+from typing import TYPE_CHECKING
 
-from gregorio_chant.library import check, compile
-from gregorio_chant.results import Format, Kind, Message, Report, Result, RunOverError, StateError, Status, Step
-from gregorio_chant.runs import Limits, Run, pieces
+if TYPE_CHECKING:
+    from gregorio_chant.library import check, compile
+    from gregorio_chant.results import Format, Kind, Message, Report, Result, RunOverError, StateError, Status, Step
+    from gregorio_chant.runs import Limits, Run, pieces
 
-__version__ = version("gregorio-chant")
+    __version__: str
+
+# Where each name stands. A module is imported when a name of it is asked for, so that the command begins at once.
+_MODULES = {
+    **dict.fromkeys(("check", "compile"), "library"), **dict.fromkeys(("Limits", "Run", "pieces"), "runs"),
+    **dict.fromkeys(("Format", "Kind", "Message", "Report", "Result", "RunOverError", "StateError", "Status", "Step"), "results"),
+}
 __all__ = [
     "Format", "Kind", "Limits", "Message", "Report", "Result", "Run", "RunOverError", "StateError", "Status", "Step", "check", "compile", "pieces",
 ]
+
+
+def __getattr__(name: str) -> object:
+    """Returns what is asked for by this name for the first time."""
+    if name == "__version__":
+        from importlib.metadata import version
+        value: object = version("gregorio-chant")
+    elif name in _MODULES:
+        value = getattr(import_module(f"gregorio_chant.{_MODULES[name]}"), name)
+    else:
+        raise AttributeError(f"module {__name__!r} has no attribute {name!r}")
+    globals()[name] = value
+    return value
+
+
+def __dir__() -> list[str]:
+    return sorted({*globals(), *__all__, "__version__"})

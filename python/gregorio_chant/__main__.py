@@ -3,7 +3,19 @@ from __future__ import annotations
 
 import sys
 
-from gregorio_chant.command import run
+from gregorio_chant.ending import end_at_signals, leave_signals
+
+
+def main() -> int:
+    """Runs the command with the words of the process, and returns the exit status. What takes long to be imported is imported here, so that a signal meanwhile
+    ends the command as any other does."""
+    end_at_signals()
+    try:
+        from gregorio_chant.command import main as run
+        return run(sys.argv[1:])
+    finally:
+        leave_signals()
+
 
 if __name__ == "__main__":
-    sys.exit(run())
+    sys.exit(main())

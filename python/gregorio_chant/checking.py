@@ -9,7 +9,7 @@ from dataclasses import dataclass
 from functools import partial
 
 from gregorio_chant import __version__, library
-from gregorio_chant.files import Content, read
+from gregorio_chant.files import Content, Reader
 from gregorio_chant.helps import helps_for
 from gregorio_chant.needs import Missing
 from gregorio_chant.processes import by_processes
@@ -55,7 +55,7 @@ def check_data(data: bytes, with_rules: bool) -> tuple[Message, ...]:
 _Read = Callable[[str], Content]
 
 
-def check_file(name: str, wanted: Wanted, read_it: _Read = read) -> Checked:
+def check_file(name: str, wanted: Wanted, read_it: _Read) -> Checked:
     """Returns what is found in the file, or why it was not read."""
     settings = wanted.settings.of(name)
     selection = settings.selection(name, wanted.chosen)
@@ -137,7 +137,7 @@ def _named(wanted: Wanted, count: _Count) -> tuple[list[str], _Read]:
         staged = StagedFiles(wanted.paths)
         return wanted.settings.kept(staged.names, wanted.paths), staged.read
     names = find_scores(wanted.paths, lambda name, error: count.fail(name, reason_of(error)), wanted.exclude)
-    return wanted.settings.kept(names, wanted.paths), read
+    return wanted.settings.kept(names, wanted.paths), Reader.of(wanted.paths).read
 
 
 def check(wanted: Wanted) -> int:

@@ -1,7 +1,6 @@
 """The command `gregorio-chant`: its sub-commands, and its statuses."""
 from __future__ import annotations
 
-import sys
 from collections.abc import Sequence
 
 from gregorio_chant import __version__, checking
@@ -50,11 +49,3 @@ def main(words: Sequence[str]) -> int:
     except MemoryError:
         tell("no memory")
         return checking.NO_MEMORY
-
-
-def run() -> int:
-    """Runs the command with the words of the process, and returns the exit status."""
-    try:
-        return main(sys.argv[1:])
-    except KeyboardInterrupt:
-        return 130

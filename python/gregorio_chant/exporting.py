@@ -1,17 +1,16 @@
 """The command `export`: writes scores as files of another format, beside them or in a folder."""
 from __future__ import annotations
 
-import os
 from collections.abc import Callable
 from dataclasses import dataclass
 from pathlib import Path
 
-from gregorio_chant import files
 from gregorio_chant.dump import Score, ScoreError
+from gregorio_chant.files import Reader, write
 from gregorio_chant.reports import counted
 from gregorio_chant.results import Kind
 from gregorio_chant.settings import Finder
-from gregorio_chant.streams import CANNOT_READ_OR_WRITE, STDIN, printable, reason_of, tell, write_bytes
+from gregorio_chant.streams import CANNOT_READ_OR_WRITE, STDIN, reason_of, tell, write_bytes
 from gregorio_chant.walk import find_scores
 
 _ERRORS = 1
@@ -39,35 +38,23 @@ def _target(name: str, wanted: Wanted) -> Path:
     return path if wanted.folder is None else Path(wanted.folder) / path.name
 
 
-def _put(path: Path, data: bytes, is_forced: bool) -> None:
-    """Writes a new file; one that is there already only where that is forced. Raises `OSError`.
-    What could not be written whole is removed."""
-    with path.open("wb" if is_forced else "xb") as file:
-        try:
-            file.write(data)
-            file.flush()
-        except OSError:
-            os.unlink(path)
-            raise
-
-
-def _export(name: str, wanted: Wanted) -> tuple[int, str | None]:
+def _export(name: str, reader: Reader, wanted: Wanted) -> tuple[int, str | None]:
     """Exports a score. Returns the status, and what is told of it."""
     try:
-        score = Score.parse(files.read(name).data)
+        score = Score.parse(reader.read(name).data)
     except ScoreError as error:
-        return _FATAL, f"{printable(name)}:{error}; it is not written"
+        return _FATAL, f"{name}:{error}; it is not written"
     fault = next((it for it in score.messages if it.kind is Kind.FATAL), None)
     if fault is not None:
-        return _FATAL, f"{printable(name)}:{fault.line}:{fault.column}: {fault.code}: {fault.text}; it is not written"
+        return _FATAL, f"{name}:{fault.line}:{fault.column}: {fault.code}: {fault.text}; it is not written"
     try:
         data = wanted.write(score)
     except ValueError as error:
-        return _ERRORS, f"{printable(name)}:{error}; it is not written"
+        return _ERRORS, f"{name}:{error}; it is not written"
     if name == STDIN:
         write_bytes(data)
     else:
-        _put(_target(name, wanted), data, wanted.is_forced)
+        write(str(_target(name, wanted)), (data,), is_forced=wanted.is_forced)
     return 0, None
 
 
@@ -80,11 +67,12 @@ def export(wanted: Wanted) -> int:
         nonlocal status
         status = max(status, CANNOT_READ_OR_WRITE)
         reason = "there is a file of this name already; --force writes over it" if isinstance(error, FileExistsError) else reason_of(error)
-        tell(f"cannot export {printable(name)}: {reason}")
+        tell(f"cannot export {name}: {reason}")
 
+    reader = Reader.of(wanted.paths)
     for name in wanted.settings.kept(find_scores(wanted.paths, fail, wanted.exclude), wanted.paths):
         try:
-            its, told = _export(name, wanted)
+            its, told = _export(name, reader, wanted)
         except OSError as error:
             fail(name, error)
             continue

@@ -6,18 +6,18 @@ from gregorio_chant.checking import Wanted
 from gregorio_chant.formatting import difference
 from gregorio_chant.repairs import How, repaired
 from gregorio_chant.reports import counted
-from gregorio_chant.streams import CANNOT_READ_OR_WRITE, reason_of, tell, write
+from gregorio_chant.streams import CANNOT_READ_OR_WRITE, reason_of, tell, write_data
 from gregorio_chant.walk import find_scores
 
 
-def _fix(name: str, how: How, shows_diff: bool) -> bool:
+def _fix(name: str, reader: files.Reader, how: How, shows_diff: bool) -> bool:
     """Repairs a file, or shows what would be repaired, and returns whether there is something to repair. Raises `OSError` and `files.Changed`."""
-    content = files.read(name)
+    content = reader.read(name)
     made = repaired(content.data, how)
     if made == content.data:
         return False
     if shows_diff:
-        write(difference(name, f"{name} (repaired)", content.data.decode("utf-8"), made.decode("utf-8")))
+        write_data(difference(name, f"{name} (repaired)", content.data.decode("utf-8"), made.decode("utf-8")))
     else:
         files.replace(name, content, made)
     return True
@@ -33,12 +33,13 @@ def fix_files(wanted: Wanted, allow_unsafe: bool, shows_diff: bool) -> int:
         status = CANNOT_READ_OR_WRITE
         tell(f"cannot repair {name}: {reason}; it stays as it was")
 
+    reader = files.Reader.of(wanted.paths)
     names = find_scores(wanted.paths, lambda name, error: fail(name, reason_of(error)), wanted.exclude)
     for name in wanted.settings.kept(names, wanted.paths):
         settings = wanted.settings.of(name)
         try:
             how = How(allow_unsafe, wanted.with_rules or settings.rules is True, settings.selection(name, wanted.chosen))
-            number += _fix(name, how, shows_diff)
+            number += _fix(name, reader, how, shows_diff)
         except OSError as error:
             fail(name, reason_of(error))
         except files.Changed as error:

@@ -8,8 +8,8 @@ from contextlib import contextmanager, nullcontext
 from dataclasses import dataclass
 from functools import partial
 
-from gregorio_chant import files
 from gregorio_chant.compiled import Compiled
+from gregorio_chant.files import Changed, Content, Reader, replace
 from gregorio_chant.judge import Reading, objection
 from gregorio_chant.layout import laid_out
 from gregorio_chant.losses import Loss
@@ -20,7 +20,7 @@ from gregorio_chant.scan import without_blanks
 from gregorio_chant.results import Status
 from gregorio_chant.settings import Finder, NoSettings, Settings
 from gregorio_chant.staged import StagedFiles
-from gregorio_chant.streams import CANNOT_READ_OR_WRITE, STDIN, reason_of, tell, write
+from gregorio_chant.streams import CANNOT_READ_OR_WRITE, STDIN, printable, reason_of, tell, write_data
 from gregorio_chant.walk import find_scores
 
 NO_MEMORY = 5
@@ -126,10 +126,10 @@ class _Done:
     text: str = ""
 
 
-_Read = Callable[[str], files.Content]
+_Read = Callable[[str], Content]
 
 
-def _format(name: str, wanted: Wanted, read: _Read = files.read) -> _Done:
+def _format(name: str, wanted: Wanted, read: _Read) -> _Done:
     """Formats a file, or says why it stays as it is."""
     shown = "<stdin>" if name == STDIN else name
     try:
@@ -148,7 +148,7 @@ def _format(name: str, wanted: Wanted, read: _Read = files.read) -> _Done:
     return _finish(name, shown, content, made.data, wanted)
 
 
-def _finish(name: str, shown: str, content: files.Content, data: bytes, wanted: Wanted) -> _Done:
+def _finish(name: str, shown: str, content: Content, data: bytes, wanted: Wanted) -> _Done:
     text = ""
     if wanted.shows_diff:
         kind = "canonical" if wanted.style_of(name).is_canonical else "formatted"
@@ -161,17 +161,17 @@ def _finish(name: str, shown: str, content: files.Content, data: bytes, wanted: 
         return _Done(Outcome.WOULD_CHANGE, 1, (f"{shown} would change",) * wanted.checks, text)
     if name != STDIN:
         try:
-            files.replace(name, content, data)
-        except (OSError, files.Changed) as error:
+            replace(name, content, data)
+        except (OSError, Changed) as error:
             reason = reason_of(error) if isinstance(error, OSError) else str(error)
             return _Done(Outcome.FAILED, CANNOT_READ_OR_WRITE, (f"cannot write {shown}: {reason}; it stays as it was",))
     return _Done(Outcome.WRITTEN, text=text)
 
 
 def difference(name: str, new_name: str, before: str, after: str) -> str:
-    """Returns a unified diff of two texts."""
+    """Returns a unified diff of two texts, as they are."""
     lines = []
-    for line in difflib.unified_diff(_lines(before), _lines(after), name, new_name):
+    for line in difflib.unified_diff(_lines(before), _lines(after), printable(name), printable(new_name)):
         lines.append(line if line.endswith("\n") else f"{line}\n\\ No newline at end of file\n")
     return "".join(lines)
 
@@ -197,7 +197,7 @@ class _Run:
             self._tell(done)
 
     def _tell(self, done: _Done) -> None:
-        write(done.text)
+        write_data(done.text)
         self.outcomes[done.outcome] += 1
         self.status = max(self.status, done.status)
         for it in done.lines:
@@ -220,7 +220,7 @@ def _all_formatted(wanted: Wanted, run: _Run) -> Iterator[tuple[int, Iterator[_D
         yield len(names), (_format(it, wanted, staged.read) for it in names)
         return
     names = wanted.settings.kept(find_scores(wanted.paths, run.cannot_read, wanted.exclude), wanted.paths)
-    with by_processes(partial(_format, wanted=wanted), names, wanted.jobs) as all_done:
+    with by_processes(partial(_format, wanted=wanted, read=Reader.of(wanted.paths).read), names, wanted.jobs) as all_done:
         yield len(names), all_done
 
 

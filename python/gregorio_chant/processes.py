@@ -2,17 +2,25 @@
 processes."""
 from __future__ import annotations
 
-import signal
+import time
 from collections.abc import Callable, Iterator, Sequence
 from contextlib import contextmanager
-from typing import TypeVar
+from typing import TYPE_CHECKING, Any, TypeVar
 
+from gregorio_chant.ending import end_with_parent, leave_interrupts, undone
 from gregorio_chant.streams import STDIN
+
+if TYPE_CHECKING:
+    from multiprocessing.process import BaseProcess
 
 _Made = TypeVar("_Made")
 # With fewer files than this, making processes takes longer than they save.
 _FEW = 32
 _MOST_IN_A_CHUNK = 32
+# How long a process has to end by itself, in seconds.
+_PATIENCE = 0.5
+# What a process does with each name. It is inherited, and not sent with each of them.
+_work: Callable[[str], Any]
 
 
 @contextmanager
@@ -26,13 +34,14 @@ def by_processes(work: Callable[[str], _Made], names: Sequence[str], jobs: int) 
         return
     # They are wanted for many files alone, and take a while to be imported.
     from concurrent.futures.process import BrokenProcessPool, ProcessPoolExecutor
-    from multiprocessing import get_context
+    from multiprocessing import active_children, get_context
 
     chunk = max(1, min(_MOST_IN_A_CHUNK, len(names) // (4 * jobs)))
-    pool = ProcessPoolExecutor(jobs, get_context("fork"), _leave_signals)
+    pool = ProcessPoolExecutor(jobs, get_context("fork"), _begin, (work,))
     ended = False
     try:
-        yield pool.map(work, names, chunksize=chunk)
+        with undone(lambda: end_all(active_children())):
+            yield pool.map(_do, names, chunksize=chunk)
         ended = True
     except BrokenProcessPool:
         raise MemoryError("a process was ended from outside") from None
@@ -41,6 +50,24 @@ def by_processes(work: Callable[[str], _Made], names: Sequence[str], jobs: int) 
         pool.shutdown(wait=ended, cancel_futures=True)
 
 
-def _leave_signals() -> None:
-    """Leaves an interrupt from the keyboard to the process that began the others."""
-    signal.signal(signal.SIGINT, signal.SIG_IGN)
+def _begin(work: Callable[[str], Any]) -> None:
+    """Begins a process of others: it ends with the one that made it."""
+    global _work
+    _work = work
+    leave_interrupts()
+    end_with_parent()
+
+
+def _do(name: str) -> Any:
+    return _work(name)
+
+
+def end_all(processes: Sequence[BaseProcess]) -> None:
+    """Ends these processes: those that do not end by themselves after a moment are killed."""
+    for it in processes:
+        it.terminate()
+    end = time.monotonic() + _PATIENCE
+    for it in processes:
+        it.join(max(0.0, end - time.monotonic()))
+        if it.is_alive():
+            it.kill()

@@ -10,7 +10,7 @@ from typing import Protocol
 
 from gregorio_chant.results import Kind, Message
 from gregorio_chant.source import Lines as LinesOfText
-from gregorio_chant.streams import STDIN
+from gregorio_chant.streams import STDIN, printable
 
 LEVELS = {Kind.WARNING: "warning", Kind.ERROR: "error", Kind.FATAL: "error"}
 
@@ -57,7 +57,7 @@ class Reporter(Protocol):
 
 def line_of(name: str, message: Message) -> str:
     """Returns a message as editors want it, as the program writes it."""
-    return f"{name}:{message.line}:{message.column}: {message.kind.value}: {message.code}: {message.text}\n"
+    return f"{printable(name)}:{message.line}:{message.column}: {message.kind.value}: {message.code}: {message.text}\n"
 
 
 class Lines:
@@ -112,7 +112,12 @@ class Json:
         return ""
 
     def end(self, summary: str | None) -> str:
-        return json.dumps(self._objects, indent=2) + "\n"
+        return json_of(self._objects, indent=2) + "\n"
+
+
+def json_of(value: object, indent: int | None = None) -> str:
+    """Returns JSON of printable ASCII."""
+    return json.dumps(value, indent=indent).replace("\x7f", "\\u007f")
 
 
 def counted(number: int, thing: str) -> str:

@@ -1,14 +1,13 @@
 """Messages as a log of SARIF 2.1.0."""
 from __future__ import annotations
 
-import json
 import os
 from pathlib import PurePath
 from urllib.parse import quote
 
 from gregorio_chant.codes import CODES
 from gregorio_chant.explaining import page_of
-from gregorio_chant.reports import LEVELS, Checked, with_help
+from gregorio_chant.reports import LEVELS, Checked, json_of, with_help
 from gregorio_chant.results import Kind, Message
 from gregorio_chant.rules import RULES
 from gregorio_chant.source import Lines
@@ -58,7 +57,7 @@ class Sarif:
             "invocations": [{"executionSuccessful": not self._failures, "toolExecutionNotifications": self._failures}],
             "results": self._results,
         }
-        return json.dumps({"version": "2.1.0", "$schema": _SCHEMA, "runs": [run]}, indent=2) + "\n"
+        return json_of({"version": "2.1.0", "$schema": _SCHEMA, "runs": [run]}, indent=2) + "\n"
 
 
 def _rule(name: str) -> dict[str, object]:

@@ -9,8 +9,7 @@ from dataclasses import dataclass, field, replace
 from pathlib import Path
 from urllib.parse import quote
 
-from gregorio_chant import checking
-from gregorio_chant.files import read
+from gregorio_chant import checking, files
 from gregorio_chant.picture import Look, Names, draw
 from gregorio_chant.picture.page import NARROW, Entry, Shown, index_of, page_of
 from gregorio_chant.reports import Checked, counted, summary_of
@@ -18,7 +17,7 @@ from gregorio_chant.results import Kind
 from gregorio_chant.selection import UnknownCode
 from gregorio_chant.settings import Finder, NoSettings
 from gregorio_chant.source import text_of
-from gregorio_chant.streams import CANNOT_READ_OR_WRITE, STDIN, CannotWrite, printable, reason_of, tell, write
+from gregorio_chant.streams import CANNOT_READ_OR_WRITE, STDIN, CannotWrite, printable, reason_of, tell, write_data
 from gregorio_chant.walk import find_scores
 
 MOST = 200
@@ -65,6 +64,7 @@ class _Scores:
     def __init__(self, wanted: Wanted) -> None:
         self._wanted = wanted
         self._checking = checking.Wanted(wanted.paths, with_rules=wanted.with_rules, settings=wanted.settings)
+        self._reader = files.Reader.of(wanted.paths)
         self.files, self.failed, self.status = 0, 0, 0
         self.kinds = Counter[Kind]()
 
@@ -75,13 +75,13 @@ class _Scores:
     def _fail(self, name: str, reason: str) -> None:
         self.failed += 1
         self.status = max(self.status, CANNOT_READ_OR_WRITE)
-        tell(f"cannot read {printable(name)}: {reason}")
+        tell(f"cannot read {name}: {reason}")
 
     def all(self, names: Iterable[str]) -> Iterator[tuple[Checked, bytes]]:
         """Yields what is found in each score, and its bytes."""
         for name in names:
             try:
-                content = read(name)
+                content = self._reader.read(name)
             except OSError as error:
                 self._fail(name, reason_of(error))
                 continue
@@ -98,12 +98,11 @@ class _Scores:
         return summary_of(self.files, self.failed, self.kinds)
 
 
-def _put(path: Path, pieces: Iterable[str]) -> None:
-    """Writes a file anew. Raises `CannotWrite`."""
+def _put(path: Path, pieces: Iterable[str], below: Path | None = None) -> None:
+    """Writes a file anew, which the user has named, or which stands below a folder that he has named. Raises `CannotWrite`."""
     try:
         path.parent.mkdir(parents=True, exist_ok=True)
-        with open(path, "w", encoding="utf-8", newline="\n") as file:
-            file.writelines(pieces)
+        files.write(str(path), (it.encode("utf-8") for it in pieces), is_named=below is None, below=None if below is None else str(below))
     except OSError as error:
         raise CannotWrite(error) from None
 
@@ -114,7 +113,7 @@ def _write(wanted: Wanted, pieces: Iterable[str]) -> None:
         _put(Path(wanted.output), pieces)
     else:
         for it in pieces:
-            write(it)
+            write_data(it)
 
 
 def _refuse_own_input(outputs: Iterable[Path], names: Iterable[str]) -> None:
@@ -122,7 +121,7 @@ def _refuse_own_input(outputs: Iterable[Path], names: Iterable[str]) -> None:
     shown = {_identity(name) for name in names if name != STDIN} - {None}
     for output in outputs:
         if _identity(output) in shown:
-            raise UnknownCode(f"{printable(str(output))} is a score that is shown: name another file")
+            raise UnknownCode(f"{output} is a score that is shown: name another file")
 
 
 def _identity(path: str | Path) -> tuple[int, int] | None:
@@ -202,8 +201,8 @@ def _show_folder(wanted: Wanted, scores: _Scores, names: list[str]) -> None:
     for checked, data in scores.all(names):
         shown = scores.shown(checked, data, "")
         page = pages[checked.name]
-        _put(folder / page, page_of([shown], shown.picture.name or shown.name, back="../" * page.count("/") + _INDEX))
+        _put(folder / page, page_of([shown], shown.picture.name or shown.name, back="../" * page.count("/") + _INDEX), folder)
         kinds, codes = Counter(it.kind for it in checked.messages), Counter(it.code for it in checked.messages)
         entries.append(Entry(shown.name, shown.picture.name, quote(os.fsencode(page)), kinds, codes))
-    _put(folder / _INDEX, index_of(entries, scores.failed))
+    _put(folder / _INDEX, index_of(entries, scores.failed), folder)
     tell(scores.summary())

@@ -1,13 +1,16 @@
-"""Standard streams: what cannot be written is a clear line and a status, and never a traceback."""
+"""Standard streams, and no other place writes to them: what cannot be written is a clear line and a status, and never a traceback. A line is printable, whatever
+stands in a name, a setting or a score."""
 from __future__ import annotations
 
 import errno
 import os
 import sys
+from typing import IO
 
 NAME = "gregorio-chant"
 CANNOT_READ_OR_WRITE = 4
 STDIN = "-"
+_SHOWS_CURSOR = b"\r\x1b[2K\x1b[?25h"
 
 
 class CannotWrite(Exception):
@@ -19,38 +22,66 @@ class CannotWrite(Exception):
         self.is_closed = error.errno == errno.EPIPE
 
 
+class Styled(str):
+    """Lines with the colours of a terminal, in which each text was made printable before it got them."""
+
+
 def reason_of(error: OSError) -> str:
     """Returns why `error` came, in the system's words."""
     return error.strerror or type(error).__name__
 
 
-def _send(descriptor: int, content: bytes) -> None:
+def _send(stream: IO[str] | None, number: int, content: bytes) -> None:
+    descriptor = stream.fileno() if stream else number
     while content:
         content = content[os.write(descriptor, content) :]
 
 
-def _bytes_of(text: str) -> bytes:
-    """Returns the bytes of `text`, in which names of files may hold bytes that are no UTF-8."""
-    return text.encode("utf-8", "surrogateescape")
-
-
-def write(text: str) -> None:
-    """Writes `text` to standard output. Raises `CannotWrite` where it takes no more."""
-    write_bytes(_bytes_of(text))
-
-
-def write_bytes(content: bytes) -> None:
-    """Writes bytes to standard output. Raises `CannotWrite` where it takes no more."""
+def _put_out(content: bytes) -> None:
     try:
-        _send(sys.__stdout__.fileno() if sys.__stdout__ else 1, content)
+        _send(sys.__stdout__, 1, content)
     except OSError as error:
         raise CannotWrite(error) from None
 
 
+def _bytes_of(text: str) -> bytes:
+    """Returns the bytes of `text`, in which names of files may hold bytes that are no UTF-8."""
+    try:
+        return text.encode("utf-8", "surrogateescape")
+    except UnicodeEncodeError:
+        return text.encode("utf-8", "backslashreplace")
+
+
+def write(text: str) -> None:
+    """Writes lines to standard output. Raises `CannotWrite` where it takes no more."""
+    _put_out(_bytes_of(text if isinstance(text, Styled) else printable_lines(text)))
+
+
+def write_data(text: str) -> None:
+    """Writes a score, a page, a table or a difference to standard output, as it is; a terminal shows its lines. Raises `CannotWrite` where it takes no more."""
+    _put_out(_bytes_of(printable_lines(text) if is_terminal() else text))
+
+
+def write_bytes(content: bytes) -> None:
+    """Writes bytes that are no text to standard output. Raises `CannotWrite` where it takes no more, as a terminal takes none."""
+    if is_terminal():
+        raise CannotWrite(OSError(0, "it is no text, and standard output is a terminal"))
+    _put_out(content)
+
+
 def tell(line: str) -> None:
     """Writes a line of the command's own to standard error. Where that takes nothing, nobody can be told."""
+    _tell_bytes(_bytes_of(f"{NAME}: {printable(line)}\n"))
+
+
+def show_cursor() -> None:
+    """Clears the line of a terminal at standard error, where a bar stands, and shows its cursor again."""
+    _tell_bytes(_SHOWS_CURSOR)
+
+
+def _tell_bytes(content: bytes) -> None:
     try:
-        _send(sys.__stderr__.fileno() if sys.__stderr__ else 2, _bytes_of(f"{NAME}: {line}\n"))
+        _send(sys.__stderr__, 2, content)
     except OSError:
         pass
 
@@ -67,5 +98,14 @@ def is_error_terminal() -> bool:
 
 def printable(name: str) -> str:
     """Returns the name of a file as a terminal can show it: `\\xff` for a byte that is no UTF-8, and no control characters."""
+    if name.isascii() and name.isprintable():
+        return name
     text = _bytes_of(name).decode("utf-8", "backslashreplace")
     return "".join(it if it.isprintable() else it.encode("unicode_escape").decode("ascii") for it in text)
+
+
+def printable_lines(text: str) -> str:
+    """Returns lines as a terminal can show them, with the tabs in them."""
+    if text.isascii() and text.replace("\n", "").isprintable():
+        return text
+    return "\n".join("\t".join(map(printable, it.split("\t"))) for it in text.split("\n"))

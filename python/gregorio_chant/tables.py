@@ -3,22 +3,21 @@ from __future__ import annotations
 
 import csv
 import io
-import json
 from collections.abc import Callable, Iterable, Sequence
 from contextlib import nullcontext
 from dataclasses import dataclass
 from functools import partial
 from typing import Protocol, Union
 
-from gregorio_chant import files
 from gregorio_chant.dump import Score, ScoreError
+from gregorio_chant.files import Reader
 from gregorio_chant.processes import by_processes
 from gregorio_chant.progress import bar
-from gregorio_chant.reports import counted
+from gregorio_chant.reports import counted, json_of
 from gregorio_chant.results import Kind, Message, Status
 from gregorio_chant.settings import Finder
 from gregorio_chant.source import Source
-from gregorio_chant.streams import CANNOT_READ_OR_WRITE, STDIN, printable, reason_of, tell, write
+from gregorio_chant.streams import CANNOT_READ_OR_WRITE, STDIN, printable, reason_of, tell, write, write_data
 from gregorio_chant.walk import find_scores
 
 FORMS = ("text", "csv", "json")
@@ -81,16 +80,16 @@ class Made:
     def told(self) -> str | None:
         """Returns what is said of the file on standard error, if something is."""
         if self.failure is not None:
-            return f"cannot read {printable(self.name)}: {self.failure}"
+            return f"cannot read {self.name}: {self.failure}"
         if self.fault is not None:
-            return f"{printable(self.shown_name)}:{self.fault.line}:{self.fault.column}: {self.fault.code}: {self.fault.text}; nothing after it was read"
+            return f"{self.shown_name}:{self.fault.line}:{self.fault.column}: {self.fault.code}: {self.fault.text}; nothing after it was read"
         return None
 
 
-def made_of(name: str, make: Maker) -> Made:
+def made_of(name: str, make: Maker, reader: Reader) -> Made:
     """Returns the rows of a file."""
     try:
-        score = Score.parse(files.read(name).data)
+        score = Score.parse(reader.read(name).data)
         fault = next((it for it in score.messages if it.kind is Kind.FATAL), None)
         return Made(name, tuple(make(score)), fault, None, int(Status.FATAL) if fault else 0)
     except ScoreError as error:
@@ -171,7 +170,7 @@ class Json:
         written = []
         for it in made.rows:
             row = dict(zip((*_PLACE, *self._columns), (made.shown_name, it.line, it.column, *it.cells)))
-            written.append(("\n" if self._is_first else ",\n") + json.dumps(row))
+            written.append(("\n" if self._is_first else ",\n") + json_of(row))
             self._is_first = False
         return "".join(written)
 
@@ -196,19 +195,21 @@ def for_each(wanted: Wanted, make: Maker, take: Callable[[Made], str]) -> int:
     and returns the worst status. Raises `CannotWrite`, and `SettingsError` or `Missing` before any
     score is read."""
     status = count = number = 0
+    # A cell of CSV may hold whatever a score does.
+    put = write_data if wanted.form == "csv" else write
 
     def fail(name: str, error: OSError) -> None:
         nonlocal status
         status = max(status, CANNOT_READ_OR_WRITE)
-        tell(f"cannot read {printable(name)}: {reason_of(error)}")
+        tell(f"cannot read {name}: {reason_of(error)}")
 
     names = wanted.settings.kept(find_scores(wanted.paths, fail, wanted.exclude), wanted.paths)
-    with by_processes(partial(made_of, make=make), names, wanted.jobs) as all_made, bar("reading", len(names)) as shown:
+    with by_processes(partial(made_of, make=make, reader=Reader.of(wanted.paths)), names, wanted.jobs) as all_made, bar("reading", len(names)) as shown:
         for it in all_made:
             status, count, number = max(status, it.status), count + sum(row.count for row in it.rows), number + (it.failure is None)
             text, told = take(it), it.told()
             with shown.aside(told=told is not None) if text or told else nullcontext():
-                write(text)
+                put(text)
                 if told:
                     tell(told)
             shown.advance()

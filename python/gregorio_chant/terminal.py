@@ -10,11 +10,13 @@ from rich.console import Console
 from rich.progress import BarColumn, MofNCompleteColumn, Progress, TextColumn, TimeRemainingColumn
 from rich.text import Text
 
+from gregorio_chant.ending import undone
 from gregorio_chant.reports import Checked
 from gregorio_chant.results import Kind, Message
 from gregorio_chant.source import Lines
-from gregorio_chant.streams import is_terminal, printable
+from gregorio_chant.streams import Styled, is_terminal, printable, show_cursor
 
+_Part = str | tuple[str, str]
 _STYLES = {Kind.WARNING: "bold yellow", Kind.ERROR: "bold red", Kind.FATAL: "bold white on red"}
 
 
@@ -28,8 +30,8 @@ class TextReporter:
         self._printed = io.StringIO()
         self._console = Console(file=self._printed, force_terminal=is_terminal() or None, highlight=False, markup=False, emoji=False)
 
-    def _take(self) -> str:
-        text = self._printed.getvalue()
+    def _take(self) -> Styled:
+        text = Styled(self._printed.getvalue())
         self._printed.seek(0)
         self._printed.truncate()
         return text
@@ -39,26 +41,27 @@ class TextReporter:
         for it, help in checked.helped():
             self._print(checked.shown_name, it, lines.line(it.line))
             if help is not None:
-                self._console.print(Text.assemble(("      = ", "dim"), help), soft_wrap=True)
+                self._line(("      = ", "dim"), help)
         return self._take()
 
     def end(self, summary: str | None) -> str:
         if summary is None:
             return ""
-        self._console.print(Text(summary, "bold"), soft_wrap=True)
+        self._line((summary, "bold"))
         return self._take()
+
+    def _line(self, *parts: _Part) -> None:
+        """Prints a line of parts, each of which may have a style, and is made printable before it gets that."""
+        shown = ((printable(it), "") if isinstance(it, str) else (printable(it[0]), it[1]) for it in parts)
+        self._console.print(Text.assemble(*shown), soft_wrap=True)
 
     def _print(self, name: str, message: Message, line: str) -> None:
         style = _STYLES[message.kind]
-        head = Text.assemble(
-            (f"{printable(name)}:{message.line}:{message.column}", "bold"), ": ", (f"{message.kind.value}: {message.code}", style),
-            f": {message.text}",
-        )
         gutter = f"{message.line:5} | "
         shown, before = window(line, message.column, max(self._console.width - len(gutter), 20))
-        self._console.print(head, soft_wrap=True)
-        self._console.print(Text.assemble((gutter, "dim"), shown), soft_wrap=True)
-        self._console.print(Text.assemble((" " * (len(gutter) - 2) + "| ", "dim"), " " * before, ("^", style)), soft_wrap=True)
+        self._line((f"{name}:{message.line}:{message.column}", "bold"), ": ", (f"{message.kind.value}: {message.code}", style), f": {message.text}")
+        self._line((gutter, "dim"), shown)
+        self._line((" " * (len(gutter) - 2) + "| ", "dim"), " " * before, ("^", style))
 
 
 def window(line: str, column: int, width: int) -> tuple[str, int]:
@@ -99,6 +102,6 @@ class Bar:
 def bar_of(what: str, files: int) -> Iterator[Bar]:
     """Gives a bar over so many files with a word for what is done to them. It is gone afterwards."""
     columns = (TextColumn(what), BarColumn(), MofNCompleteColumn(), TimeRemainingColumn())
-    with Progress(*columns, console=Console(stderr=True), transient=True, redirect_stdout=False, redirect_stderr=False) as progress:
+    with Progress(*columns, console=Console(stderr=True), transient=True, redirect_stdout=False, redirect_stderr=False) as progress, undone(show_cursor):
         progress.add_task(what, total=files)
         yield Bar(progress)

@@ -5,8 +5,10 @@ import os
 import stat
 from collections.abc import Iterable, Iterator, Sequence
 
+from gregorio_chant.files import BESIDE, is_below, sweep
 from gregorio_chant.ignored import FILE, LeftOut, Tell
 from gregorio_chant.streams import STDIN
+from gregorio_chant.streams import tell as tell_user
 
 _ENDING = ".gabc"
 
@@ -16,8 +18,8 @@ def find_scores(paths: Iterable[str], tell: Tell, exclude: Sequence[str] = ()) -
     in order.
 
     Of a folder these are left out: what is no plain file, what a `.gitignore` or a pattern of
-    `exclude` names, and the folder `.git`. Links to files are taken, links to folders are not
-    followed. Raises `Missing` where there are such patterns and no package that reads them, and
+    `exclude` names, and the folder `.git`. Links to files are taken as long as they lead below the
+    folder, and others are told; links to folders are not followed. Raises `Missing` where there are such patterns and no package that reads them, and
     `UnknownCode` for an `exclude` that is no pattern.
     """
     names: list[str] = []
@@ -30,13 +32,16 @@ def find_scores(paths: Iterable[str], tell: Tell, exclude: Sequence[str] = ()) -
 
 
 def _below(folder: str, top: LeftOut, tell: Tell) -> Iterator[str]:
+    root = os.path.realpath(folder)
     waiting = [(folder, top)]
     while waiting:
         where, left_out = waiting.pop()
         entries = _entries(where, tell)
         if any(it.name == FILE for it in entries):
             left_out = left_out.with_file_of(where, tell)
-        yield from (it.path for it in entries if _is_score(it) and not left_out.names(it.name))
+        if any(it.name.startswith(BESIDE) for it in entries):
+            sweep(where)
+        yield from (it.path for it in entries if _is_score(it) and not left_out.names(it.name) and _stays_below(it, root))
         inner = [it for it in entries if it.is_dir(follow_symlinks=False) and not left_out.names(it.name, is_folder=True)]
         waiting += [(it.path, left_out.below(it.name)) for it in reversed(inner)]
 
@@ -64,3 +69,15 @@ def _is_score(entry: os.DirEntry[str]) -> bool:
         return stat.S_ISREG(entry.stat().st_mode)
     except OSError:
         return True
+
+
+def _stays_below(entry: os.DirEntry[str], root: str) -> bool:
+    """Whether it is no link, or one that leads to a file below the folder; the user is told of
+    another one. A link that leads nowhere stays: reading it says why."""
+    if not entry.is_symlink():
+        return True
+    path = os.path.realpath(entry.path)
+    if is_below(path, root) or not os.path.exists(path):
+        return True
+    tell_user(f"{entry.path} is passed by: this link leads out of the folder; name it to have it read")
+    return False

@@ -15,7 +15,7 @@ from gregorio_chant.selection import UnknownCode
 from gregorio_chant.settings import NAME as SETTINGS
 from gregorio_chant.settings import SettingsError
 from gregorio_chant.showing import Wanted, show
-from gregorio_chant.streams import CANNOT_READ_OR_WRITE, STDIN, printable, reason_of, tell
+from gregorio_chant.streams import CANNOT_READ_OR_WRITE, STDIN, reason_of, tell
 from gregorio_chant.walk import has_name_of_score
 
 # How long it waits for what is written at the same time, in seconds.
@@ -91,8 +91,6 @@ def watch(wanted: Callable[[], Wanted]) -> int:
     try:
         _write(first)
         _again(wanted, changed)
-    except KeyboardInterrupt:
-        return 0
     finally:
         observer.stop()
         observer.join()
@@ -100,7 +98,7 @@ def watch(wanted: Callable[[], Wanted]) -> int:
 
 def _write(wanted: Wanted) -> None:
     show(wanted)
-    tell(f"wrote {printable(wanted.output or '')}")
+    tell(f"wrote {wanted.output or ''}")
 
 
 def _again(wanted: Callable[[], Wanted], changed: threading.Event) -> NoReturn:

@@ -18,7 +18,7 @@ EXAMPLES = ROOT / "examples"
 SCORE = "name: Kyrie;\n%%\n(c4) Ky(f)ri(gfg)e(e.) (::)\n"
 CANONICAL = "name: Kyrie;\n%%\n(c4)\nKy(f)ri(gfg)e(e.)\n(::)\n"
 FAULTY = "name: Kyrie;\n%%\n(c4) Ky(g5)ri(g)\n"
-_NOBODY = 65534
+NOBODY = 65534
 
 
 def has(module: str) -> bool:
@@ -43,10 +43,10 @@ def _nobody() -> int | None:
     if os.geteuid() != 0:
         return None
     try:
-        subprocess.run([sys.executable, "-c", ""], user=_NOBODY, group=_NOBODY, check=True)
+        subprocess.run([sys.executable, "-c", ""], user=NOBODY, group=NOBODY, check=True)
     except (OSError, subprocess.SubprocessError):
         raise unittest.SkipTest("this Python cannot be run by everybody") from None
-    return _NOBODY
+    return NOBODY
 
 
 def command(

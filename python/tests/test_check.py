@@ -207,8 +207,8 @@ class Paths(InFolder):
 
     def test_names_that_are_not_utf8(self) -> None:
         self.put(b"\xff\xe9.gabc", FAULTY)
-        self.assertEqual(self.lines("."), [b"./\xff\xe9.gabc"])
-        self.assertEqual(command("check", "--output-format", "lines", b"\xff").stderr.split(b"\n")[0], b"gregorio-chant: cannot read \xff: No such file or directory")
+        self.assertEqual(self.lines("."), [rb"./\xff\xe9.gabc"])
+        self.assertEqual(command("check", "--output-format", "lines", b"\xff").stderr.split(b"\n")[0], rb"gregorio-chant: cannot read \xff: No such file or directory")
         self.assertIn(b'"./\\udcff\\udce9.gabc"', command("check", "--output-format", "json", ".").stdout)
         self.assertIn(b'"%FF%E9.gabc"', command("check", "--output-format", "sarif", ".").stdout)
         if has("rich"):

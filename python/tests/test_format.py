@@ -106,18 +106,17 @@ class Loss(InFolder):
 
 class Files(InFolder):
     def test_mode_and_links(self) -> None:
-        target = self.put("elsewhere/target.gabc", SCORE)
+        target = self.put("scores/elsewhere/target.gabc.txt", SCORE)
         target.chmod(0o604)
-        os.mkdir("scores")
-        os.symlink("../elsewhere/target.gabc", "scores/link.gabc")
+        os.symlink("elsewhere/target.gabc.txt", "scores/link.gabc")
         self.put("scores/a b.gabc", SCORE).chmod(0o640)
         self.assertEqual(command("format", "--canonical", "--quiet", "scores").returncode, 0)
-        self.assertEqual(os.readlink("scores/link.gabc"), "../elsewhere/target.gabc")
-        for name, mode in (("elsewhere/target.gabc", 0o604), ("scores/a b.gabc", 0o640)):
+        self.assertEqual(os.readlink("scores/link.gabc"), "elsewhere/target.gabc.txt")
+        for name, mode in (("scores/elsewhere/target.gabc.txt", 0o604), ("scores/a b.gabc", 0o640)):
             self.assertEqual(Path(name).read_text(), CANONICAL)
             self.assertEqual(stat.S_IMODE(os.stat(name).st_mode), mode)
-        self.assertEqual(sorted(os.listdir("scores")), ["a b.gabc", "link.gabc"])
-        self.assertEqual(os.listdir("elsewhere"), ["target.gabc"])
+        self.assertEqual(sorted(os.listdir("scores")), ["a b.gabc", "elsewhere", "link.gabc"])
+        self.assertEqual(os.listdir("scores/elsewhere"), ["target.gabc.txt"])
 
     def test_hard_links(self) -> None:
         file = self.put("a.gabc", SCORE)

@@ -56,7 +56,7 @@ class Serving(Asking):
         """Ends the server as Control-C does: it has said nothing but its address."""
         server.send_signal(signal.SIGINT)
         self.assertEqual(server.communicate(timeout=20), (b"", b""))
-        self.assertEqual(server.returncode, 0)
+        self.assertEqual(server.returncode, 130)
 
     def answer(self, score: bytes, **headers: str) -> Any:
         status, body, _ = self.ask("POST", "/score", score, **headers)

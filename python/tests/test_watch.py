@@ -31,7 +31,7 @@ class Watching(InFolder):
     def stop(self) -> None:
         """Ends it as Control-C does."""
         self.running.send_signal(signal.SIGINT)
-        self.assertEqual(self.running.wait(20), 0)
+        self.assertEqual(self.running.wait(20), 130)
         self.reader.join(20)
         for it in (self.running.stdout, self.running.stderr):
             assert it is not None

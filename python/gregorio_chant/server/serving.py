@@ -4,6 +4,7 @@ from __future__ import annotations
 import sys
 from threading import Thread
 
+from gregorio_chant.ending import undone
 from gregorio_chant.server.inbox import Inbox
 from gregorio_chant.server.session import Session
 from gregorio_chant.server.wire import Wire
@@ -18,13 +19,14 @@ def serve(with_rules: bool, settings: Finder) -> int:
     # What is read waits in the inbox while a score is checked, so that a change is known to be overtaken.
     answering = Thread(target=session.run, args=(inbox,))
     answering.start()
-    try:
-        for it in wire.messages():
-            if isinstance(it, dict) and it.get("method") == "exit":
-                break
-            inbox.put(it)
-    finally:
-        inbox.close()
-        answering.join()
-        session.close()
+    with undone(session.close):
+        try:
+            for it in wire.messages():
+                if isinstance(it, dict) and it.get("method") == "exit":
+                    break
+                inbox.put(it)
+        finally:
+            inbox.close()
+            answering.join()
+            session.close()
     return 0 if session.is_shut_down else 1

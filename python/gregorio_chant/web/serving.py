@@ -2,6 +2,7 @@
 from __future__ import annotations
 
 import socket
+from contextlib import AbstractContextManager, nullcontext
 
 import uvicorn
 
@@ -9,6 +10,17 @@ from gregorio_chant.loopback import ADDRESS, own_names
 from gregorio_chant.streams import CANNOT_READ_OR_WRITE, reason_of, tell, write
 from gregorio_chant.web.answers import Answers
 from gregorio_chant.web.app import app_of
+
+
+class _Server(uvicorn.Server):  # type: ignore[misc]
+    """Leaves signals to the command, which ends at once."""
+
+    def install_signal_handlers(self) -> None:
+        """Installs none."""
+
+    def capture_signals(self) -> AbstractContextManager[None]:
+        """Installs none; releases of uvicorn from 0.29 on ask here."""
+        return nullcontext()
 
 
 def serve(port: int, answers: Answers) -> int:
@@ -29,8 +41,5 @@ def serve(port: int, answers: Answers) -> int:
             app, http="h11", ws="none", lifespan="off", log_config=None, log_level="error", access_log=False, proxy_headers=False, server_header=False,
         )
         write(f"http://{ADDRESS}:{bound}/\n")
-        try:
-            uvicorn.Server(config).run(sockets=[listening])
-        except KeyboardInterrupt:
-            pass
+        _Server(config).run(sockets=[listening])
     return 0

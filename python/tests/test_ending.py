@@ -1,0 +1,139 @@
+"""Tries signals at any moment of each command: it ends at once with its status, says nothing, and leaves nothing half written and no process."""
+from __future__ import annotations
+
+import os
+import random
+import signal
+import subprocess
+import sys
+import time
+import unittest
+from pathlib import Path
+
+from support import CANONICAL, FAULTY, SCORE, InFolder, has
+
+# At so many moments each command is interrupted; with GREGORIO_LONG=1 forty.
+MOMENTS = 40 if os.environ.get("GREGORIO_LONG") else 3
+# How long a command may go on after a signal, in seconds, on a machine that does little else.
+PATIENCE = 2.0
+_COMMANDS: dict[str, tuple[str, ...]] = {
+    "check": ("check", "--output-format", "lines", "s"), "rules": ("check", "--rules", "--output-format", "lines", "s"), "fix": ("check", "--fix", "s"),
+    "format": ("format", "--canonical", "s"), "format alone": ("format", "--canonical", "--jobs", "1", "s"), "format stdin": ("format", "-"),
+    "show": ("show", "-o", "page.html", "s"), "show folder": ("show", "-o", "pages/", "s"), "index": ("index", "s"), "find": ("find", "--text", "e", "s"),
+    "neumes": ("neumes", "--jobs", "4", "s"), "server": ("server",), "explain": ("explain", "--all"), "version": ("version",),
+}
+_NEED = {
+    "check text": (("check", "s"), "rich"), "export": (("export", "--to", "midi", "--folder", "midi", "s"), "mido"), "page": (("page",), "uvicorn"),
+    "watch": (("show", "--watch", "-o", "page.html", "s"), "watchdog"),
+}
+# The bit of SIGTERM in the masks of /proc.
+_TERM = 1 << (signal.SIGTERM - 1)
+
+
+def catches_signals(process: subprocess.Popen[bytes]) -> bool:
+    """Returns whether the process is so far that a signal does what the command wants: before that, Python itself begins."""
+    status = Path(f"/proc/{process.pid}/status").read_text(encoding="ascii")
+    return bool(int(status.partition("SigCgt:")[2].split()[0], 16) & _TERM)
+
+
+def processes_of(group: int) -> list[str]:
+    """Returns the numbers of the processes of a group that live."""
+    found = []
+    for it in Path("/proc").glob("[0-9]*/stat"):
+        try:
+            state, _, its = it.read_text(encoding="utf-8", errors="replace").rpartition(")")[2].split()[:3]
+        except (OSError, ValueError):
+            continue
+        if its == str(group) and state not in "ZX":
+            found.append(it.parent.name)
+    return found
+
+
+@unittest.skipUnless(sys.platform == "linux", "it looks into /proc")
+class Signals(InFolder):
+    def setUp(self) -> None:
+        super().setUp()
+        self.chance = random.Random(83)
+        os.mkdir("midi")
+        self.fill()
+
+    def fill(self) -> None:
+        for number in range(80):
+            self.put(f"s/{number:03}.gabc", FAULTY.replace(" ", "  ") if number % 4 == 0 else SCORE)
+
+    def interrupt(self, words: tuple[str, ...], number: signal.Signals, wait: float) -> None:
+        """Sends a signal so long after the command has begun, and looks at what is left."""
+        run = subprocess.Popen(
+            [sys.executable, "-m", "gregorio_chant", *words], stdin=subprocess.PIPE, stdout=subprocess.DEVNULL, stderr=subprocess.PIPE, start_new_session=True,
+        )
+        while run.poll() is None and not catches_signals(run):
+            time.sleep(0.001)
+        time.sleep(wait)
+        begin = time.monotonic()
+        if number is signal.SIGINT:
+            os.killpg(run.pid, number)
+        else:
+            run.send_signal(number)
+        _, told = run.communicate(timeout=60)
+        seconds = time.monotonic() - begin
+        self.assertNotIn(b"Traceback", told, words)
+        self.assertNotIn(b"Exception", told, words)
+        if run.returncode not in (0, 1, 4):
+            self.assertEqual(run.returncode, 128 + number, (words, wait, told))
+            self.assertLess(seconds, PATIENCE, (words, wait))
+        end = time.monotonic() + 5
+        while (left := processes_of(run.pid)) and time.monotonic() < end:
+            time.sleep(0.01)
+        self.assertEqual(left, [], words)
+        self.check_files()
+
+    def check_files(self) -> None:
+        for it in Path(".").rglob("*"):
+            self.assertFalse(it.name.startswith(".gregorio-chant."), it)
+            if it.suffix == ".html":
+                self.assertTrue(it.read_text(encoding="utf-8").rstrip().endswith("</html>"), it)
+            elif it.suffix == ".mid":
+                self.assertEqual(it.read_bytes()[-3:], b"\xff\x2f\x00", it)
+            elif it.suffix == ".gabc":
+                self.assertIn(it.read_text(encoding="utf-8")[-1:], "\n", it)
+        self.assertLessEqual({it.read_text(encoding="utf-8") for it in Path("s").glob("*.gabc")} - {SCORE, CANONICAL}, _FAULTY)
+
+    def try_all(self, words: tuple[str, ...]) -> None:
+        for moment in range(MOMENTS):
+            self.fill()
+            wait = self.chance.uniform(0, 0.6) if moment else self.chance.uniform(0, 0.05)
+            self.interrupt(words, signal.SIGINT if moment % 2 == 0 else signal.SIGTERM, wait)
+
+    def test_commands(self) -> None:
+        for name, words in _COMMANDS.items():
+            with self.subTest(name):
+                self.try_all(words)
+
+    def test_commands_that_stand_on_packages(self) -> None:
+        for name, (words, package) in _NEED.items():
+            if has(package):
+                with self.subTest(name):
+                    self.try_all(words)
+
+    def test_before_anything(self) -> None:
+        """SIGTERM ends the command also while Python begins, and what was ignored is ignored."""
+        run = subprocess.Popen([sys.executable, "-m", "gregorio_chant", "server"], stdin=subprocess.PIPE, stderr=subprocess.PIPE)
+        run.terminate()
+        self.assertEqual((run.communicate(timeout=20)[1], run.returncode in (-signal.SIGTERM, 128 + signal.SIGTERM)), (b"", True))
+        ignored = signal.signal(signal.SIGINT, signal.SIG_IGN)
+        try:
+            run = subprocess.Popen([sys.executable, "-m", "gregorio_chant", "format", "-"], stdin=subprocess.PIPE, stdout=subprocess.PIPE)
+        finally:
+            signal.signal(signal.SIGINT, ignored)
+        while not catches_signals(run):
+            time.sleep(0.001)
+        run.send_signal(signal.SIGINT)
+        self.assertEqual(run.communicate(SCORE.encode())[0], SCORE.encode())
+
+
+# What stands in a faulty score: as it was, formatted, and repaired.
+_FAULTY = {FAULTY.replace(" ", "  "), FAULTY}
+
+
+if __name__ == "__main__":
+    unittest.main()
