@@ -10,20 +10,26 @@ import itertools
 import re
 from collections import Counter
 from collections.abc import Callable, Iterable, Iterator, Sequence
-from dataclasses import dataclass
+from dataclasses import dataclass, replace
 
 from gregorio_chant.compiled import Compiled
-from gregorio_chant.helps import Subject, open_styles
+from gregorio_chant.helps import TAGS, Subject, open_styles
+from gregorio_chant.items import plain_text
 from gregorio_chant.layout import after_lead
 from gregorio_chant.results import Message
 from gregorio_chant.rules import messages_with_rules, unsilenced
-from gregorio_chant.scan import Span
+from gregorio_chant.scan import Scan, Span, SyllableSpan
 from gregorio_chant.selection import Selection
 from gregorio_chant.source import raw_offsets, text_of
 
 # How many repairs are tried one by one, where not all can be made at once.
 _MOST_TRIED = 200
 _SCORE = "name: Kyrie;\n%%\n(c4) "
+_NO_LETTERS = re.compile(r"[\W_]+")
+# A tag's name, which may be whole, at the end of a text.
+_NAME_AT_END = re.compile(rf"(/?)({'|'.join(sorted(TAGS, key=len, reverse=True))})$")
+# A `<` that begins no word, and takes notes or a line end for its tag.
+_SWALLOWS = re.compile(r"<(?![A-Za-z/])[^>]*[(\n]")
 _BARRED = re.compile(r"<sp>([ARV][^/<]?)</sp>")
 
 
@@ -66,10 +72,22 @@ class Repair:
 
 
 def _escape(subject: Subject, at: int) -> _Edits:
-    it = subject.text[at : at + 1]
-    if it == ")" and subject.text[:at].endswith(")") or it == "<" and not re.match(r"<[^>]*[(\n]", subject.text[at:]):
+    """Writes `$` before a `>`, but not before one that may end a tag whose `<` is lost. A `)` and a `]` are never made text: their `(` or `[` is lost."""
+    if not subject.text.startswith(">", at) or _may_end_tag(subject, at):
         return ()
-    return (Edit(at, "", "$"),) if it and it in "<>)]" else ()
+    return (Edit(at, "", "$"),)
+
+
+def _may_end_tag(subject: Subject, at: int) -> bool:
+    """Returns whether the name of a tag stands before this `>`, and its end or its begin in the same text."""
+    name = _NAME_AT_END.search(subject.text, max(0, at - 10), at)
+    it = subject.syllable_at(at)
+    return name is not None and (name[1] == "/" or it is not None and f"</{name[2]}>" in subject.text[at : it.notes])
+
+
+def _escape_less(subject: Subject, at: int) -> _Edits:
+    found = _SWALLOWS.match(subject.text, at)
+    return (Edit(at, "", "$"),) if found else ()
 
 
 def _style_in_each_syllable(subject: Subject, at: int) -> _Edits:
@@ -144,12 +162,15 @@ REPAIRS: dict[str, Repair] = {
     it.name: it
     for it in (
         Repair(
-            "escape", frozenset(("E2", "W6")), True, "Writes $ before a <, > or ) that stands in a text for itself.",
-            _escape, "Ky>(f)ri(g)", "Ky$>(f)ri(g)",
+            "escape", frozenset(("E2",)), True, "Writes $ before a > that stands in a text for itself.", _escape, "Ky>(f)ri(g)", "Ky$>(f)ri(g)",
         ),
         Repair(
             "style-in-each-syllable", frozenset(("W3",)), True, "Closes a style over several syllables in each of them, and opens it again in the next.",
             _style_in_each_syllable, "<i>Ky(f)ri(g)e</i>(h)", "<i>Ky</i>(f)<i>ri</i>(g)<i>e</i>(h)",
+        ),
+        Repair(
+            "escape-less", frozenset(("W6",)), False, "Writes $ before a < that takes notes for its tag, so that they are notes again.",
+            _escape_less, "Ky<(f)ri(g>)", "Ky$<(f)ri(g>)",
         ),
         Repair(
             "sign-before-attribute", frozenset(("E1",)), False, "Moves a letter or sign of a note before the attribute that it stands after.",
@@ -183,6 +204,15 @@ REPAIRS: dict[str, Repair] = {
 
 
 # ---- the judge
+
+
+@dataclass(frozen=True)
+class Proposal:
+    """The edits that a repair would make for a message, the first one first."""
+
+    message: Message
+    repair: Repair
+    edits: _Edits
 
 
 class _Moved:
@@ -232,7 +262,7 @@ def _alike(olds: Sequence[str], news: Sequence[str]) -> int:
 def _differs_there_alone(old: Compiled, new: Compiled, places: Sequence[int]) -> bool:
     """Returns whether the canonical forms differ in headers and syllables alone that hold one of the `places` of the old text."""
     source, before, after = old.comparison.source, old.comparison.written, new.comparison.written
-    if [before.text[it.begin : it.end] for it in before.headers] != [after.text[it.begin : it.end] for it in after.headers]:
+    if _headers(before) != _headers(after):
         if not any(it <= source.score for it in places):
             return False
     olds = [before.text[it.begin : it.end] for it in before.syllables]
@@ -245,7 +275,26 @@ def _differs_there_alone(old: Compiled, new: Compiled, places: Sequence[int]) ->
     return all(_is_touched(it, places) for it in changed)
 
 
-def _is_repaired(old: Compiled, new: Compiled, edits: _Edits, targets: Sequence[Message], with_rules: bool) -> bool:
+def _sings_the_same(old: Compiled, new: Compiled) -> bool:
+    """Returns whether the canonical forms have the same headers, notes and NABC, and the letters that are sung are the same."""
+    before, after = old.comparison.written, new.comparison.written
+    return len(before.syllables) == len(after.syllables) and _headers(before) == _headers(after) and all(
+        before.text[a.notes : a.end] == after.text[b.notes : b.end] and _sung(before, a) == _sung(after, b)
+        for a, b in zip(before.syllables, after.syllables)
+    )
+
+
+def _headers(written: Scan) -> list[str]:
+    return [written.text[it.begin : it.end] for it in written.headers]
+
+
+def _sung(written: Scan, syllable: SyllableSpan) -> str:
+    """Returns the letters and digits of a syllable's text."""
+    return _NO_LETTERS.sub("", plain_text(written.text[syllable.begin : syllable.notes]))
+
+
+def _is_repaired(old: Compiled, new: Compiled, proposals: Sequence[Proposal], with_rules: bool) -> bool:
+    edits = tuple(edit for it in proposals for edit in it.edits)
     if old.fault is not None:
         is_later = new.fault is None or (new.fault.line, new.fault.column) > (old.fault.line, old.fault.column)
         return is_later and not any(it.old for it in edits)
@@ -253,15 +302,26 @@ def _is_repaired(old: Compiled, new: Compiled, edits: _Edits, targets: Sequence[
         return False
     before, after = _messages_at(old, with_rules), _messages_at(new, with_rules, _Moved(edits).before)
     lines = old.comparison.lines
-    wanted = {(it.code, lines.offset(it.line, it.column)) for it in targets}
+    wanted = {(it.message.code, lines.offset(it.message.line, it.message.column)) for it in proposals}
     if after - before or any(it in after for it in wanted):
         return False
     gone = [offset for _, offset in before - after]
     places = sorted([*gone, *(it.offset for it in edits)])
-    return _comments(old) == _comments(new) and _differs_there_alone(old, new, places)
+    if _comments(old) != _comments(new) or not _differs_there_alone(old, new, places):
+        return False
+    return not all(it.repair.is_safe for it in proposals) or _sings_the_same(old, new)
 
 
 # ---- what is made of a score
+
+
+def is_text(data: bytes) -> bool:
+    """Returns whether all of a score is UTF-8, also what stands after a fatal fault: no other one can be repaired."""
+    try:
+        data.decode("utf-8")
+    except UnicodeDecodeError:
+        return False
+    return True
 
 
 def with_edits(data: bytes, edits: Sequence[Edit]) -> bytes:
@@ -285,15 +345,6 @@ class How:
     selection: Selection = Selection()
 
 
-@dataclass(frozen=True)
-class Proposal:
-    """The edits that a repair would make for a message, the first one first."""
-
-    message: Message
-    repair: Repair
-    edits: _Edits
-
-
 def _proposals(score: Compiled, messages: Iterable[Message], allow_unsafe: bool) -> Iterator[Proposal]:
     subject = Subject(text_of(score.data), score.messages)
     for message in messages:
@@ -306,28 +357,28 @@ def _proposals(score: Compiled, messages: Iterable[Message], allow_unsafe: bool)
 
 def repairs_of(score: Compiled, messages: Iterable[Message], with_rules: bool) -> Iterator[Proposal]:
     """Yields each repair of these messages that may be made by itself, unsafe ones too."""
-    if score.fault is not None and score.fault.code == "F1":
+    if not is_text(score.data):
         return
     for it in _proposals(score, messages, allow_unsafe=True):
-        if _is_repaired(score, Compiled(with_edits(score.data, it.edits)), it.edits, [it.message], with_rules):
+        if _is_repaired(score, Compiled(with_edits(score.data, it.edits)), [it], with_rules):
             yield it
 
 
-def _together(proposals: Sequence[Proposal]) -> tuple[list[Message], _Edits]:
-    """Returns the messages and edits of as many proposals as can be made together: none begins before the one before it ends."""
-    targets: list[Message] = []
-    edits: list[Edit] = []
+def _together(proposals: Sequence[Proposal]) -> list[Proposal]:
+    """Returns as many proposals as can be made together: none begins before the one before it ends."""
+    taken: list[Proposal] = []
     for it in sorted(proposals, key=lambda it: it.edits):
-        if not edits or edits[-1].end < it.edits[0].offset:
-            targets.append(it.message)
-            edits += it.edits
-    return targets, tuple(edits)
+        if not taken or taken[-1].edits[-1].end < it.edits[0].offset:
+            taken.append(it)
+    return taken
 
 
 def repaired(data: bytes, how: How) -> bytes:
-    """Returns the score with all repairs that can be made of messages that are reported."""
+    """Returns the score with all repairs that can be made of messages that are reported: the safe ones first."""
     while True:
-        made = repaired_once(data, how)
+        made = repaired_once(data, replace(how, allow_unsafe=False))
+        if made == data and how.allow_unsafe:
+            made = repaired_once(data, how)
         if made == data:
             return data
         data = made
@@ -335,15 +386,15 @@ def repaired(data: bytes, how: How) -> bytes:
 
 def repaired_once(data: bytes, how: How) -> bytes:
     """Returns the score with as many repairs as can be made together, or else the first one that can be made alone."""
-    old = Compiled(data)
-    if old.fault is not None and old.fault.code == "F1":
+    if not is_text(data):
         return data
+    old = Compiled(data)
     messages = how.selection.of(_found(old, how.with_rules))
     proposals = list(itertools.islice(_proposals(old, messages, how.allow_unsafe), _MOST_TRIED))
     tries = [_together(proposals)] if len(proposals) > 1 else []
-    tries += [([it.message], it.edits) for it in proposals]
-    for targets, edits in tries:
-        made = with_edits(data, edits)
-        if _is_repaired(old, Compiled(made), edits, targets, how.with_rules):
+    tries += [[it] for it in proposals]
+    for them in tries:
+        made = with_edits(data, [edit for it in them for edit in it.edits])
+        if _is_repaired(old, Compiled(made), them, how.with_rules):
             return made
     return data

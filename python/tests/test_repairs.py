@@ -19,8 +19,9 @@ _SCORE = "name: a;\n%%\n(c4) "
 _NABC = "name: a;\nnabc-lines: 1;\n%%\n(c4) "
 # Scores, and what all repairs make of them; nothing where none can be made.
 REPAIRED: list[tuple[str, str | None]] = [
-    (f"{_SCORE}a)(g) b>(h) c](i) d<(g) e(h>)\n", f"{_SCORE}a$)(g) b$>(h) c$](i) d$<(g) e(h>)\n"),
+    (f"{_SCORE}a)(g) b>(h) c](i) d<(g) e(h>)\n", f"{_SCORE}a)(g) b$>(h) c](i) d$<(g) e(h>)\n"),
     (f"{_SCORE}a(g)) b(h)\n", None),
+    (f"{_SCORE}i>a</i>(g) /i>(h) <x(i) e(h>)\n", None),
     (f"{_SCORE}<i>a(g)b(h)  % <b>\n c</i>d(i)\n", f"{_SCORE}<i>a</i>(g)<i>b</i>(h)  % <b>\n <i>c</i>d(i)\n"),
     (f"{_SCORE}<i>a<b>b(g) (;) c</b>d(h) e</i>(i)", f"{_SCORE}<i>a<b>b</b></i>(g) (;) <b><i>c</b>d</i>(h) <i>e</i>(i)"),
     (f"{_SCORE}<i>a(g) b(h)", None),
@@ -108,7 +109,9 @@ class Repairs(unittest.TestCase):
             ((escape,), True),
             ((escape, Edit(elsewhere, "", "&")), False),
             ((escape, Edit(elsewhere, "", "[")), False),
-            ((escape, Edit(0, "", "mode: 1;\n")), True),
+            ((escape, Edit(0, "", "mode: 1;\n")), False),
+            ((escape, Edit(at, "", "b")), False),
+            ((Edit(at, "", "(f)$"),), False),
             ((escape, Edit(comment, "% c", "")), False),
             ((escape, Edit(comment, "% c", "% d")), False),
             ((escape, Edit(elsewhere + 2, " ", "  ")), True),
@@ -125,7 +128,8 @@ class Repairs(unittest.TestCase):
             wrong = replace(REPAIRS["end-header"], find=lambda subject, offset, edits=edits: edits)
             with mock.patch.dict(repairs.REPAIRS, {"end-header": wrong}):
                 self.assertEqual(check(repaired(score, ALL)).status is not Status.FATAL, is_made)
-        self.assertEqual(repaired(b"name: \xe9\n%%\n(c4) a>(g", ALL), b"name: \xe9\n%%\n(c4) a>(g")
+        for score in (b"name: \xe9\n%%\n(c4) a>(g", b"name: x\n%%\n(c4) a>(f)\n\xff\n", b"name: x;\n%%\n(c4) a>(f)\nb(\xff\n"):
+            self.assertEqual(repaired(score, ALL), score)
 
 
 class Command(InFolder):
