@@ -39,7 +39,7 @@ _gregorio_chant_scores() {
 _gregorio_chant() {
   local word="${COMP_WORDS[COMP_CWORD]}" before="${COMP_WORDS[COMP_CWORD - 1]}" command="${COMP_WORDS[1]}"
   local codes='E E1 E2 E3 E4 E5 E6 W W1 W2 W3 W4 W5 W6 W7 W8 W9 W10 W11 W12 F F1 F2 F3 F4 F5 F6 F7'
-  local rules='outside-staff bracket-in-attribute nabc-without-header comment asterisk-without-bar clef-off-staff unknown-mode blank-before-notes lone-capital unknown-special unused-ignore'
+  local rules='outside-staff bracket-in-attribute nabc-without-header comment asterisk-without-bar clef-off-staff unknown-mode mode-without-number misspelled-header blank-before-notes late-punctuation missing-blank bar-as-text typed-hyphen html-entity syllable-without-notes notes-in-translation unused-alteration second-score-line lone-capital unknown-special unused-ignore'
   COMPREPLY=()
   if [ "$COMP_CWORD" = 1 ] && [[ $word != -* ]]; then
     mapfile -t COMPREPLY < <(compgen -W 'check format show page explain export find index neumes server version' -- "$word")

@@ -33,7 +33,8 @@ def _page(title: str, meaning: str, wrong: str, right: str) -> str:
 
 def _repair_of(repair: Repair) -> str:
     words = "check --fix" if repair.is_safe else "check --fix --unsafe-fixes"
-    lines = ["", textwrap.fill(f"Repair {repair.name}, by {words}: {repair.meaning}", _WIDTH, break_long_words=False, break_on_hyphens=False)]
+    told = f"Repair {repair.name}, by {words}: {repair.meaning}" + ("" if repair.is_safe else f" A guess: {repair.changes}.")
+    lines = ["", textwrap.fill(told, _WIDTH, break_long_words=False, break_on_hyphens=False)]
     for head, line in (("Before:", repair.wrong), ("After:", repair.right)):
         lines += ["", head, *(f"    {shown(it)}" for it in line.split("\n"))]
     return "\n".join(lines) + "\n"

@@ -4,22 +4,25 @@ from __future__ import annotations
 from gregorio_chant import files
 from gregorio_chant.checking import Wanted
 from gregorio_chant.formatting import difference
-from gregorio_chant.repairs import How, repaired
+from gregorio_chant.repairing import How, repair
 from gregorio_chant.reports import counted
 from gregorio_chant.streams import CANNOT_READ_OR_WRITE, reason_of, tell, write_data
 from gregorio_chant.walk import find_scores
 
 
 def _fix(name: str, reader: files.Reader, how: How, shows_diff: bool) -> bool:
-    """Repairs a file, or shows what would be repaired, and returns whether there is something to repair. Raises `OSError` and `files.Changed`."""
+    """Repairs a file, or shows what would be repaired, tells each guess, and returns whether there is something to repair. Raises `OSError` and
+    `files.Changed`."""
     content = reader.read(name)
-    made = repaired(content.data, how)
-    if made == content.data:
+    made = repair(content.data, how)
+    if made.data == content.data:
         return False
     if shows_diff:
-        write_data(difference(name, f"{name} (repaired)", content.data.decode("utf-8"), made.decode("utf-8")))
+        write_data(difference(name, f"{name} (repaired)", content.data.decode("utf-8"), made.data.decode("utf-8")))
     else:
-        files.replace(name, content, made)
+        files.replace(name, content, made.data)
+    for it in made.guesses:
+        tell(f"{name}:{it}")
     return True
 
 

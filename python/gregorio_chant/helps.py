@@ -4,23 +4,23 @@ All is read off the text of the score, so a help may be wrong where the text is 
 """
 from __future__ import annotations
 
-import bisect
-import difflib
 import re
 import unicodedata
 from collections.abc import Callable, Iterable
-from functools import cached_property
 
+from gregorio_chant.guesses import Bracket
+from gregorio_chant.nearest import nearest
 from gregorio_chant.results import Message
-from gregorio_chant.scan import HeaderSpan, Scan, SyllableSpan, scan
-from gregorio_chant.source import Lines
+from gregorio_chant.slips import (
+    APOSTROPHES, NOTES, Meant, Subject, bars_for, clef_for, closing_bracket, meant_header, open_styles, opening_bracket, readings, struck_for_mark,
+    unread_score_line,
+)
+from gregorio_chant.vocabulary import HTML_TAGS, NABC_CODES, TAGS
 
-_LEFT_OUT = frozenset(("E1", "E2", "E3"))
-_STYLES = ("b", "c", "e", "i", "sc", "tt", "ul")
-TAGS = (*_STYLES, "eu", "nlba", "v", "sp", "alt")
-NABC_CODES = "vi pu ta gr cl pe po to ci sc pf sf tr st ds ts tg bv tv pr pi vs or sa pq pt ql qi un oc ni".split()
-_STYLE_TAG = re.compile(r"\$.|<(/?)(b|c|e|i|sc|tt|ul)>", re.DOTALL)
 _TAG = re.compile(r"<(/?)([^>]*)>")
+_NAME = re.compile(r"/?([A-Za-z]+)")
+_PAGE = re.compile(r"\s*<(?:!doctype|html|head|body|\?xml)\b", re.IGNORECASE)
+_RAW = ("v", "sp", "alt")
 _CLOSERS = {"(": ")", "[": "]", "<": ">"}
 _LONGEST = 40
 
@@ -33,59 +33,45 @@ def named(text: str) -> str:
     return f"'{shown}'" if len(shown) <= _LONGEST else f"'{shown[:_LONGEST]}..'"
 
 
-class Subject:
-    """The text of a score, and where its messages stand."""
-
-    def __init__(self, text: str, messages: Iterable[Message]) -> None:
-        self.lines = Lines(text)
-        self.text = text
-        self._messages = tuple(messages)
-
-    @cached_property
-    def left_out(self) -> frozenset[int]:
-        return frozenset(self.offset(it) for it in self._messages if it.code in _LEFT_OUT)
-
-    @cached_property
-    def scan(self) -> Scan:
-        return scan(self.text, self.left_out)
-
-    def offset(self, message: Message) -> int:
-        return self.lines.offset(message.line, message.column)
-
-    def place(self, offset: int) -> str:
-        """Returns a place as messages write it: line and column."""
-        place = self.lines.place(offset)
-        return f"{place.line}:{place.column}"
-
-    def syllable_at(self, offset: int) -> SyllableSpan | None:
-        number = self.scan.syllables.number_at(offset)
-        return None if number is None else self.scan.syllables[number]
-
-    def header_at(self, offset: int) -> HeaderSpan | None:
-        number = bisect.bisect_right(self.scan.headers, offset, key=lambda it: it.begin) - 1
-        return self.scan.headers[number] if number >= 0 else None
-
-    def unclosed(self, offset: int) -> int | None:
-        """Returns where the `(` stands that probably lacks its `)`, where `offset` lies in notes that hold another `(` after it."""
-        it = self.syllable_at(offset)
-        if it is None or offset <= it.notes:
-            return None
-        inner = self.text.find("(", it.notes + 1, it.end)
-        return it.notes if inner in self.left_out else None
+def _question(subject: Subject, it: Bracket) -> str:
+    """Returns how a text reads with a bracket that may be missing, as a question."""
+    return f"did you mean {named(readings(subject.text, [(it.offset, it.old, it.new)])[1])}?"
 
 
 _Help = Callable[[Subject, int], str]
 
 
+def _unclosed(subject: Subject, at: int) -> str | None:
+    """Returns what is said of a `(` before this offset that lacks its `)`."""
+    opener = subject.unclosed(at)
+    if opener is None:
+        return None
+    if subject.text.startswith("((", opener):
+        return f"the ( at {subject.place(opener)} stands twice: remove one of both"
+    it = closing_bracket(subject, at)
+    told = f"the ( at {subject.place(opener)} lacks its )"
+    return told if it is None else f"{told}: {_question(subject, it)}"
+
+
+def _no_such_clef(clef: Meant) -> str:
+    return f"{named(clef.spelling)} is no clef: write {clef.meant or 'c or f and its line, 1 to 5, as c4'}"
+
+
 def _left_out_of_notes(subject: Subject, at: int) -> str:
     it = subject.text[at : at + 1]
-    opener = subject.unclosed(at)
-    if opener is not None:
-        return f"{named(it)} stands in notes: the ( at {subject.place(opener)} probably lacks its )"
+    unclosed, clef = _unclosed(subject, at), clef_for(subject, at)
+    if unclosed is not None:
+        return unclosed
+    if clef is not None:
+        return _no_such_clef(clef)
+    if bars_for(subject, at):
+        return "a double bar is ::, and a simple one :"
     if it == "|":
-        return "'|' parts notes from NABC only where there is a header nabc-lines: write nabc-lines: 1; before the %%"
-    if subject.text[:at].endswith("]"):
+        return "'|' parts notes from NABC only if there is a header nabc-lines: write nabc-lines: 1; before the %%"
+    if subject.text.startswith("]", at - 1):
         return f"{named(it)} stands after an attribute: write it before the ["
+    if it in APOSTROPHES:
+        return f"{named(it)} is a typographic apostrophe: write ' for an ictus"
     if it.isdigit():
         return f"{named(it)} is no sign of the note before it: remove it"
     if it.isalpha():
@@ -95,28 +81,46 @@ def _left_out_of_notes(subject: Subject, at: int) -> str:
 
 def _left_out_of_text(subject: Subject, at: int) -> str:
     it = subject.text[at : at + 1]
-    if it == ")" and subject.text[:at].endswith(")"):
-        return "the notes before it have their ) already: remove this one, or write $) for the character itself"
-    opener = {")": "(", "]": "[", ">": "<"}.get(it, "")
-    return f"{named(it)} closes nothing: look for a {opener} that is missing, or write ${it} for the character itself"
+    if it == ")" and subject.text.startswith("))", at - 1):
+        return "the notes before it have their ) already: remove this one"
+    bracket = opening_bracket(subject, at)
+    if bracket is not None:
+        return f"a ( is missing before it, probably at {subject.place(bracket.offset)}: {_question(subject, bracket)}"
+    if it == ">":
+        return "'>' ends no tag: look for a < that is missing, or write $> for the character itself"
+    opener = {")": "(", "]": "["}.get(it, "")
+    return f"{named(it)} closes nothing: look for a {opener} that is missing before it, or remove it"
 
 
 def _left_out_of_nabc(subject: Subject, at: int) -> str:
     it = subject.text[at : at + 1]
-    opener = subject.unclosed(at)
-    if opener is not None:
-        return f"{named(it)} stands in NABC: the ( at {subject.place(opener)} probably lacks its )"
+    unclosed = _unclosed(subject, at)
+    if unclosed is not None:
+        return unclosed
     if it.isdigit():
         return f"{named(it)} has nothing to count: a number stands after a modifier, as in peS1, or after points and letters, as in pesu1 and pelse1"
     return f"{named(it)} fits nowhere in this descriptor: remove it"
 
 
+def _of_file(subject: Subject) -> str | None:
+    """Returns what is wrong with a file whose headers cannot be read as such, if that is plain."""
+    if _PAGE.match(subject.text):
+        return "this is a page of the web and no score: save the score itself, whose name ends in .gabc"
+    unread = unread_score_line(subject)
+    if unread is not None:
+        return f"line {subject.lines.place(unread.begin).line} is ' %%': remove the blank before it"
+    return None
+
+
 def _header_without_name(subject: Subject, at: int) -> str:
     line = subject.text[at:].partition("\n")[0].strip(" \t")
     name, colon, _ = line.partition(":")
+    of_file, meant = _of_file(subject), meant_header(line)
+    if of_file is not None:
+        return of_file
     if not colon:
-        word, *rest = line.rstrip("; \t").split(None, 1) or [""]
-        return f"{named(line)} has no colon: write {named(f'{word}: {chr(32).join(rest)};')}"
+        told = f"write {named(meant)}" if meant else "a header is name: value;, and the notes stand after a line %%"
+        return f"{named(line)} has no colon: {told}"
     length = len(name.strip(" \t").encode("utf-8", "replace"))
     return f"the name has {length} bytes, and 64 are the most" if length else "there is no name before the colon: write one"
 
@@ -127,6 +131,9 @@ def _number_of_nabc_lines(subject: Subject, at: int) -> str:
 
 
 def _unfinished(subject: Subject, at: int) -> str:
+    unclosed = _unclosed(subject, at)
+    if unclosed is not None:
+        return unclosed
     before = re.search(r"[^\s(|]*$", subject.text[:at])
     end = before[0] if before else ""
     if end.endswith("-"):
@@ -146,19 +153,6 @@ def _given_again(subject: Subject, at: int) -> str:
     return f"{named(header.name or '')} stands in line {subject.lines.place(names[-1].begin).line} already: remove one of them"
 
 
-def open_styles(text: str) -> list[str]:
-    """Returns the styles that are open at the end of the text of a syllable, the first one first."""
-    found: list[str] = []
-    for tag in _STYLE_TAG.finditer(text):
-        if tag[2] is None:
-            continue
-        if not tag[1] and tag[2] not in found:
-            found.append(tag[2])
-        elif tag[1] and tag[2] in found:
-            found.remove(tag[2])
-    return found
-
-
 def _style(subject: Subject, at: int) -> str:
     tag = _TAG.match(subject.text, at)
     if tag is None:
@@ -168,7 +162,7 @@ def _style(subject: Subject, at: int) -> str:
         return f"{opened or 'a style'} ends with the text of its syllable: write {closed or 'its end'} here, and {opened or 'it'} again in the next text"
     if tag[1]:
         return f"{tag[0]} closes no style that is open in this syllable: open it here with <{tag[2]}>, or remove it"
-    return f"{tag[0]} is open already: remove one of both"
+    return f"{tag[0]} is open already: write </{tag[2]}> if it ends here, or remove one of both"
 
 
 def _centre(subject: Subject, at: int) -> str:
@@ -187,13 +181,23 @@ def _unknown_tag(subject: Subject, at: int) -> str:
     tag = _TAG.match(subject.text, at)
     if tag is None:
         return "write $< for the character itself"
+    name = _NAME.match(tag[2])
+    word = name[1].lower() if name else ""
     if "(" in tag[2] or "\n" in tag[2]:
-        return "this < takes all up to the next > for its tag: write $< for the character itself, or the > that lacks"
-    near = difflib.get_close_matches(tag[2], TAGS, 1, 0.6)
-    return f"there is no tag {named(tag[0])}" + (f": did you mean <{tag[1]}{near[0]}>?" if near else "; it is kept as it stands")
+        return f"this < takes all up to the next > for its tag: write {'the > that is missing' if word else '$< for the character itself'}"
+    if tag[1] and tag[2] in _RAW:
+        return f"{tag[0]} closes nothing, since no <{tag[2]}> is open: remove it"
+    if word in HTML_TAGS:
+        like = HTML_TAGS[word]
+        return f"{named(tag[0])} is a tag of HTML: " + (f"write <{tag[1]}{like}>" if like else "remove it")
+    near = nearest(tag[2], TAGS)
+    return f"there is no tag {named(tag[0])}" + (f": did you mean <{tag[1]}{near}>?" if near and near != tag[2] else "; it is kept as it stands")
 
 
 def _unknown_code(subject: Subject, at: int) -> str:
+    unclosed = _unclosed(subject, at)
+    if unclosed is not None:
+        return unclosed
     code = subject.text[max(at - 1, 0) : at + 1]
     turned = code[::-1]
     return f"{named(code)} is no code of the manual" + (f": did you mean {turned}?" if turned in NABC_CODES else "; it is kept as it stands")
@@ -225,6 +229,9 @@ def _open_span(subject: Subject, at: int) -> str:
 
 
 def _no_clef(subject: Subject, at: int) -> str:
+    clef = clef_for(subject, at)
+    if clef is not None:
+        return _no_such_clef(clef)
     return "write a clef, as (c4), before the first note: without one no note has a degree"
 
 
@@ -233,12 +240,20 @@ def _not_utf8(subject: Subject, at: int) -> str:
 
 
 def _no_score(subject: Subject, at: int) -> str:
-    return "write a line %% between the headers and the score"
+    return _of_file(subject) or "write a line %% between the headers and the score"
 
 
 def _value_not_ended(subject: Subject, at: int) -> str:
     place = subject.lines.place(at)
     line = subject.lines.line(place.line).partition("%")[0].rstrip(" \t")
+    of_file = _of_file(subject)
+    if of_file is not None:
+        return of_file
+    if NOTES.search(line):
+        return f"line {place.line} holds notes: write a line %% before the first line of the score"
+    struck = struck_for_mark(line)
+    if struck:
+        return f"line {place.line} ends with {struck} and not with ; : write {named(line[:-1] + ';')}"
     return f"line {place.line} lacks its ; : write {named(line + ';')}, or ;; after the last line of a value of several lines"
 
 

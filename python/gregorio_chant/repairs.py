@@ -1,30 +1,39 @@
-"""Repairs of a score: each a small function for a message, and a judge that looks at what it makes.
+"""The repairs of a score: each a small function that finds what to write for a message. `repairing` judges and makes them.
 
-A repair is made only where the new text has its message no more and no other message comes, where the canonical form differs at the repaired places alone, and where
-all comments stay. What the compiler answers of the new text is proved; the rest of the judge is only tested.
+A safe repair changes no header, note, other sign or sung letter. All others guess: `changes` says what they change, and an editor is shown both readings.
 """
 from __future__ import annotations
 
-import bisect
-import itertools
+import html
 import re
-from collections import Counter
-from collections.abc import Callable, Iterable, Iterator, Sequence
+from collections.abc import Callable
 from dataclasses import dataclass
 
-from gregorio_chant.compiled import Compiled
-from gregorio_chant.helps import Subject, open_styles
 from gregorio_chant.layout import after_lead
-from gregorio_chant.results import Message
-from gregorio_chant.rules import messages_with_rules, unsilenced
-from gregorio_chant.scan import Span
-from gregorio_chant.selection import Selection
-from gregorio_chant.source import raw_offsets, text_of
+from gregorio_chant.nearest import nearest
+from gregorio_chant.slips import (
+    APOSTROPHES, ENTITY, MODES, NOTES, Subject, bars_for, clef_for, closing_bracket, meant_header, open_styles, opening_bracket, struck_for_mark,
+    unread_score_line,
+)
+from gregorio_chant.vocabulary import HEADERS, HTML_TAGS, TAGS
 
-# How many repairs are tried one by one, where not all can be made at once.
-_MOST_TRIED = 200
 _SCORE = "name: Kyrie;\n%%\n(c4) "
+_BEGUN = "name: Kyrie;\n"
+_BODY = "\n%%\n(c4) Ky(f)\n"
+# A style over more syllables than this is left to the editor.
+_MOST_SYLLABLES = 200
+_NAMES = "|".join(sorted(TAGS, key=len, reverse=True))
+# A tag's name, which may be whole, at the end of a text; and one that lacks its `>`.
+_NAME_AT_END = re.compile(rf"(/?)({_NAMES})$")
+_NAME = re.compile(rf"</?(?:{_NAMES})(?=[^>]*[(\n<])")
+# A `<` that begins no word, and takes notes or a line end for its tag.
+_SWALLOWS = re.compile(r"<(?![A-Za-z/])[^>]*[(\n]")
+_ATTRIBUTES = re.compile(r"(?:\[[^\]\n]*\])+$")
+# A note that belongs to no clef.
+_HAS_NOTE = re.compile(r"\((?![cf]b?[1-5])[^)|]*[a-npA-NP]")
 _BARRED = re.compile(r"<sp>([ARV][^/<]?)</sp>")
+_TAG = re.compile(r"<(/?)([A-Za-z]+)[^>\n(]*>")
+_RAW_ENDS = ("</v>", "</sp>", "</alt>")
 
 
 @dataclass(frozen=True, order=True)
@@ -40,40 +49,56 @@ class Edit:
         return self.offset + len(self.old)
 
 
-_Edits = tuple[Edit, ...]
+Edits = tuple[Edit, ...]
 
 
 @dataclass(frozen=True)
 class Repair:
-    """A repair. `wrong` is a line that it turns into `right`, where `before` stands before and `after` after it; `codes` are those that ask for it."""
+    """A repair. `wrong` is a line that it turns into `right`, where `before` stands before and
+    `after` after it; `codes` are those that ask for it. A safe one has no `changes`."""
 
     name: str
     codes: frozenset[str]
-    is_safe: bool
     meaning: str
-    find: Callable[[Subject, int], _Edits]
+    changes: str
+    find: Callable[[Subject, int], Edits]
     wrong: str
     right: str
     before: str = _SCORE
     after: str = "\n"
+
+    @property
+    def is_safe(self) -> bool:
+        return not self.changes
 
     def score_with(self, line: str) -> bytes:
         """Returns the whole score in which `line` stands."""
         return (self.before + line + self.after).encode("utf-8")
 
 
-# ---- the repairs
+# ---- texts
 
 
-def _escape(subject: Subject, at: int) -> _Edits:
-    it = subject.text[at : at + 1]
-    if it == ")" and subject.text[:at].endswith(")") or it == "<" and not re.match(r"<[^>]*[(\n]", subject.text[at:]):
+def _escape(subject: Subject, at: int) -> Edits:
+    """Writes `$` before a `>`, but not before one that may end a tag whose `<` is lost. A `)` and a
+    `]` are never made text: their `(` or `[` is lost."""
+    if not subject.text.startswith(">", at) or _may_end_tag(subject, at):
         return ()
-    return (Edit(at, "", "$"),) if it and it in "<>)]" else ()
+    return (Edit(at, "", "$"),)
 
 
-def _style_in_each_syllable(subject: Subject, at: int) -> _Edits:
-    """Closes the styles that are open where a text ends, and opens them again in each text up to the one that closes them."""
+def _may_end_tag(subject: Subject, at: int) -> bool:
+    """Returns whether the name of a tag stands before this `>`, and its end or its begin in the same text."""
+    name = _NAME_AT_END.search(subject.text, max(0, at - 10), at)
+    if name is None or name[1]:
+        return name is not None
+    it = subject.syllable_at(at)
+    return it is not None and subject.text.find(f"</{name[2]}>", at, it.notes) >= 0
+
+
+def _style_in_each_syllable(subject: Subject, at: int) -> Edits:
+    """Closes the styles that are open where a text ends, and opens them again in each text up to
+    the one that closes them. Where one is opened once more before that, its end is lost."""
     syllables = subject.scan.syllables
     number = syllables.number_at(at)
     if number is None or subject.text[at : at + 1] != "(":
@@ -82,268 +107,227 @@ def _style_in_each_syllable(subject: Subject, at: int) -> _Edits:
     edits: list[Edit] = []
     for name in open_styles(subject.text[first.begin : first.notes]):
         edits.append(Edit(first.notes, "", f"</{name}>"))
-        for it in syllables[number + 1 :]:
+        tag = re.compile(rf"<(/?){name}>")
+        for it in syllables[number + 1 : number + 1 + _MOST_SYLLABLES]:
             begin = after_lead(subject.text, it)
-            if begin < it.notes:
-                edits.append(Edit(begin, "", f"<{name}>"))
-                if re.search(rf"</{name}>", subject.text[begin : it.notes]):
-                    break
-                edits.append(Edit(it.notes, "", f"</{name}>"))
+            if begin == it.notes:
+                continue
+            edits.append(Edit(begin, "", f"<{name}>"))
+            found = tag.search(subject.text, begin, it.notes)
+            if found is not None and not found[1]:
+                return ()
+            if found is not None:
+                break
+            edits.append(Edit(it.notes, "", f"</{name}>"))
         else:
             return ()
     return tuple(edits)
 
 
-def _sign_before_attribute(subject: Subject, at: int) -> _Edits:
-    found = re.search(r"(?:\[[^\]\n]*\])+$", subject.text[max(0, at - 200) : at])
-    it = subject.text[at : at + 1]
-    return () if found is None or not it else (Edit(at - len(found[0]), found[0] + it, it + found[0]),)
+def _escape_less(subject: Subject, at: int) -> Edits:
+    return (Edit(at, "", "$"),) if _SWALLOWS.match(subject.text, at) else ()
 
 
-def _close_notes(subject: Subject, at: int) -> _Edits:
-    """Writes the `)` before the first blank, or else before the first character that was left out; where both lack, nothing says where it belongs."""
-    opener = subject.unclosed(at)
-    if opener is None:
+def _close_tag(subject: Subject, at: int) -> Edits:
+    found = _NAME.match(subject.text, at)
+    return (Edit(found.end(), "", ">"),) if found else ()
+
+
+def _html_tag(subject: Subject, at: int) -> Edits:
+    """Removes a tag of HTML, or writes the one of GABC that is like it. Removes the end of a raw part that none begins."""
+    found = _TAG.match(subject.text, at)
+    if found is None or found[0] not in _RAW_ENDS and found[2].lower() not in HTML_TAGS:
         return ()
-    inner = subject.text.find("(", opener + 1)
-    end = re.match(r"[^\s(|]*", subject.text[opener + 1 : inner])
-    place = opener + 1 + len(end[0]) if end else at
-    if place == inner:
-        place = min(it for it in subject.left_out if it > opener)
-    return (Edit(place, "", ")"),) if place < inner else ()
+    like = HTML_TAGS.get(found[2].lower())
+    return (Edit(at, found[0], f"<{found[1]}{like}>" if like else ""),)
 
 
-def _close_at_end(subject: Subject, at: int) -> _Edits:
+def _special(subject: Subject, at: int) -> Edits:
+    found = _BARRED.match(subject.text, at)
+    return (Edit(found.start(1), found[1], found[1][0] + "/"),) if found else ()
+
+
+def _character(subject: Subject, at: int) -> Edits:
+    found = ENTITY.match(subject.text, at)
+    return (Edit(at, found[0], html.unescape(found[0])),) if found else ()
+
+
+# ---- notes
+
+
+def _open_notes(subject: Subject, at: int) -> Edits:
+    it = opening_bracket(subject, at)
+    return () if it is None else (Edit(it.offset, it.old, it.new),)
+
+
+def _close_notes(subject: Subject, at: int) -> Edits:
+    it = closing_bracket(subject, at)
+    return () if it is None else (Edit(it.offset, it.old, it.new),)
+
+
+def _remove_opener(subject: Subject, at: int) -> Edits:
+    return (Edit(at, "(", ""),) if subject.text.startswith("((", at - 1) and at else ()
+
+
+def _close_at_end(subject: Subject, at: int) -> Edits:
     if subject.text[at : at + 1] != "(" or not subject.text[at + 1 :].strip():
         return ()
     return (Edit(len(subject.text.rstrip()), "", ")"),)
 
 
-def _end_header(subject: Subject, at: int) -> _Edits:
-    value = subject.text[at:].partition("\n")[0].partition("%")[0].rstrip(" \t")
-    return (Edit(at + len(value), "", ";"),) if ":" in value else ()
+def _notes_in_brackets(subject: Subject, at: int) -> Edits:
+    end = subject.text.find("]", at)
+    return (Edit(at, "[", "("), Edit(end, "]", ")")) if subject.text.startswith("[", at) and end > at else ()
 
 
-def _nabc_header(subject: Subject, at: int) -> _Edits:
-    if subject.text[at : at + 1] != "|" or any(it.name == "nabc-lines" for it in subject.scan.headers):
+def _clef(subject: Subject, at: int) -> Edits:
+    found = clef_for(subject, at)
+    return (Edit(found.begin, found.spelling, found.meant),) if found is not None and found.meant else ()
+
+
+def _bars(subject: Subject, at: int) -> Edits:
+    found = bars_for(subject, at)
+    return (Edit(found.begin, found.spelling, found.meant),) if found is not None else ()
+
+
+def _apostrophe(subject: Subject, at: int) -> Edits:
+    it = subject.text[at : at + 1]
+    return (Edit(at, it, "'"),) if it in APOSTROPHES else ()
+
+
+def _sign_before_attribute(subject: Subject, at: int) -> Edits:
+    found = _ATTRIBUTES.search(subject.text, max(0, at - 200), at)
+    it = subject.text[at : at + 1]
+    return () if found is None or not it else (Edit(at - len(found[0]), found[0] + it, it + found[0]),)
+
+
+def _nabc_header(subject: Subject, at: int) -> Edits:
+    """Writes the header, if at least a third of the syllables with notes hold a `|`: a single one is a slip of the key."""
+    if subject.text[at : at + 1] != "|" or bars_for(subject, at) or any(it.name == "nabc-lines" for it in subject.scan.headers):
         return ()
-    return (Edit(subject.scan.score, "", "nabc-lines: 1;\n"),)
+    notes = [subject.text[it.notes : it.end] for it in subject.scan.syllables]
+    with_notes = sum(_HAS_NOTE.search(it) is not None for it in notes)
+    return (Edit(subject.scan.score, "", "nabc-lines: 1;\n"),) if 3 * sum("|" in it for it in notes) >= with_notes else ()
 
 
-def _leave_out_of_nabc(subject: Subject, at: int) -> _Edits:
+def _leave_out_of_nabc(subject: Subject, at: int) -> Edits:
     it = subject.text[at : at + 1]
     return (Edit(at, it, ""),) if it.isascii() and it.isalnum() else ()
 
 
-def _special(subject: Subject, at: int) -> _Edits:
-    found = _BARRED.match(subject.text, at)
-    return (Edit(found.start(1), found[1], found[1][0] + "/"),) if found else ()
+# ---- headers
 
+
+def _end_header(subject: Subject, at: int) -> Edits:
+    """Writes the `;` of a value: not at the end of a line that holds notes, and in place of a `,` or a `:` at its end."""
+    line = subject.text[at:].partition("\n")[0].partition("%")[0].rstrip(" \t")
+    if ":" not in line or NOTES.search(line) or unread_score_line(subject) is not None:
+        return ()
+    struck = struck_for_mark(line)
+    return (Edit(at + len(line) - len(struck), struck, ";"),)
+
+
+def _score_line(subject: Subject, at: int) -> Edits:
+    found = unread_score_line(subject)
+    return () if found is None else (Edit(found.begin, subject.text[found.begin : found.end - 2], ""),)
+
+
+def _header_colon(subject: Subject, at: int) -> Edits:
+    line = subject.text[at:].partition("\n")[0].rstrip(" \t")
+    meant = meant_header(line)
+    return (Edit(at, line, meant),) if meant is not None else ()
+
+
+def _header_name(subject: Subject, at: int) -> Edits:
+    header = subject.header_at(at)
+    meant = nearest(header.name or "", HEADERS) if header else None
+    begin = subject.text.find(header.name or "", at) if header else -1
+    return (Edit(begin, header.name or "", meant),) if header and meant and begin >= 0 else ()
+
+
+def _mode(subject: Subject, at: int) -> Edits:
+    found = re.compile(r"[^:\n]*:[ \t]*([IVivx]+)[ \t]*;").match(subject.text, at)
+    number = MODES.get(found[1].upper()) if found else None
+    return (Edit(found.start(1), found[1], number),) if found and number else ()
+
+
+def _codes(*names: str) -> frozenset[str]:
+    return frozenset(names)
+
+
+_TEXT_TO_NOTES, _NOTES_TO_TEXT = "text becomes notes", "notes become text"
+_NABC = "name: Kyrie;\nnabc-lines: 1;\n%%\n(c4) "
 
 REPAIRS: dict[str, Repair] = {
     it.name: it
     for it in (
+        Repair("escape", _codes("E2"), "Write $ before a > that stands in a text for itself.", "", _escape, "Ky>(f)ri(g)", "Ky$>(f)ri(g)"),
         Repair(
-            "escape", frozenset(("E2", "W6")), True, "Writes $ before a <, > or ) that stands in a text for itself.",
-            _escape, "Ky>(f)ri(g)", "Ky$>(f)ri(g)",
-        ),
-        Repair(
-            "style-in-each-syllable", frozenset(("W3",)), True, "Closes a style over several syllables in each of them, and opens it again in the next.",
+            "style-in-each-syllable", _codes("W3"), "Close a style over several syllables in each of them, and open it again in the next.", "",
             _style_in_each_syllable, "<i>Ky(f)ri(g)e</i>(h)", "<i>Ky</i>(f)<i>ri</i>(g)<i>e</i>(h)",
         ),
         Repair(
-            "sign-before-attribute", frozenset(("E1",)), False, "Moves a letter or sign of a note before the attribute that it stands after.",
+            "open-notes", _codes("E2"), "Write the ( that is missing before notes.", _TEXT_TO_NOTES,
+            _open_notes, "Ky(f)rigfg)e(h)", "Ky(f)ri(gfg)e(h)",
+        ),
+        Repair(
+            "remove-opener", _codes("E1", "E3"), "Remove a ( that stands twice.", "no note changes",
+            _remove_opener, "Ky((f)ri(g)", "Ky(f)ri(g)",
+        ),
+        Repair(
+            "close-notes", _codes("E1", "E3"), "Write the ) that is missing after notes.", _NOTES_TO_TEXT,
+            _close_notes, "Ky(f ri(gfg)", "Ky(f) ri(gfg)",
+        ),
+        Repair("close-at-end", _codes("F6"), "Write the ) that is missing at the end.", "the last notes are read", _close_at_end, "Ky(f)ri(gfg", "Ky(f)ri(gfg)"),
+        Repair(
+            "notes-in-brackets", _codes("notes-in-translation"), "Write ( and ) in place of [ and ].", "a translation becomes notes",
+            _notes_in_brackets, "Ky[fg]ri(h)", "Ky(fg)ri(h)",
+        ),
+        Repair("clef", _codes("E1", "W12", "lone-capital"), "Write a clef as c or f and its line.", "notes become a clef", _clef, "(4c) Ky(f)", "(c4) Ky(f)", "name: Kyrie;\n%%\n"),
+        Repair("double-bar", _codes("E1"), "Write a double bar as ::.", "a bar is added", _bars, "Ky(f) (||)", "Ky(f) (::)"),
+        Repair("apostrophe", _codes("E1"), "Write the typewriter's apostrophe.", "a note gets an ictus", _apostrophe, "Ky(f’)ri(g)", "Ky(f')ri(g)"),
+        Repair(
+            "sign-before-attribute", _codes("E1"), "Move a letter or sign of a note before the attribute that it stands after.", "a sign is added",
             _sign_before_attribute, "Ky(f[ll:1]v)", "Ky(fv[ll:1])",
         ),
         Repair(
-            "close-notes", frozenset(("E1", "E3")), False, "Writes the ) that notes lack in which another ( stands.",
-            _close_notes, "Ky(f ri(gfg)", "Ky(f) ri(gfg)",
+            "nabc-header", _codes("E1", "nabc-without-header"), "Write the header nabc-lines, since a | stands in the notes and there is none.",
+            "what follows each | becomes neumes", _nabc_header, "%%\n(c4) Ky(f|pu)", "nabc-lines: 1;\n%%\n(c4) Ky(f|pu)", _BEGUN,
         ),
         Repair(
-            "close-at-end", frozenset(("F6",)), False, "Writes the ) that the last notes lack.", _close_at_end, "Ky(f)ri(gfg", "Ky(f)ri(gfg)",
+            "leave-out-of-nabc", _codes("E3"), "Remove a number or letter that NABC does not take.", "no neume changes",
+            _leave_out_of_nabc, "Ky(f|un1)", "Ky(f|un)", _NABC,
+        ),
+        Repair("close-tag", _codes("W6"), "Write the > that is missing after the name of a tag.", _TEXT_TO_NOTES, _close_tag, "<iKy</i>(f)", "<i>Ky</i>(f)"),
+        Repair(
+            "escape-less", _codes("W6"), "Write $ before a < that takes notes for its tag.", _TEXT_TO_NOTES,
+            _escape_less, "Ky<(f)ri(g>)", "Ky$<(f)ri(g>)",
         ),
         Repair(
-            "end-header", frozenset(("F3",)), False, "Writes the ; that the value of a header lacks.", _end_header, "mode: 1", "mode: 1;",
-            "name: Kyrie;\n", "\n%%\n(c4) Ky(f)\n",
+            "html-tag", _codes("W6"), "Remove a tag of HTML, or the end of a tag that is not open; write the tag of GABC that is like it.", "a tag goes",
+            _html_tag, "Ky<br>(f)", "Ky(f)",
         ),
         Repair(
-            "nabc-header", frozenset(("E1", "nabc-without-header")), False, "Writes the header nabc-lines where a | stands in the notes, and there is none.",
-            _nabc_header, "%%\n(c4) Ky(f|pu)", "nabc-lines: 1;\n%%\n(c4) Ky(f|pu)", "name: Kyrie;\n",
-        ),
-        Repair(
-            "leave-out-of-nabc", frozenset(("E3",)), False, "Leaves out a number or letter that NABC does not take.",
-            _leave_out_of_nabc, "Ky(f|un1)", "Ky(f|un)", "name: Kyrie;\nnabc-lines: 1;\n%%\n(c4) ",
-        ),
-        Repair(
-            "barred-letter", frozenset(("unknown-special",)), False, "Writes A/, R/ or V/ between <sp> and </sp> for another spelling of the barred letter.",
+            "barred-letter", _codes("unknown-special"), "Write A/, R/ or V/ between <sp> and </sp> for the barred letter.", "a sign is added",
             _special, "<sp>Rx</sp>(::)", "<sp>R/</sp>(::)",
         ),
+        Repair(
+            "html-entity", _codes("html-entity"), "Write the character itself in place of its name in HTML.", "letters change",
+            _character, "D&oacute;(f)", "D\u00f3(f)",
+        ),
+        Repair("score-line", _codes("F2", "F3"), "Remove the blanks before %%.", "what is below becomes the score", _score_line, " %%", "%%", _BEGUN, "\n(c4) Ky(f)\n"),
+        Repair(
+            "end-header", _codes("F3"), "Write the ; that is missing after the value of a header.", "what is below is read", _end_header, "mode: 1", "mode: 1;",
+            _BEGUN, _BODY,
+        ),
+        Repair(
+            "header-colon", _codes("E4"), "Write name: value; for a header without its colon.", "a header is added",
+            _header_colon, "mode - 1;", "mode: 1;", _BEGUN, _BODY,
+        ),
+        Repair(
+            "header-name", _codes("misspelled-header"), "Write the name of a header as GregorioTeX does.", "a header gets another name",
+            _header_name, "moed: 1;", "mode: 1;", _BEGUN, _BODY,
+        ),
+        Repair("mode-number", _codes("mode-without-number"), "Write the mode as a number.", "the mode becomes a number", _mode, "mode: VII;", "mode: 7;", _BEGUN, _BODY),
     )
 }
-
-
-# ---- the judge
-
-
-class _Moved:
-    """Where what stands in the new text stood in the old one."""
-
-    def __init__(self, edits: Sequence[Edit]) -> None:
-        self._edits = edits
-
-    def before(self, offset: int) -> int:
-        """Returns the offset in the old text; of what was written in place of another, where that began."""
-        shift = 0
-        for it in self._edits:
-            begin = it.offset + shift
-            if offset < begin:
-                break
-            if offset < begin + len(it.new):
-                return it.offset
-            shift += len(it.new) - len(it.old)
-        return offset - shift
-
-
-def _found(score: Compiled, with_rules: bool) -> tuple[Message, ...]:
-    return messages_with_rules(score.data) if with_rules else unsilenced(score.data, score.messages)
-
-
-def _messages_at(score: Compiled, with_rules: bool, place: Callable[[int], int] = lambda offset: offset) -> Counter[tuple[str, int]]:
-    lines = score.comparison.lines
-    found = {*_found(score, with_rules), *score.messages}
-    return Counter((it.code, place(lines.offset(it.line, it.column))) for it in found)
-
-
-def _comments(score: Compiled) -> list[str]:
-    source = score.comparison.source
-    return [source.text[it.begin : it.end] for it in source.comments]
-
-
-def _is_touched(span: Span, places: Sequence[int]) -> bool:
-    first = bisect.bisect_left(places, span.begin)
-    return first < len(places) and places[first] <= span.end
-
-
-def _alike(olds: Sequence[str], news: Sequence[str]) -> int:
-    """Returns how many of the first ones are the same."""
-    return next((at for at, (a, b) in enumerate(zip(olds, news)) if a != b), min(len(olds), len(news)))
-
-
-def _differs_there_alone(old: Compiled, new: Compiled, places: Sequence[int]) -> bool:
-    """Returns whether the canonical forms differ in headers and syllables alone that hold one of the `places` of the old text."""
-    source, before, after = old.comparison.source, old.comparison.written, new.comparison.written
-    if [before.text[it.begin : it.end] for it in before.headers] != [after.text[it.begin : it.end] for it in after.headers]:
-        if not any(it <= source.score for it in places):
-            return False
-    olds = [before.text[it.begin : it.end] for it in before.syllables]
-    news = [after.text[it.begin : it.end] for it in after.syllables]
-    begin = _alike(olds, news)
-    end = min(_alike(olds[::-1], news[::-1]), len(olds) - begin, len(news) - begin)
-    changed = source.syllables[begin : len(olds) - end]
-    if len(olds) == len(news):
-        changed = [it for it, a, b in zip(source.syllables, olds, news) if a != b]
-    return all(_is_touched(it, places) for it in changed)
-
-
-def _is_repaired(old: Compiled, new: Compiled, edits: _Edits, targets: Sequence[Message], with_rules: bool) -> bool:
-    if old.fault is not None:
-        is_later = new.fault is None or (new.fault.line, new.fault.column) > (old.fault.line, old.fault.column)
-        return is_later and not any(it.old for it in edits)
-    if new.fault is not None:
-        return False
-    before, after = _messages_at(old, with_rules), _messages_at(new, with_rules, _Moved(edits).before)
-    lines = old.comparison.lines
-    wanted = {(it.code, lines.offset(it.line, it.column)) for it in targets}
-    if after - before or any(it in after for it in wanted):
-        return False
-    gone = [offset for _, offset in before - after]
-    places = sorted([*gone, *(it.offset for it in edits)])
-    return _comments(old) == _comments(new) and _differs_there_alone(old, new, places)
-
-
-# ---- what is made of a score
-
-
-def with_edits(data: bytes, edits: Sequence[Edit]) -> bytes:
-    """Returns the score with these edits, of which none begins before the one before it ends."""
-    raw = data.decode("utf-8")
-    offsets = raw_offsets(raw)
-    line_end = re.search("\r\n|\n|\r", raw)
-    parts, at = [], 0
-    for it in edits:
-        parts += [raw[at : offsets[it.offset]], it.new.replace("\n", line_end[0] if line_end else "\n")]
-        at = offsets[it.end]
-    return "".join([*parts, raw[at:]]).encode("utf-8")
-
-
-@dataclass(frozen=True)
-class How:
-    """Which repairs are made: of which messages, of those of rules too, and by guesses too."""
-
-    allow_unsafe: bool = False
-    with_rules: bool = False
-    selection: Selection = Selection()
-
-
-@dataclass(frozen=True)
-class Proposal:
-    """The edits that a repair would make for a message, the first one first."""
-
-    message: Message
-    repair: Repair
-    edits: _Edits
-
-
-def _proposals(score: Compiled, messages: Iterable[Message], allow_unsafe: bool) -> Iterator[Proposal]:
-    subject = Subject(text_of(score.data), score.messages)
-    for message in messages:
-        for repair in REPAIRS.values():
-            if message.code in repair.codes and (repair.is_safe or allow_unsafe):
-                edits = repair.find(subject, subject.offset(message))
-                if edits:
-                    yield Proposal(message, repair, tuple(sorted(edits)))
-
-
-def repairs_of(score: Compiled, messages: Iterable[Message], with_rules: bool) -> Iterator[Proposal]:
-    """Yields each repair of these messages that may be made by itself, unsafe ones too."""
-    if score.fault is not None and score.fault.code == "F1":
-        return
-    for it in _proposals(score, messages, allow_unsafe=True):
-        if _is_repaired(score, Compiled(with_edits(score.data, it.edits)), it.edits, [it.message], with_rules):
-            yield it
-
-
-def _together(proposals: Sequence[Proposal]) -> tuple[list[Message], _Edits]:
-    """Returns the messages and edits of as many proposals as can be made together: none begins before the one before it ends."""
-    targets: list[Message] = []
-    edits: list[Edit] = []
-    for it in sorted(proposals, key=lambda it: it.edits):
-        if not edits or edits[-1].end < it.edits[0].offset:
-            targets.append(it.message)
-            edits += it.edits
-    return targets, tuple(edits)
-
-
-def repaired(data: bytes, how: How) -> bytes:
-    """Returns the score with all repairs that can be made of messages that are reported."""
-    while True:
-        made = repaired_once(data, how)
-        if made == data:
-            return data
-        data = made
-
-
-def repaired_once(data: bytes, how: How) -> bytes:
-    """Returns the score with as many repairs as can be made together, or else the first one that can be made alone."""
-    old = Compiled(data)
-    if old.fault is not None and old.fault.code == "F1":
-        return data
-    messages = how.selection.of(_found(old, how.with_rules))
-    proposals = list(itertools.islice(_proposals(old, messages, how.allow_unsafe), _MOST_TRIED))
-    tries = [_together(proposals)] if len(proposals) > 1 else []
-    tries += [([it.message], it.edits) for it in proposals]
-    for targets, edits in tries:
-        made = with_edits(data, edits)
-        if _is_repaired(old, Compiled(made), edits, targets, how.with_rules):
-            return made
-    return data

@@ -9,6 +9,8 @@ from gregorio_chant.results import Kind, Message, Status
 
 KINDS = ("E", "W", "F")
 RULES = "rules"
+# The rule that is tried only for scores in canonical form, or if it is named.
+OF_CANONICAL = "comment"
 LISTED = "gregorio-chant explain --all lists them"
 
 
@@ -37,17 +39,21 @@ def names(codes: frozenset[str], code: str) -> bool:
 
 @dataclass(frozen=True)
 class Selection:
-    """What of the messages is told. A fatal fault always is, since after it nothing was read."""
+    """What of the messages is told. A fatal fault always is, since after it nothing was read. What only the canonical form loses is told if `is_canonical`,
+    or if it is selected by its name."""
 
     select: frozenset[str] | None = None
     ignore: frozenset[str] = frozenset()
     fail_on: frozenset[str] = frozenset()
+    is_canonical: bool = False
 
     def of(self, messages: Iterable[Message]) -> tuple[Message, ...]:
         """Returns those of `messages` that are told."""
         return tuple(it for it in messages if it.kind is Kind.FATAL or self._takes(it.code))
 
     def _takes(self, code: str) -> bool:
+        if code == OF_CANONICAL and not self.is_canonical and code not in (self.select or ()):
+            return False
         return (self.select is None or names(self.select, code)) and not names(self.ignore, code)
 
     def status_of(self, messages: Iterable[Message]) -> Status:

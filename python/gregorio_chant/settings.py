@@ -64,7 +64,7 @@ class Settings:
 
         of_file = frozenset[str]().union(*(codes for pattern, codes in self.ignores_of_files if self._fits(name, pattern)))
         select = chosen.select if chosen.select is not None else self.select
-        return Selection(select, first(chosen.ignore, self.ignore) | of_file, first(chosen.fail_on, self.fail_on))
+        return Selection(select, first(chosen.ignore, self.ignore) | of_file, first(chosen.fail_on, self.fail_on), self.canonical is True)
 
 
 class _Reader:

@@ -96,10 +96,10 @@ class Forms(InFolder):
 
     def test_sarif_of_rules(self) -> None:
         """Each result has the number of its rule, and each rule a page that stands in the repository."""
-        self.put("a.gabc", "name: K;\n%%\n(c4) Ky(fn) % high\nri(g5)\n")
+        self.put("a.gabc", "name: K;\n%%\n(c4) Ky(fn) % high\nri(g5) De()us(f)\n")
         (run,) = json.loads(command("check", "--rules", "--output-format", "sarif", "a.gabc").stdout)["runs"]
         rules = run["tool"]["driver"]["rules"]
-        self.assertEqual([it["id"] for it in rules], ["outside-staff", "comment", "E1"])
+        self.assertEqual([it["id"] for it in rules], ["outside-staff", "E1", "syllable-without-notes"])
         self.assertEqual([rules[it["ruleIndex"]]["id"] for it in run["results"]], [it["ruleId"] for it in run["results"]])
         for rule in rules:
             self.assertEqual({"shortDescription", "fullDescription", "help", "helpUri", "id"}, set(rule))

@@ -80,8 +80,12 @@ class Command(unittest.TestCase):
                 for head, lines in (("Before", repair.wrong), ("After", repair.right)):
                     self.assertIn(f"\n{head}:\n" + "".join(f"    {it}\n" for it in lines.split("\n")), shown)
         page = (ROOT / "docs" / "PYTHON.md").read_text(encoding="utf-8")
-        rows = re.findall(r"^\| `([a-z-]+)` \| (`[\w-]+`(?:, `[\w-]+`)*) \| (yes|no) \|", page, re.MULTILINE)
-        told = [(it.name, ", ".join(f"`{code}`" for code in sorted(it.codes)), "yes" if it.is_safe else "no") for it in REPAIRS.values()]
+        rows = re.findall(r"^\| `([a-z-]+)` \| (`[\w-]+`(?:, `[\w-]+`)*) \| (yes|no) \| (.*) \|$", page, re.MULTILINE)
+        told = []
+        for repair in REPAIRS.values():
+            meaning = repair.meaning[0].lower() + repair.meaning[1:].rstrip(".").replace("|", "\\|")
+            codes = ", ".join(f"`{code}`" for code in sorted(repair.codes))
+            told.append((repair.name, codes, "yes" if repair.is_safe else "no", meaning if repair.is_safe else f"{meaning}: {repair.changes}"))
         self.assertEqual(rows, told)
 
     def test_all(self) -> None:

@@ -5,7 +5,7 @@ import unittest
 
 from gregorio_chant import check
 from gregorio_chant.codes import CODES
-from gregorio_chant.helps import helps_for
+from gregorio_chant.helps import helps_for, named
 from gregorio_chant.source import text_of
 from support import EXAMPLES, scores_of_tables
 
@@ -13,22 +13,31 @@ _NABC = "name: a;\nnabc-lines: 1;\n%%\n(c4) "
 _SCORE = "name: a;\n%%\n(c4) "
 # Scores, the code of a message, and what its help says.
 HELPS = [
+    (f"{_SCORE}a(f[cs:(]5)", "E1", "'5' stands after an attribute: write it before the ["),
+    (f"{_SCORE}la((f)", "E1", "the ( at 3:8 stands twice: remove one of both"),
+    (f"{_SCORE}KY(frtqz(g)", "E1", "the ( at 3:8 lacks its )"),
+    (f"{_SCORE}xq)b(g)", "E2", "')' closes nothing: look for a ( that is missing before it, or remove it"),
+    (f"{_SCORE}a]b(g)", "E2", "']' closes nothing: look for a [ that is missing before it, or remove it"),
+    (f"{_SCORE}a</sp>(g)", "W6", "</sp> closes nothing, since no <sp> is open: remove it"),
+    (f"{_SCORE}a<i b(g) c</i>(h)", "W6", "this < takes all up to the next > for its tag: write the > that is missing"),
+    (f"{_SCORE}a(g|pu)", "E1", "'|' parts notes from NABC only if there is a header nabc-lines: write nabc-lines: 1; before the %%"),
     (f"{_SCORE}a(g&)", "E1", "'&' is no note and no sign: remove it"),
     (f"{_SCORE}a(g\u00a0)", "E1", "the character U+00A0 is no note and no sign: remove it"),
     (f"{_SCORE}a(g5)", "E1", "'5' is no sign of the note before it: remove it"),
     (f"{_SCORE}a(gt)", "E1", "'t' is no pitch, which are a to n and p, nor a sign of the note before it"),
     (f"{_SCORE}a(g[ll:1]v)", "E1", "'v' stands after an attribute: write it before the ["),
-    (f"{_SCORE}a(g|)", "E1", "'|' parts notes from NABC only where there is a header nabc-lines: write nabc-lines: 1; before the %%"),
-    (f"{_SCORE}KY(f ri(gfg)e(h.)", "E1", "'r' stands in notes: the ( at 3:8 probably lacks its )"),
-    (f"{_SCORE}KYri(fson(g)", "E1", "'(' stands in notes: the ( at 3:10 probably lacks its )"),
-    (f"{_SCORE}a(g))", "E2", "the notes before it have their ) already: remove this one, or write $) for the character itself"),
-    (f"{_SCORE}af)b(g)", "E2", "')' closes nothing: look for a ( that is missing, or write $) for the character itself"),
-    (f"{_SCORE}a>(g)", "E2", "'>' closes nothing: look for a < that is missing, or write $> for the character itself"),
+    (f"{_SCORE}a(g|)", "E1", "'|' parts notes from NABC only if there is a header nabc-lines: write nabc-lines: 1; before the %%"),
+    (f"{_SCORE}KY(f ri(gfg)e(h.)", "E1", "the ( at 3:8 lacks its ): did you mean 'KY(f)'?"),
+    (f"{_SCORE}KYri(fson(g)", "E1", "the ( at 3:10 lacks its ): did you mean 'KYri(f)son(g)'?"),
+    (f"{_SCORE}a(g))", "E2", "the notes before it have their ) already: remove this one"),
+    (f"{_SCORE}af)b(g)", "E2", "a ( is missing before it, probably at 3:7: did you mean 'a(f)b(g)'?"),
+    (f"{_SCORE}a>(g)", "E2", "'>' ends no tag: look for a < that is missing, or write $> for the character itself"),
     (f"{_NABC}a(g|un1)", "E3", "'1' has nothing to count: a number stands after a modifier, as in peS1, or after points and letters, as in pesu1 and pelse1"),
-    (f"{_NABC}a(g|pe b(h|vi)", "E3", "'(' stands in NABC: the ( at 4:7 probably lacks its )"),
+    (f"{_NABC}a(g|pe b(h|vi)", "E3", "the ( at 4:7 lacks its ): did you mean 'a(g|pe)'?"),
     (f"{_NABC}a(g|pe?)", "E3", "'?' fits nowhere in this descriptor: remove it"),
     ("name: a;\nmode 1;\n%%\n(c4)", "E4", "'mode 1;' has no colon: write 'mode: 1;'"),
     ("name: a;\n : 1;\n%%\n(c4)", "E4", "there is no name before the colon: write one"),
+    (f"name: a;\n{chr(233) * 40}: b;\n%%\n(c4)", "E4", "the name has 80 bytes, and 64 are the most"),
     (f"name: a;\n{'x' * 70}: 1;\n%%\n(c4)", "E4", "the name has 70 bytes, and 64 are the most"),
     ("name: a;\nnabc-lines: 01 ;\n%%\n(c4)", "E5", "'01' is none of 0, 1, 2, 3 and 4"),
     (f"{_SCORE}a(fg-)", "E6", "'-' stands before a note: write the note after it, or remove it"),
@@ -37,14 +46,14 @@ HELPS = [
     ("name: a;\nmode: 1;\nmode: 2;\n%%\n(c4)", "W2", "'mode' stands in line 2 already: remove one of them"),
     (f"{_SCORE}<i>a<b>b(g)", "W3", "<i><b> ends with the text of its syllable: write </b></i> here, and <i><b> again in the next text"),
     (f"{_SCORE}a</i>(g)", "W3", "</i> closes no style that is open in this syllable: open it here with <i>, or remove it"),
-    (f"{_SCORE}<i>a<i>b</i>(g)", "W3", "<i> is open already: remove one of both"),
+    (f"{_SCORE}<i>a<i>b</i>(g)", "W3", "<i> is open already: write </i> if it ends here, or remove one of both"),
     (f"{_SCORE}{{a}}{{b}}(g)", "W4", "there is a centre already: keep one pair of { and } in a syllable"),
     (f"{_SCORE}a}}(g)", "W4", "'}' closes no {"),
     (f"{_SCORE}{{a(g)", "W4", "the { of this syllable is not closed: write } after its vowel"),
     (f"{_SCORE}a[b][c](g)", "W5", "'[c]' is the second one of this syllable: put both into one pair of brackets"),
     (f"{_SCORE}<it>a(g)", "W6", "there is no tag '<it>': did you mean <i>?"),
     (f"{_SCORE}<pr>a(g)", "W6", "there is no tag '<pr>'; it is kept as it stands"),
-    (f"{_SCORE}a<(g) b>(h)", "W6", "this < takes all up to the next > for its tag: write $< for the character itself, or the > that lacks"),
+    (f"{_SCORE}a<(g) b>(h)", "W6", "this < takes all up to the next > for its tag: write $< for the character itself"),
     (f"{_NABC}a(g|ep)", "W7", "'ep' is no code of the manual: did you mean pe?"),
     (f"{_SCORE}a(g[nm1])", "W8", "write the header def-m1: ..; before the %%"),
     (f"{_SCORE}a(g) ri", "W9", "'ri' has no notes: write () after it, or the notes"),
@@ -55,6 +64,9 @@ HELPS = [
     ("name: a;\n%%\na(g)", "W12", "write a clef, as (c4), before the first note: without one no note has a degree"),
     ("name: a;\n", "F2", "write a line %% between the headers and the score"),
     ("name: a;\nmode: 1\n%%\n(c4)", "F3", "line 2 lacks its ; : write 'mode: 1;', or ;; after the last line of a value of several lines"),
+    (f"name: {'a' * 70_000};\n%%\n(c4)", "F4", "65,536 bytes are the most: look for a %% that is missing"),
+    (f"{_SCORE}a({'f' * 20_000}", "F5", "16,384 bytes are the most: look for a ( or ) that is missing after 3:7"),
+    (f"{_SCORE}{'a' * 20_000}", "F5", "16,384 bytes are the most: look for a ( or ) that is missing after 3:5"),
     (f"{_SCORE}a(g", "F6", "the ( at 3:7 is not closed: write )"),
     (f"{_SCORE}a<v>(g) b(h)", "F6", "the <v> at 3:7 is not closed: write </v>"),
     (f"{_SCORE}a[b(g) c(h)", "F6", "the [ at 3:7 is not closed: write ]"),
@@ -68,6 +80,12 @@ def helps_of(score: bytes) -> list[tuple[str, str | None]]:
 
 
 class Helps(unittest.TestCase):
+    def test_quotes(self) -> None:
+        """A part of a score is quoted whole up to 40 characters."""
+        self.assertEqual(named("a" * 40), f"'{'a' * 40}'")
+        self.assertEqual(named("a" * 41), f"'{'a' * 40}..'")
+        self.assertEqual(helps_of(b"name: \xe9;\n")[0], ("F1", "the file may be Latin-1: iconv -f ISO-8859-1 -t UTF-8 converts it"))
+
     def test_helps(self) -> None:
         for score, code, wanted in HELPS:
             with self.subTest(score):

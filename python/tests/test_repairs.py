@@ -1,6 +1,7 @@
 """Tries the repairs: what each makes, that it makes no new message and touches no other place, and the command."""
 from __future__ import annotations
 
+import time
 import unittest
 from collections import Counter
 from dataclasses import replace
@@ -10,8 +11,10 @@ from unittest import mock
 from gregorio_chant import Status, check, repairs
 from gregorio_chant.checking import check_data
 from gregorio_chant.compiled import Compiled
-from gregorio_chant.repairs import REPAIRS, Edit, How, repaired
+from gregorio_chant.repairing import How, repair
+from gregorio_chant.repairs import REPAIRS, Edit, Edits
 from gregorio_chant.selection import Selection
+from gregorio_chant.slips import Subject
 from support import EXAMPLES, InFolder, command, scores_of_tables
 
 SAFE, ALL = How(), How(allow_unsafe=True, with_rules=True)
@@ -19,8 +22,9 @@ _SCORE = "name: a;\n%%\n(c4) "
 _NABC = "name: a;\nnabc-lines: 1;\n%%\n(c4) "
 # Scores, and what all repairs make of them; nothing where none can be made.
 REPAIRED: list[tuple[str, str | None]] = [
-    (f"{_SCORE}a)(g) b>(h) c](i) d<(g) e(h>)\n", f"{_SCORE}a$)(g) b$>(h) c$](i) d$<(g) e(h>)\n"),
+    (f"{_SCORE}a)(g) b>(h) c](i) d<(g) e(h>)\n", f"{_SCORE}a)(g) b$>(h) c](i) d$<(g) e(h>)\n"),
     (f"{_SCORE}a(g)) b(h)\n", None),
+    (f"{_SCORE}i>a</i>(g) /i>(h) <x(i) e(h>)\n", None),
     (f"{_SCORE}<i>a(g)b(h)  % <b>\n c</i>d(i)\n", f"{_SCORE}<i>a</i>(g)<i>b</i>(h)  % <b>\n <i>c</i>d(i)\n"),
     (f"{_SCORE}<i>a<b>b(g) (;) c</b>d(h) e</i>(i)", f"{_SCORE}<i>a<b>b</b></i>(g) (;) <b><i>c</b>d</i>(h) <i>e</i>(i)"),
     (f"{_SCORE}<i>a(g) b(h)", None),
@@ -28,7 +32,8 @@ REPAIRED: list[tuple[str, str | None]] = [
     (f"{_SCORE}a(g[ll:1]vd[x]_')\n", f"{_SCORE}a(gv[ll:1]d_'[x])\n"),
     (f"{_SCORE}KY(f ri(gfg)e(h.) a(g b(h)\n", f"{_SCORE}KY(f) ri(gfg)e(h.) a(g) b(h)\n"),
     (f"{_SCORE}KYri(fte(g)\n", f"{_SCORE}KYri(f)te(g)\n"),
-    (f"{_SCORE}KYri(fson(g)\n", None),
+    (f"{_SCORE}KYri(fson(g)\n", f"{_SCORE}KYri(f)son(g)\n"),
+    (f"{_SCORE}KY(frtqz(g)\n", None),
     (f"{_SCORE}a(g)b(h", f"{_SCORE}a(g)b(h)"),
     ("name: a\nmode: 1 % b\n%%\n(c4) a(g)\n", "name: a;\nmode: 1; % b\n%%\n(c4) a(g)\n"),
     ("name: a\nmode: 1\n%%\n(c4) a(g)\n", "name: a;\nmode: 1;\n%%\n(c4) a(g)\n"),
@@ -38,20 +43,24 @@ REPAIRED: list[tuple[str, str | None]] = [
 ]
 
 
+def repaired(score: bytes, how: How) -> bytes:
+    """Returns what all repairs make of a score."""
+    return repair(score, how).data
+
+
 def codes_of(score: bytes) -> Counter[str]:
     return Counter(it.code for it in check_data(score, True))
 
 
 class Repairs(unittest.TestCase):
     def test_each(self) -> None:
-        for repair in REPAIRS.values():
-            with self.subTest(repair.name):
-                wrong, right = repair.score_with(repair.wrong), repair.score_with(repair.right)
+        for it in REPAIRS.values():
+            with self.subTest(it.name):
+                wrong, right = it.score_with(it.wrong), it.score_with(it.right)
                 self.assertEqual(repaired(wrong, ALL), right)
-                self.assertEqual(repaired(wrong, SAFE), right if repair.is_safe else wrong)
-                self.assertLessEqual(repair.codes & set(codes_of(wrong)), repair.codes)
-                self.assertTrue(repair.codes & set(codes_of(wrong)))
-                self.assertFalse(repair.codes & set(codes_of(right)))
+                self.assertEqual(repaired(wrong, SAFE), right if it.is_safe else wrong)
+                self.assertTrue(it.codes & set(codes_of(wrong)))
+                self.assertFalse(it.codes & set(codes_of(right)))
 
     def test_scores(self) -> None:
         for score, wanted in REPAIRED:
@@ -59,8 +68,8 @@ class Repairs(unittest.TestCase):
                 self.assertEqual(repaired(score.encode(), ALL).decode(), score if wanted is None else wanted)
 
     def test_line_ends_and_marks(self) -> None:
-        score = f"\ufeff{_SCORE}\ufeff<i>a\ufeff(g)b</i>(h\ufeff)>(i)\n(f|pu)".replace("\n", "\r\n")
-        wanted = f"\ufeffname: a;\nnabc-lines: 1;\n%%\n(c4) \ufeff<i>a\ufeff</i>(g)<i>b</i>(h\ufeff)$>(i)\n(f|pu)".replace("\n", "\r\n")
+        score = f"\ufeff{_SCORE}\ufeff<i>a\ufeff(g)b</i>(h\ufeff)>(i)\n(f|pu)(f|vi)".replace("\n", "\r\n")
+        wanted = f"\ufeffname: a;\nnabc-lines: 1;\n%%\n(c4) \ufeff<i>a\ufeff</i>(g)<i>b</i>(h\ufeff)$>(i)\n(f|pu)(f|vi)".replace("\n", "\r\n")
         self.assertEqual(repaired(score.encode(), ALL).decode(), wanted)
 
     def test_what_is_not_told_is_not_repaired(self) -> None:
@@ -68,33 +77,37 @@ class Repairs(unittest.TestCase):
         self.assertEqual(repaired(score.encode(), ALL).decode(), f"{_SCORE}a>(g) % gregorio: ignore E2\n<i>b</i>(h)<i>c</i>(i)\n")
         self.assertEqual(repaired(score.encode(), How(True, True, Selection(ignore=frozenset(("W",))))).decode(), score)
 
-    def look_at(self, score: bytes) -> bool:
-        """Checks each step of all repairs of a score, and returns whether something is made."""
-        steps = [score]
-        while (made := repairs.repaired_once(steps[-1], ALL)) != steps[-1]:
-            self.look_at_step(steps[-1], made)
-            steps.append(made)
-        self.assertEqual(repaired(score, ALL), steps[-1])
-        return len(steps) > 1
-
-    def look_at_step(self, score: bytes, made: bytes) -> None:
+    def look_at(self, score: bytes, how: How) -> bool:
+        """Checks what repairs make of a score, and returns whether they make something."""
+        made = repaired(score, how)
+        self.assertEqual(repaired(made, how), made)
+        if made == score:
+            return False
         old, new = Compiled(score), Compiled(made)
-        if old.fault is not None:
-            rest = iter(made.decode())
-            self.assertTrue(all(it in rest for it in score.decode()), "something is taken away")
-            return
         self.assertIsNone(new.fault)
-        self.assertLess(sum(codes_of(made).values()), sum(codes_of(score).values()))
-        self.assertEqual(codes_of(made) - codes_of(score), Counter())
+        if old.fault is None:
+            self.assertLess(sum(codes_of(made).values()), sum(codes_of(score).values()))
+            self.assertEqual(codes_of(made) - codes_of(score), Counter())
+            self.look_at_comments(old, new)
+        return True
+
+    def look_at_comments(self, old: Compiled, new: Compiled) -> None:
         comments = [[it.comparison.source.text[span.begin : span.end] for span in it.comparison.source.comments] for it in (old, new)]
         self.assertEqual(comments[0], comments[1])
+
+    def look_at_notes(self, score: bytes) -> None:
+        """Compares the notes before and after safe repairs, by the compiler's dump."""
+        notes = [[it for it in Compiled(data).dump.split("\n") if it.startswith(("notes:", "nabc", "header"))] for data in (score, repaired(score, SAFE))]
+        self.assertEqual(notes[0], notes[1])
 
     def test_scores_of_the_repository(self) -> None:
         scores = {*scores_of_tables(), *(it.read_bytes() for it in EXAMPLES.glob("*.gabc"))}
         made = 0
         for score in sorted(scores):
             with self.subTest(score):
-                made += self.look_at(score)
+                made += self.look_at(score, ALL)
+                self.look_at(score, SAFE)
+                self.look_at_notes(score)
         self.assertGreater(made, 100)
 
     def test_judge(self) -> None:
@@ -108,7 +121,9 @@ class Repairs(unittest.TestCase):
             ((escape,), True),
             ((escape, Edit(elsewhere, "", "&")), False),
             ((escape, Edit(elsewhere, "", "[")), False),
-            ((escape, Edit(0, "", "mode: 1;\n")), True),
+            ((escape, Edit(0, "", "mode: 1;\n")), False),
+            ((escape, Edit(at, "", "b")), False),
+            ((Edit(at, "", "(f)$"),), False),
             ((escape, Edit(comment, "% c", "")), False),
             ((escape, Edit(comment, "% c", "% d")), False),
             ((escape, Edit(elsewhere + 2, " ", "  ")), True),
@@ -118,6 +133,48 @@ class Repairs(unittest.TestCase):
             with mock.patch.dict(repairs.REPAIRS, {"escape": wrong}):
                 self.assertEqual(repaired(score, SAFE) != score, is_made, edits)
 
+    def test_nothing_between_two_edits_is_changed(self) -> None:
+        """A repair may not swallow the syllables between its edits."""
+        score = f"{_SCORE}a>(g) b(h) x(i) c(i) d(k)\n".encode()
+        edits = (Edit(score.index(b">"), "", "$"), Edit(score.index(b"b("), "", "["), Edit(score.index(b" d("), "", "]"))
+        wrong = replace(REPAIRS["escape"], changes="a guess", find=lambda subject, offset: edits)
+        with mock.patch.dict(repairs.REPAIRS, {"escape": wrong}):
+            self.assertEqual(repaired(score, ALL), score)
+
+    def test_what_is_refused_takes_nothing_else_with_it(self) -> None:
+        """Of many repairs that are tried together those that are refused are found, and the others are made."""
+        score = "".join([_SCORE, *(f"a{'&' if it % 7 == 3 else ''}>(g) " for it in range(50)), "\n"])
+        right = REPAIRS["escape"].find
+
+        def find(subject: Subject, offset: int) -> Edits:
+            return right(subject, offset) if subject.text[offset - 1] != "&" else (Edit(offset, ">", "(q)"),)
+
+        with mock.patch.dict(repairs.REPAIRS, {"escape": replace(REPAIRS["escape"], find=find)}):
+            made = repaired(score.encode(), SAFE).decode()
+        self.assertEqual(made, score.replace("a>", "a$>"))
+
+    def test_time(self) -> None:
+        """100 kB of signs are repaired in a time that a person waits, and so are many messages that no repair takes away."""
+        many = f"{_SCORE}{('>' * 5_000 + '(f) ') * 20}\n".encode()
+        for score, how, most in (
+            (many, SAFE, 8.0), (f"{_SCORE}{'<i>a(f) ' * 1_000}\n".encode(), SAFE, 5.0), (f"{_SCORE}{'a(g[x]&) ' * 45}\n".encode(), ALL, 5.0),
+            (f"{_SCORE}{'a(f ri(g) ' * 300}\n".encode(), How(allow_unsafe=True), 10.0),
+        ):
+            begin = time.process_time()
+            made = repaired(score, how)
+            self.assertLess(time.process_time() - begin, most, score[:60])
+            self.assertTrue(made)
+        self.assertEqual(repaired(many, SAFE).count(b"$>"), 100_000)
+
+    def test_a_fault_that_stays_leaves_the_score(self) -> None:
+        score = b"name: a\nmode: 1\n%%\n(c4) a(f) <v>b(g)\n"
+        self.assertEqual(repaired(score, ALL), score)
+
+    def test_what_is_told_of_a_guess(self) -> None:
+        made = repair(f"{_SCORE}mun9hh)d\u00e1(ij)\n".encode(), ALL)
+        self.assertEqual(made.guesses, ("3:12: open-notes: a guess: 'mun9hh)d\u00e1(ij)' becomes 'mun(hh)d\u00e1(ij)'; text becomes notes",))
+        self.assertEqual(repair(f"{_SCORE}a>(g)\n".encode(), ALL).guesses, ())
+
     def test_fatal_faults(self) -> None:
         """Where a fault stops a score, a repair inserts and takes nothing away."""
         score = b"name: a\n%%\n(c4)\n"
@@ -125,7 +182,8 @@ class Repairs(unittest.TestCase):
             wrong = replace(REPAIRS["end-header"], find=lambda subject, offset, edits=edits: edits)
             with mock.patch.dict(repairs.REPAIRS, {"end-header": wrong}):
                 self.assertEqual(check(repaired(score, ALL)).status is not Status.FATAL, is_made)
-        self.assertEqual(repaired(b"name: \xe9\n%%\n(c4) a>(g", ALL), b"name: \xe9\n%%\n(c4) a>(g")
+        for score in (b"name: \xe9\n%%\n(c4) a>(g", b"name: x\n%%\n(c4) a>(f)\n\xff\n", b"name: x;\n%%\n(c4) a>(f)\nb(\xff\n"):
+            self.assertEqual(repaired(score, ALL), score)
 
 
 class Command(InFolder):
@@ -145,7 +203,8 @@ class Command(InFolder):
         self.assertEqual((ran.returncode, ran.stdout), (1, b"s/a.gabc:3:14: error: E1: character left out of the notes\n"))
         self.assertEqual(Path("s/a.gabc").read_text(), f"{_SCORE}a$>(g[x]v) % c\n")
         ran = command(*words, "--fix", "--unsafe-fixes", "--quiet", "s")
-        self.assertEqual((ran.returncode, ran.stdout, ran.stderr), (0, b"", b""))
+        told = b"gregorio-chant: s/a.gabc:3:14: sign-before-attribute: a guess: 'a$>(g[x]v)' becomes 'a$>(gv[x])'; a sign is added\n"
+        self.assertEqual((ran.returncode, ran.stdout, ran.stderr), (0, b"", told))
         self.assertEqual(Path("s/a.gabc").read_text(), f"{_SCORE}a$>(gv[x]) % c\n")
         ran = command(*words, "--fix", "--unsafe-fixes", "--diff", "s")
         self.assertEqual((ran.returncode, ran.stdout, ran.stderr), (0, b"", b"gregorio-chant: 0 files would be repaired\n"))

@@ -3,6 +3,7 @@ from __future__ import annotations
 
 import json
 import unittest
+from pathlib import Path
 
 from gregorio_chant import Kind, Status, compile
 from gregorio_chant.rules import RULES, messages_with_rules
@@ -46,7 +47,8 @@ class Rules(unittest.TestCase):
     def test_asterisk_without_bar(self) -> None:
         for notes, is_well in (
             ("*(;)", True), ("*() (;)", True), ("*() (z0::c3)", True), ("a*(f) (,)", True), ("<i>*</i>(`)", True), ("**(f,)", True),
-            ("*()", False), ("*() b(;)", False), ("*(f) (g;)", False), ("a(f) <b>b*</b>(g) c(,)", False), ("<sp>*</sp>()", False),
+            ("*()", True), ("*() b(g) c(h) (,)", True), ("*() b(g)c(h) (::)", True), ("*() b(g) d(;)", True), ("*() (g;)", True),
+            ("*() b(g)c(h) (;)", False), ("*(f) b(g) (,)", False), ("a(f) <b>b*</b>(g) c(,)(,)", True), ("<sp>*</sp>() d(g) (;)", False),
         ):
             score = f"name: a;\n%%\n(c4)  {notes}   c(f)"
             places = [it[:2] for it in found(score, "asterisk-without-bar")]
@@ -70,10 +72,59 @@ class Rules(unittest.TestCase):
     def test_lone_capital(self) -> None:
         score = "name: a;\n%%\n(c4) a(F) b(fG) c(hGF) d(fgF) e(G~) f(gH) (;) (i) (I) (i)\n"
         self.assertEqual([it[:2] for it in found(score, "lone-capital")], [(3, 8), (3, 14), (3, 40), (3, 52)])
+        for sign in "~<>012":
+            self.assertEqual(found(f"name: a;\n%%\n(c4) Ky(f)ri(G{sign})e(h)", "lone-capital"), [], sign)
+        self.assertEqual(found("name: a;\n%%\n(c4) a(fv) b(gs) c(G) d(h_)", "lone-capital"), [])
 
     def test_unknown_special(self) -> None:
-        score = "name: a;\n%%\n(c4)  <sp>Rx</sp>(f) <sp>R/</sp><sp>'ae</sp><sp></sp>(g) <v><sp>x</sp></v>(h) $<sp$>(i)\n"
-        self.assertEqual([it[:2] for it in found(score, "unknown-special")], [(3, 7), (3, 45)])
+        score = "name: a;\n%%\n(c4)  <sp>Rx</sp>(f) <sp>R/</sp><sp>~~</sp><sp></sp>(g) <v><sp>x</sp></v>(h) $<sp$>(i)\n"
+        self.assertEqual([it[:2] for it in found(score, "unknown-special")], [(3, 7), (3, 44)])
+
+    def test_misspelled_header(self) -> None:
+        score = "name: a;\n moed: 1;\nstaff-line: 4;\nlicense: b;\nx: y;\nanotation: c;\ndef-m1: d;\n%%\n(c4) a(f)"
+        self.assertEqual([it[:2] for it in found(score, "misspelled-header")], [(2, 1), (3, 1), (6, 1)])
+
+    def test_mode_without_number(self) -> None:
+        for mode, is_well in (("VII", False), ("iv.", False), ("seven", False), ("7", True), ("9", True), ("n", True), ("", True), ("p", True), ("tonus irreg.", True)):
+            places = [it[:2] for it in found(f"name: a;\nmode: {mode};\n%%\n(c4)\n", "mode-without-number")]
+            self.assertEqual(places, [] if is_well else [(2, 1)], mode)
+        self.assertIn("write mode: 4;", found("mode: iv.;\n%%\n(c4)\n", "mode-without-number")[0][2])
+
+    def test_punctuation(self) -> None:
+        score = "name: a;\n%%\n(c4)  me(f), (;) et(g),(h) a,(f)b(g) c.(f) d(g) 1.(::)e(f) f;()g(f)"
+        self.assertEqual([it[:2] for it in found(score, "late-punctuation")], [(3, 12), (3, 23)])
+        self.assertEqual([it[:2] for it in found(score, "missing-blank")], [(3, 33)])
+
+    def test_bar_as_text(self) -> None:
+        score = "name: a;\n%%\n(c4) me(f) ; et(g)\n: ni(h) a :(f) ;(g) (;) b;(h)\n ,\n c(i)"
+        self.assertEqual([it[:2] for it in found(score, "bar-as-text")], [(3, 12), (4, 1), (5, 2)])
+
+    def test_words(self) -> None:
+        score = "name: a;\n%%\n(c4) A-(e)sp\u00e9r-(f)ges(g) me-(h) -(f)b(g) D&oacute;(f)mi&x;(g)ne&#233;(h) De()us(f) V() *() a()"
+        self.assertEqual([it[:2] for it in found(score, "typed-hyphen")], [(3, 6), (3, 11)])
+        self.assertEqual([it[1:] for it in found(score, "html-entity")], [
+            (43, "&oacute; is a name of HTML, and is sung as it stands: write \u00f3"), (64, "&#233; is a name of HTML, and is sung as it stands: write \u00e9"),
+        ])
+        self.assertEqual([it[:2] for it in found(score, "syllable-without-notes")], [(3, 74)])
+
+    def test_notes_in_translation(self) -> None:
+        score = "name: a;\n%%\n(c4) D\u00f3[hi]mi(h) a[me](f) b[Lord]c(g) [fg]d(h)"
+        self.assertEqual([it[:2] for it in found(score, "notes-in-translation")], [(3, 8)])
+
+    def test_unused_alteration(self) -> None:
+        for notes, is_well in (
+            ("(ixi)", True), ("(ix)b(i)", True), ("(ixg,i)", False), ("(ixg`i)", True), ("(iix)", False), ("(jxhi)", False), ("(ix)", True), ("(ixiyi)", False), ("(ixg) b(i)", False),
+            ("(ixgc3i)", False),
+        ):
+            self.assertEqual(bool(found(f"name: a;\n%%\n(c4) a{notes}", "unused-alteration")), not is_well, notes)
+        self.assertEqual([it[:2] for it in found("name: a;\n%%\n(c4)   a(hi  ixg)", "unused-alteration")], [(3, 14)])
+
+    def test_second_score_line(self) -> None:
+        score = "name: a;\n%% a\n(c4) a(f)\n %% b\n%%\nb(g) %% c\n%%d"
+        self.assertEqual([it[:2] for it in found(score, "second-score-line")], [(5, 1), (7, 1)])
+
+    def test_a_bar_of_two_lines_is_no_nabc(self) -> None:
+        self.assertEqual(found("name: a;\n%%\n(c4) a(f) (||) b(| |)", "nabc-without-header"), [])
 
     def test_scores_of_the_tables(self) -> None:
         """Each score of the tables can be tried, whatever stands in it, and its messages come in order, a fatal fault last."""
@@ -93,7 +144,7 @@ class Rules(unittest.TestCase):
         self.assertEqual([it.code for it in messages_with_rules(b"name: a;\n%%\n(c4) a(n")], ["F6"])
 
     def test_order(self) -> None:
-        messages = messages_with_rules(b"%%\n(c4) <x>a</x>(n&) % b\n*(f)")
+        messages = messages_with_rules(b"%%\n(c4) <x>a</x>(n&) % b\n*(f) a(g) (;)")
         self.assertEqual(
             [(it.line, it.column, it.code) for it in messages],
             [(1, 1, "W1"), (2, 6, "W6"), (2, 10, "W6"), (2, 15, "outside-staff"), (2, 16, "E1"), (2, 19, "comment"), (3, 1, "asterisk-without-bar")],
@@ -106,7 +157,13 @@ class Command(InFolder):
         words = ["check", "--output-format", "lines", "--quiet"]
         self.assertEqual(command(*words, "a.gabc").stdout, b"")
         lines = command(*words, "--rules", "a.gabc").stdout.decode()
-        self.assertEqual([it.split(": ")[1:3] for it in lines.split("\n")[:-1]], [["warning", "outside-staff"], ["warning", "comment"]])
+        self.assertEqual([it.split(": ")[1:3] for it in lines.split("\n")[:-1]], [["warning", "outside-staff"]])
+        lines = command(*words, "--rules", "--select", "comment", "a.gabc").stdout.decode()
+        self.assertEqual([it.split(": ")[1:3] for it in lines.split("\n")[:-1]], [["warning", "comment"]])
+        self.put("gregorio-chant.toml", "[format]\ncanonical = true\n")
+        self.assertIn(b"warning: comment", command(*words, "--rules", "a.gabc").stdout)
+        self.assertNotIn(b"warning: comment", command(*words, "--rules", "--no-config", "a.gabc").stdout)
+        Path("gregorio-chant.toml").unlink()
         self.assertEqual(command(*words, "--rules", "--fail-on", "outside-staff", "a.gabc").returncode, 1)
         self.assertEqual(command(*words, "--rules", "--fail-on", "rules", "a.gabc").returncode, 1)
         self.assertEqual(command(*words, "--rules", "a.gabc").returncode, 0)

@@ -28,10 +28,10 @@ class Actions(Served):
         return edits
 
     def test_repair(self) -> None:
-        self.assertEqual(self.capabilities["codeActionProvider"], {"codeActionKinds": ["quickfix", "source.fixAll.gregorio-chant"]})
+        self.assertEqual(self.capabilities["codeActionProvider"], {"codeActionKinds": ["quickfix", "source.fixAll.gregorio-chant"], "resolveProvider": True})
         shown = self.open(STYLES)
         repair, *others = self.offered(2, 10, 2, 10)
-        self.assertEqual((repair["title"][:29], repair["kind"], repair["isPreferred"]), ("Closes a style over several s", "quickfix", True))
+        self.assertEqual((repair["title"][:29], repair["kind"], repair["isPreferred"]), ("Close a style over several sy", "quickfix", True))
         self.assertEqual(repair["diagnostics"], [it for it in shown if it["code"] == "W3"][:1])
         self.assertEqual(applied(STYLES, self.edits_of(repair)).split("\n")[2], "(c4) <i>Ky</i>(f)<i>ri</i>(g) e>(h) <x>lei(g)")
         self.assertEqual([it["title"] for it in others], ["Silence W3 on this line", "Silence W3 in this score", "Make all safe repairs"])
@@ -53,6 +53,8 @@ class Actions(Served):
         self.open(text)
         repair = self.offered(2, 16, 2, 16)[0]
         self.assertNotIn("isPreferred", repair)
+        self.assertIn("(a guess: '\U0001d11e(f[ll:1]v)' becomes '\U0001d11e(fv[ll:1])'; a sign is added)", repair["title"])
+        self.assertEqual(self.offered(0, 0, 2, 20, only=["source"]), [])
         (edit,) = self.edits_of(repair)
         self.assertEqual(edit, {"range": span(2, 9, 2, 16 + 1), "newText": "v[ll:1]"} | {"range": edit["range"]})
         self.assertEqual([it["title"] for it in self.offered(2, 16, 2, 16)][-2:], ["Silence E1 on this line", "Silence E1 in this score"])
@@ -80,7 +82,7 @@ class Actions(Served):
         self.open("name: a;\n%%\n(c4) <x>Ky<v>a\nb</v>(f)\n")
         self.assertEqual([it["title"] for it in self.offered(2, 0, 2, 9)], ["Silence W6 in this score"])
         self.change("name: a;\n%%\n(c4) Ky(f")
-        self.assertEqual([it["title"] for it in self.offered(2, 0, 2, 9)], ["Writes the ) that the last notes lack"])
+        self.assertEqual([it["title"] for it in self.offered(2, 0, 2, 9)], ["Write the ) that is missing at the end (a guess: 'Ky(f' becomes 'Ky(f)'; the last notes are read)"])
 
 
 class Versions(Served):
@@ -93,6 +95,38 @@ class Versions(Served):
         (edit,) = action["edit"]["documentChanges"]
         self.assertEqual(edit["textDocument"], {"uri": self.uri, "version": 2})
         self.assertEqual(len(edit["edits"]), 2)
+
+
+class Resolved(Served):
+    capabilities_of_client = {"textDocument": {"codeAction": {"resolveSupport": {"properties": ["edit"]}}}}
+
+    def test_all_when_chosen(self) -> None:
+        """The edits of all repairs are looked for when the action is chosen."""
+        self.open(STYLES)
+        (action,) = self.ask_here("codeAction", range=span(0, 0, 0, 0), context={"diagnostics": [], "only": ["source"]})
+        self.assertNotIn("edit", action)
+        chosen = self.ask("codeAction/resolve", action)
+        self.assertEqual(applied(STYLES, chosen["edit"]["changes"][self.uri]), "name: a;\n%%\n(c4) <i>Ky</i>(f)<i>ri</i>(g) e$>(h) <x>lei(g)\n")
+        self.assertEqual((chosen["title"], chosen["kind"]), (action["title"], action["kind"]))
+
+    def test_at_most_twenty_messages(self) -> None:
+        self.open("name: a;\n%%\n(c4) " + "a>(f) " * 50)
+        offered = self.ask_here("codeAction", range=span(0, 0, 9, 0), context={"diagnostics": []})
+        self.assertEqual(sum(it.get("isPreferred", False) for it in offered), 20)
+
+    def test_given_up_when_the_score_changes(self) -> None:
+        """A long answer is not made to its end once a change waits."""
+        self.open("name: a;\n%%\n(c4) " + "a(g[x]&) " * 400)
+        self.send({"id": 77, "method": "textDocument/codeAction", "params": {
+            "textDocument": {"uri": self.uri}, "range": span(0, 0, 9, 0), "context": {"diagnostics": []},
+        }})
+        self.tell_change("name: a;\n%%\n(c4) a(f)\n")
+        answer = self.receive()
+        while "id" not in answer:
+            answer = self.receive()
+        self.assertEqual(answer["id"], 77)
+        self.assertTrue("result" in answer or answer["error"]["code"] == -32801)
+        self.assertEqual(self.answer("textDocument/hover", {"textDocument": {"uri": self.uri}, "position": place(0, 0)})["id"], self.number)
 
 
 class Rules(Served):
@@ -164,6 +198,9 @@ class Completion(Served):
         for nothing in ("a(^f)", "a(f|pe|g^)", "a(f[|^])", "a^(f)", "a(f)^", "% <^", "a(f % |^\n)"):
             self.assertEqual(self.labels(head + nothing), {}, nothing)
         self.assertEqual(self.labels("name: a;\n%%\n(c4) a(f|^)"), {})
+        two = "name: a;\nnabc-lines: 2;\n%%\n(c4) "
+        self.assertEqual(self.labels(f"{two}a(f|pe|v^")["vi"][1], "(c4) a(f|pe|vi")
+        self.assertEqual(self.labels(f"{two}a(f|pe|vi|g^)"), {})
 
 
 class Hover(Served):

@@ -42,7 +42,7 @@ class Settings(InFolder):
         self.put("s/a.gabc", FOUND)
         everything = ["W6", "W6", "E1"]
         for text, wanted in (
-            ("", everything), ('select = ["W"]', ["W6", "W6"]), ('ignore = ["W6"]', ["E1"]), ("rules = true", [*everything[:2], "outside-staff", "E1", "asterisk-without-bar"]),
+            ("", everything), ('select = ["W"]', ["W6", "W6"]), ('ignore = ["W6"]', ["E1"]), ("rules = true", [*everything[:2], "outside-staff", "E1"]),
             ('rules = true\nignore = ["rules", "E"]', ["W6", "W6"]), ('[per-file-ignores]\n"s/*" = ["W6"]\n"b.gabc" = ["E1"]', ["E1"]),
             ('ignore = ["E1"]\n[per-file-ignores]\n"a.gabc" = ["W6"]', []),
         ):

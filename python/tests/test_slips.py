@@ -1,47 +1,51 @@
-"""Plants thirty slips of the pen into a score in which nothing is found: nearly each is told, and each lost bracket is named."""
+"""Plants slips of the pen into a score in which nothing is found: most are told, each with a help that names it, and guesses bring most back."""
 from __future__ import annotations
 
 import unittest
 
 from gregorio_chant.checking import check_data
 from gregorio_chant.helps import helps_for
+from gregorio_chant.repairing import How, repair
 from gregorio_chant.source import text_of
+from slips import BACK, SCORE, SLIPS, STAYS, Slip
 
-SCORE = (
-    "name: Kyrie;\nmode: 1;\nnabc-lines: 1;\n%%\n(c4) KY(f|pu)ri(gfg|po)e(h.) *(,) <sp>R/</sp> e(ixi)lé(hv[ll:1])i<i>son</i>[Lord](f'|vi)\n"
-    "{A}(@[fg])men,(g_) <i>et</i>(h) no(gh/ji)bis(f.) (::)\n"
-)
-# What is written in place of what, and what has to be told: a code or the name of a rule, and a word of its help where a bracket is lost.
-SLIPS = [
-    ("name: Kyrie;", "name: Kyrie", "F3", ";"), ("mode: 1;", "mode: 9;", "unknown-mode", ""), ("mode: 1;", "mode 1;", "E4", ""),
-    ("mode: 1;", "mode: 1;\nmode: 2;", "W2", ""), ("nabc-lines: 1;\n", "", "nabc-without-header", ""), ("nabc-lines: 1;", "nabc-lines: I;", "E5", ""),
-    ("%%", "%", "F3", ""), ("(c4)", "(c5)", "clef-off-staff", ""), ("(c4)", "()", "W12", ""), ("KY(f|pu)", "KY(f|up)", "W7", ""),
-    ("KY(f|pu)", "KY(f|pu1)", "E3", ""), ("KY(f|pu)ri", "KY(f|pu ri", "E3", "the ( at 5:8 probably lacks its )"), ("KY(f", "KY (f", "blank-before-notes", ""),
-    ("e(h.) *", "e(h. *", "E1", "the ( at 5:25 probably lacks its )"), ("e(h.)", "eh.)", "E2", "look for a ( that is missing"), ("e(h.)", "e(h.))", "E2", ""),
-    ("e(h.)", "e(h5)", "E1", ""), ("e(h.)", "e(H)", "lone-capital", ""), ("*(,)", "*()", "asterisk-without-bar", ""), ("R/<", "Rx<", "unknown-special", ""),
-    ("lé(hv[ll:1])", "lé(h[ll:1]v)", "E1", ""), ("[ll:1]", "[ll:1", "bracket-in-attribute", ""), ("<i>son</i>", "<it>son</it>", "W6", ""),
-    ("<i>son</i>", "<i>son", "W3", ""), ("[Lord]", "[Lord][God]", "W5", ""), ("{A}", "{A", "W4", ""), ("(@[fg])", "(@[fg)", "W10", ""),
-    ("(g_)", "(n_)", "outside-staff", ""), ("(gh/ji)", "(gh/o)", "E1", ""), ("bis(f.)", "bis(fo9)", None, ""),
-]
+
+def told_of(score: str) -> list[tuple[str, str]]:
+    """Returns the code of each message, and its help, or what a rule says."""
+    data = score.encode()
+    found = check_data(data, True)
+    return [(it.code, help or it.text) for it, help in zip(found, helps_for(text_of(data), found, found))]
 
 
 class Slips(unittest.TestCase):
     def test_none(self) -> None:
         self.assertEqual(check_data(SCORE.encode(), True), ())
 
-    def test_each(self) -> None:
-        self.assertEqual(len(SLIPS), 30)
-        told = 0
-        for right, wrong, code, help in SLIPS:
-            with self.subTest(wrong):
-                self.assertEqual(SCORE.count(right), 1, right)
-                score = SCORE.replace(right, wrong).encode()
-                found = check_data(score, True)
-                self.assertIn(code, [it.code for it in found] or [None])
-                told += bool(found)
-                if help:
-                    self.assertTrue([it for it in helps_for(text_of(score), found, found) if it and help in it], found)
-        self.assertGreaterEqual(told, 29)
+    def planted(self, slip: Slip) -> str:
+        return next(slip.planted(SCORE))
+
+    def test_told(self) -> None:
+        for slip in SLIPS:
+            with self.subTest(wrong=slip.wrong, right=slip.right):
+                told = told_of(self.planted(slip))
+                if slip.code is None:
+                    self.assertEqual(told, [])
+                else:
+                    self.assertTrue([help for code, help in told if code == slip.code and slip.help in help], told)
+
+    def test_guesses(self) -> None:
+        for slip in SLIPS:
+            with self.subTest(wrong=slip.wrong, right=slip.right):
+                planted = self.planted(slip)
+                made = repair(planted.encode(), How(allow_unsafe=True, with_rules=True)).data.decode()
+                self.assertEqual(made, {BACK: SCORE, STAYS: planted}.get(slip.repaired, made))
+                if slip.repaired not in (BACK, STAYS):
+                    self.assertIn(slip.repaired, made)
+                self.assertEqual(repair(made.encode(), How(allow_unsafe=True, with_rules=True)).data.decode(), made)
+
+    def test_numbers(self) -> None:
+        self.assertGreaterEqual(len(SLIPS), 96)
+        self.assertGreaterEqual(sum(it.code is not None for it in SLIPS), 85)
 
 
 if __name__ == "__main__":

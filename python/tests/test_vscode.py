@@ -11,7 +11,7 @@ import zipfile
 from pathlib import Path
 from typing import Any
 
-from gregorio_chant.helps import Subject
+from gregorio_chant.slips import Subject
 from gregorio_chant.library import compile
 from gregorio_chant.results import Status
 from gregorio_chant.server.actions import FIX_ALL

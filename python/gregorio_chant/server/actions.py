@@ -3,36 +3,40 @@ from __future__ import annotations
 
 import os
 from collections.abc import Iterator
+from itertools import islice
 
 from gregorio_chant.compiled import Compiled
 from gregorio_chant.ignores import IGNORE
-from gregorio_chant.repairs import REPAIRS, Edit, How, repaired, repairs_of, with_edits
+from gregorio_chant.repairing import How, has_safe_repair, proposals_for, repair, with_edits
+from gregorio_chant.repairs import Edit
 from gregorio_chant.results import Kind, Message
-from gregorio_chant.rules import unsilenced
+from gregorio_chant.rules import RULES, unsilenced
 from gregorio_chant.server.diagnostics import diagnostic, range_of
 from gregorio_chant.server.document import Document
 from gregorio_chant.server.protocol import Json, Params
 from gregorio_chant.server.text import Text
 
+# Of so many messages the repairs are looked for at one request.
+_MOST_MESSAGES = 20
 _QUICK = "quickfix"
 FIX_ALL = "source.fixAll.gregorio-chant"
 KINDS = [_QUICK, FIX_ALL]
 
 
 def actions(document: Document, params: Params) -> Json:
-    """Returns what can be done about the messages in a range, and about those that the editor names. What would change the score otherwise than it says is not
-    offered."""
+    """Returns what can be done about the messages in a range, and about those that the editor names, of 20 messages at most. What would change the score
+    otherwise than it says is not offered."""
     where, context = params["range"].range(), params["context"]
     only = [it.text() for it in context["only"].parts()] if context.has("only") else []
     named = [it["range"].range() for it in context["diagnostics"].parts()] if context.has("diagnostics") else []
     if not document.is_text:
         return []
-    here = [it for it in document.messages if range_of(document, it).meets(where) or range_of(document, it) in named]
+    all_here = (it for it in document.messages if range_of(document, it).meets(where) or range_of(document, it) in named)
+    here = list(islice(all_here, _MOST_MESSAGES))
     made: list[Json] = []
     if _is_wanted(_QUICK, only):
         made += [*_repairs(document, here), *_silences(document, here)]
-    is_repaired_here = any(it.codes & {message.code for message in here} for it in REPAIRS.values() if it.is_safe)
-    if _is_wanted(FIX_ALL, only) and (only or is_repaired_here):
+    if _is_wanted(FIX_ALL, only) and has_safe_repair(document.subject, document.messages if only else here):
         made += _all_repairs(document)
     return made
 
@@ -62,22 +66,41 @@ def _edits(document: Document, edits: tuple[Edit, ...]) -> list[Json]:
 
 
 def _repairs(document: Document, messages: list[Message]) -> Iterator[Json]:
-    for it in repairs_of(document.compiled, messages, document.file.with_rules):
-        action = _action(document, it.repair.meaning.rstrip("."), _QUICK, _edits(document, it.edits), it.message)
-        yield action | ({"isPreferred": True} if it.repair.is_safe else {})
+    """Yields an action for each repair; one that guesses says so, and shows both readings."""
+    with_rules = document.file.with_rules and any(it.code in RULES for it in messages)
+    for it in proposals_for(document.compiled, messages, with_rules, document.pause):
+        title, edits = it.repair.meaning.rstrip("."), _edits(document, it.edits)
+        if it.repair.is_safe:
+            yield _action(document, title, _QUICK, edits, it.message) | {"isPreferred": True}
+        else:
+            yield _action(document, f"{title} ({it.line(document.text.plain)})", _QUICK, edits, it.message)
 
 
 def _all_repairs(document: Document) -> list[Json]:
-    """Returns the action that makes all safe repairs; none where there is nothing to repair."""
+    """Returns the action that makes all safe repairs, and no guess; none if there is nothing to repair. Its edits are looked for when it is chosen, if the
+    editor asks for them then."""
+    title = "Make all safe repairs"
+    if document.file.resolves_actions:
+        return [{"title": title, "kind": FIX_ALL, "data": {"uri": document.file.uri}}]
+    edits = _edits_of_all(document)
+    return [_action(document, title, FIX_ALL, edits)] if edits else []
+
+
+def _edits_of_all(document: Document) -> list[Json]:
     old = document.text.raw
     how = How(with_rules=document.file.with_rules, selection=document.file.selection)
-    new = repaired(document.text.data, how).decode("utf-8", "surrogatepass")
+    new = repair(document.text.data, how, document.pause).data.decode("utf-8", "surrogatepass")
     if new == old:
         return []
     begin = len(os.path.commonprefix([old, new]))
     end = len(os.path.commonprefix([old[begin:][::-1], new[begin:][::-1]]))
     where = document.text.raw_range(begin, len(old) - end)
-    return [_action(document, "Make all safe repairs", FIX_ALL, [{"range": where.to_json(), "newText": new[begin : len(new) - end]}])]
+    return [{"range": where.to_json(), "newText": new[begin : len(new) - end]}]
+
+
+def resolved(document: Document, params: Params) -> Json:
+    """Returns the action that makes all safe repairs, with its edits."""
+    return _action(document, params["title"].text(), FIX_ALL, _edits_of_all(document))
 
 
 # ---- to silence a message

@@ -8,24 +8,28 @@ from functools import cached_property
 from gregorio_chant.compiled import Compiled
 from gregorio_chant.dump import Pause, Score, go_on
 from gregorio_chant.formatting import Style, style_by
-from gregorio_chant.helps import Subject, helps_for
+from gregorio_chant.helps import helps_for
+from gregorio_chant.repairing import is_text
 from gregorio_chant.results import Message
 from gregorio_chant.rules import messages_with_rules, unsilenced
 from gregorio_chant.scan import Scan, scan
 from gregorio_chant.selection import Selection
 from gregorio_chant.server.text import Text
 from gregorio_chant.settings import Settings
+from gregorio_chant.slips import Subject
 
 
 @dataclass(frozen=True)
 class File:
-    """What stays the same as long as a score is open: its file, what is wanted there, and whether its editor takes edits with a version."""
+    """What stays the same as long as a score is open: its file, what is wanted there, whether its editor takes edits with a version, and whether it asks for
+    the edits of an action when that is chosen."""
 
     uri: str
     name: str
     settings: Settings
     with_rules: bool
     takes_versions: bool
+    resolves_actions: bool = False
 
     @property
     def selection(self) -> Selection:
@@ -41,6 +45,8 @@ class Document:
 
     def __init__(self, file: File, text: Text, version: int | None) -> None:
         self.file, self.text, self.version = file, text, version
+        # What is called now and then during a long answer; it raises where nobody waits for that any more.
+        self.pause: Pause = go_on
         self._found: tuple[Message, ...] | None = None
 
     def changed(self, change: Callable[[Text], Text], version: int | None) -> Document:
@@ -53,8 +59,8 @@ class Document:
 
     @property
     def is_text(self) -> bool:
-        """Whether it is UTF-8: half a character of UTF-16, which an editor may send, is none."""
-        return self.compiled.fault is None or self.compiled.fault.code != "F1"
+        """Whether all of it is UTF-8: half a character of UTF-16, which an editor may send, is none."""
+        return is_text(self.text.data)
 
     def find(self, pause: Pause = go_on) -> tuple[Message, ...]:
         """Returns all that is found, by the rules too where they are wanted."""

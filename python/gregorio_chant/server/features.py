@@ -4,7 +4,7 @@ from __future__ import annotations
 from collections.abc import Callable
 
 from gregorio_chant import __version__
-from gregorio_chant.server.actions import KINDS, actions
+from gregorio_chant.server.actions import KINDS, actions, resolved
 from gregorio_chant.server.completion import TRIGGERS, completion
 from gregorio_chant.server.document import Document
 from gregorio_chant.server.formats import Refused, formatted_all, formatted_lines
@@ -19,9 +19,11 @@ from gregorio_chant.streams import NAME
 __all__ = ["CAPABILITIES", "FEATURES", "SHOW", "Refused"]
 
 _INCREMENTAL = 2
+# The request for the edits of an action that was chosen.
+RESOLVE = "codeAction/resolve"
 
 FEATURES: dict[str, Callable[[Document, Params], Json]] = {
-    "textDocument/codeAction": actions, "textDocument/completion": completion, "textDocument/documentSymbol": symbols,
+    "textDocument/codeAction": actions, RESOLVE: resolved, "textDocument/completion": completion, "textDocument/documentSymbol": symbols,
     "textDocument/foldingRange": foldings, "textDocument/formatting": formatted_all, "textDocument/hover": hover,
     "textDocument/rangeFormatting": formatted_lines, "textDocument/semanticTokens/full": tokens, "gregorio/picture": svg,
 }
@@ -31,7 +33,7 @@ SHOW = "gregorio-chant.show"
 CAPABILITIES: Json = {
     "capabilities": {
         "positionEncoding": "utf-16", "textDocumentSync": {"openClose": True, "change": _INCREMENTAL},
-        "codeActionProvider": {"codeActionKinds": KINDS}, "executeCommandProvider": {"commands": [SHOW]}, "completionProvider": {"triggerCharacters": TRIGGERS},
+        "codeActionProvider": {"codeActionKinds": KINDS, "resolveProvider": True}, "executeCommandProvider": {"commands": [SHOW]}, "completionProvider": {"triggerCharacters": TRIGGERS},
         "documentFormattingProvider": True, "documentRangeFormattingProvider": True, "documentSymbolProvider": True,
         "foldingRangeProvider": True, "hoverProvider": True,
         "semanticTokensProvider": {"legend": {"tokenTypes": TOKENS, "tokenModifiers": []}, "full": True},

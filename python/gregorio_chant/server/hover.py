@@ -9,7 +9,7 @@ from gregorio_chant.explaining import page_of
 from gregorio_chant.items import Bar, Clef, Descriptor, Glyph, Item, Note, Syllable
 from gregorio_chant.server.document import Document
 from gregorio_chant.server.protocol import Json, Params
-from gregorio_chant.server.vocabulary import HEADERS, TAGS
+from gregorio_chant.vocabulary import HEADERS, TAGS
 
 _CLEF = re.compile(r"([cf])(b?)([1-5])")
 _TAG = re.compile(r"</?([a-z]+)>")

@@ -6,6 +6,7 @@ from collections import deque
 from dataclasses import dataclass
 
 _CANCEL = "$/cancelRequest"
+_CHANGES = ("textDocument/didChange", "textDocument/didClose")
 
 
 @dataclass(eq=False)
@@ -24,6 +25,13 @@ class Message:
     def id(self) -> str | int | float | None:
         it = self.value.get("id") if isinstance(self.value, dict) else None
         return it if isinstance(it, (str, int, float)) and not isinstance(it, bool) else None
+
+    @property
+    def changed_uri(self) -> object:
+        """The URI of the document that it changes or closes, if it does."""
+        params = self.value.get("params") if isinstance(self.value, dict) and self.method in _CHANGES else None
+        document = params.get("textDocument") if isinstance(params, dict) else None
+        return document.get("uri") if isinstance(document, dict) else None
 
     @property
     def is_answer(self) -> bool:
@@ -71,6 +79,11 @@ class Inbox:
     @property
     def is_empty(self) -> bool:
         return not self._waiting
+
+    def changes(self, uri: str) -> bool:
+        """Returns whether a message waits that changes or closes this document."""
+        with self._changed:
+            return any(it.changed_uri == uri for it in self._waiting)
 
     def take(self, waits: bool) -> Message | None:
         """Takes the first message. Nothing where there is none, once nothing more comes or if it does not wait."""

@@ -18,6 +18,7 @@ class Code(enum.IntEnum):
     INTERNAL = -32603
     NOT_INITIALIZED = -32002
     CANCELLED = -32800
+    CHANGED = -32801
     FAILED = -32803
 
 

@@ -10,7 +10,7 @@ from gregorio_chant.dump import Pause
 from gregorio_chant.needs import Missing
 from gregorio_chant.server.diagnostics import diagnostics, no_diagnostics
 from gregorio_chant.server.document import Document, File
-from gregorio_chant.server.features import CAPABILITIES, FEATURES, SHOW, Refused
+from gregorio_chant.server.features import CAPABILITIES, FEATURES, RESOLVE, SHOW, Refused
 from gregorio_chant.server.inbox import Inbox, Message
 from gregorio_chant.server.pictures import Pages
 from gregorio_chant.server.protocol import Code, Json, Params, ProtocolError
@@ -44,6 +44,15 @@ def name_of(uri: str) -> str:
     return os.fsdecode(path) if parts.scheme == "file" and path and b"\0" not in path else STDIN
 
 
+def _resolves_actions(params: Params) -> bool:
+    """Returns whether an editor asks for the edits of an action when that is chosen."""
+    for name in ("capabilities", "textDocument", "codeAction", "resolveSupport", "properties"):
+        if not params.has(name):
+            return False
+        params = params[name]
+    return "edit" in [it.text() for it in params.parts()]
+
+
 class Session:
     """Answers an editor about the scores that it has open. `send` sends it a message."""
 
@@ -55,7 +64,9 @@ class Session:
         # The documents that have changed since they were checked, the first one first.
         self._unchecked: dict[str, None] = {}
         self._phase = _Phase.BEFORE
-        self._takes_versions = self._shows_documents = False
+        self._takes_versions = self._shows_documents = self._resolves_actions = False
+        # Whether a message waits that changes a document.
+        self._is_changed: Callable[[str], bool] = lambda uri: False
         self._pages = Pages()
         # How many documents the editor was asked to show.
         self._asked = 0
@@ -73,6 +84,7 @@ class Session:
             if not inbox.is_empty or inbox.is_closed:
                 raise _Overtaken
 
+        self._is_changed = inbox.changes
         while True:
             message = inbox.take(waits=not self._unchecked)
             if message is not None:
@@ -144,7 +156,10 @@ class Session:
                 return self._show(params)
             if method not in FEATURES:
                 raise ProtocolError(Code.NO_METHOD, f"there is no method {method[:80]}")
-            return FEATURES[method](self._document(params.uri()), params)
+            uri = params["data"]["uri"].text() if method == RESOLVE else params.uri()
+            return FEATURES[method](self._asked_about(uri), params)
+        except _Overtaken:
+            raise ProtocolError(Code.CHANGED, "the document was changed meanwhile") from None
         except Refused as refused:
             self._warn(str(refused))
             return []
@@ -153,6 +168,17 @@ class Session:
         document = self._documents.get(uri)
         if document is None:
             raise ProtocolError(Code.BAD_PARAMETERS, "this document is not open")
+        return document
+
+    def _asked_about(self, uri: str) -> Document:
+        """Returns a document whose answers are given up once a change of it waits."""
+        document = self._document(uri)
+
+        def pause() -> None:
+            if self._is_changed(uri):
+                raise _Overtaken
+
+        document.pause = pause
         return document
 
     def _show(self, params: Params) -> Json:
@@ -175,6 +201,7 @@ class Session:
         self._phase = _Phase.OPEN
         self._takes_versions = params.flag("capabilities", "workspace", "workspaceEdit", "documentChanges")
         self._shows_documents = params.flag("capabilities", "window", "showDocument", "support")
+        self._resolves_actions = _resolves_actions(params)
         return CAPABILITIES
 
     # ---- documents
@@ -183,7 +210,7 @@ class Session:
         it, uri = params["textDocument"], params.uri()
         text, name = Text(it["text"].text()), name_of(uri)
         settings = self._settings_of(name)
-        file = File(uri, name, settings, self._with_rules or settings.rules is True, self._takes_versions)
+        file = File(uri, name, settings, self._with_rules or settings.rules is True, self._takes_versions, self._resolves_actions)
         self._keep(Document(file, text, it.version()))
 
     def _settings_of(self, name: str) -> Settings:
