@@ -64,6 +64,7 @@ brought_command() {
 # Writes the commands of the editors vim, nvim and emacs that are not on the path into the folder $1; $2 has the files of their packages.
 brought_editors() {
   local folder="$1" files="$2" lisp
+  [ -d "$files" ] || return 0
   command -v vim >/dev/null || brought_command "$folder" vim "$files/usr/bin/vim.basic" "VIMRUNTIME=$(echo "$files"/usr/share/vim/vim[0-9]*)"
   command -v nvim >/dev/null || brought_command "$folder" nvim "$files/usr/bin/nvim" "VIMRUNTIME=$files/usr/share/nvim/runtime"
   lisp="$(echo "$files"/usr/share/emacs/[0-9]*)"
