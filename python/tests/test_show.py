@@ -17,7 +17,7 @@ from gregorio_chant.picture import Look, Names, draw
 from gregorio_chant.picture.page import Shown, page_of
 from gregorio_chant.reports import Checked
 from pages import block
-from support import EXAMPLES, FAULTY, SCORE, InFolder, command
+from support import EXAMPLES, FAULTY, SCORE, InFolder, command, in_terminal
 from test_picture import HOSTILE
 
 WARNED = "name: b;\n%%\n(c4) <x>Ky(g)ri(g)\n"
@@ -162,6 +162,11 @@ class Output(InFolder):
         ran = command("show", "-o", "page.html", "a.gabc")
         self.assertEqual((ran.returncode, ran.stdout, ran.stderr), (0, b"", b""))
         self.assertEqual(Path("page.html").read_bytes(), command("show", "a.gabc").stdout)
+
+    def test_terminal(self) -> None:
+        """A page is not written to a terminal: the command says where to write it."""
+        status, shown = in_terminal("show", self.put("a.gabc", SCORE))
+        self.assertEqual((status, shown), (3, "gregorio-chant: a page is not for a terminal: write it into a file, as with -o page.html\n"))
 
     def test_score_is_not_written_over(self) -> None:
         self.put("a.gabc", SCORE)

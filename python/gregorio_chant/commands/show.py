@@ -10,7 +10,7 @@ from gregorio_chant.picture import OWN, USUAL_WIDTH, Face, Look
 from gregorio_chant.picture.nabc import AUTO, NAMES
 from gregorio_chant.picture.symbols import square_face
 from gregorio_chant.selection import UnknownCode
-from gregorio_chant.streams import CANNOT_READ_OR_WRITE, printable, reason_of, tell
+from gregorio_chant.streams import CANNOT_READ_OR_WRITE, is_terminal, printable, reason_of, tell
 
 NAME = "show"
 _ABOUT = f"""Writes a page with a picture of each score, its messages and its source. The page stands alone: it needs no script and no network. Of the scores of
@@ -45,7 +45,9 @@ def add(commands: argparse._SubParsersAction[Parser]) -> Parser:
 
 
 def run(words: argparse.Namespace) -> int:
-    """Writes the page. Raises `UnknownCode`, `CannotWrite`, `Missing` and `SettingsError`."""
+    """Writes the page. Raises `UnknownCode`, also if a page would go to a terminal, `CannotWrite`, `Missing` and `SettingsError`."""
+    if words.output is None and is_terminal():
+        raise UnknownCode("a page is not for a terminal: write it into a file, as with -o page.html")
     try:
         face = _face_of(words.font) if words.font is not None else OWN if words.face == "plain" else square_face()
     except OSError as error:
