@@ -56,7 +56,7 @@ _gregorio_chant() {
     --exclude | --output | -o | --font) mapfile -t COMPREPLY < <(compgen -f -- "$word") ;;
     --face) mapfile -t COMPREPLY < <(compgen -W 'square plain' -- "$word") ;;
     --neumes) mapfile -t COMPREPLY < <(compgen -W 'auto stgall modern laon text' -- "$word") ;;
-    --to) mapfile -t COMPREPLY < <(compgen -W midi -- "$word") ;;
+    --to) mapfile -t COMPREPLY < <(compgen -W 'volpiano musicxml mei midi' -- "$word") ;;
     --folder) mapfile -t COMPREPLY < <(compgen -d -- "$word") ;;
     --jobs | --wrap | --width | --port | --interval | --neume | --text | --tempo) ;;
     *)

@@ -1,12 +1,13 @@
 """The command `export`: writes scores as files of another format, beside them or in a folder."""
 from __future__ import annotations
 
-from collections.abc import Callable
 from dataclasses import dataclass
 from pathlib import Path
 
 from gregorio_chant.dump import Score, ScoreError
 from gregorio_chant.files import Reader, write
+from gregorio_chant.formats import Way
+from gregorio_chant.formats.losses import losses
 from gregorio_chant.reports import counted
 from gregorio_chant.results import Kind
 from gregorio_chant.settings import Finder
@@ -15,17 +16,15 @@ from gregorio_chant.walk import find_scores
 
 _ERRORS = 1
 _FATAL = 2
-Write = Callable[[Score], bytes]
 
 
 @dataclass(frozen=True)
 class Wanted:
-    """What the words of the command ask for: `ending` is that of the new files, `folder` where they
+    """What the words of the command ask for: `way` is the format of the new files, `folder` where they
     go, if not beside their scores."""
 
     paths: tuple[str, ...]
-    write: Write
-    ending: str
+    way: Way
     folder: str | None
     is_forced: bool
     exclude: tuple[str, ...]
@@ -34,11 +33,24 @@ class Wanted:
 
 
 def _target(name: str, wanted: Wanted) -> Path:
-    path = Path(name).with_suffix(wanted.ending)
+    path = Path(name).with_suffix(wanted.way.ending)
     return path if wanted.folder is None else Path(wanted.folder) / path.name
 
 
-def _export(name: str, reader: Reader, wanted: Wanted) -> tuple[int, str | None]:
+class _Told:
+    """What the format says nothing of: each kind is told once, at its first place in the first score that has it."""
+
+    def __init__(self, way: Way) -> None:
+        self._way = way
+        self._kinds: set[str] = set()
+
+    def tell(self, name: str, score: Score) -> None:
+        for kind, source in losses(score, self._way.lost - self._kinds).items():
+            self._kinds.add(kind)
+            tell(f"{name}:{source}: {self._way.name} says nothing of {kind}")
+
+
+def _export(name: str, reader: Reader, wanted: Wanted, lost: _Told) -> tuple[int, str | None]:
     """Exports a score. Returns the status, and what is told of it."""
     try:
         score = Score.parse(reader.read(name).data)
@@ -48,13 +60,14 @@ def _export(name: str, reader: Reader, wanted: Wanted) -> tuple[int, str | None]
     if fault is not None:
         return _FATAL, f"{name}:{fault.line}:{fault.column}: {fault.code}: {fault.text}; it is not written"
     try:
-        data = wanted.write(score)
+        data = wanted.way.write(score)
     except ValueError as error:
         return _ERRORS, f"{name}:{error}; it is not written"
     if name == STDIN:
         write_bytes(data)
     else:
         write(str(_target(name, wanted)), (data,), is_forced=wanted.is_forced)
+    lost.tell(name, score)
     return 0, None
 
 
@@ -69,10 +82,10 @@ def export(wanted: Wanted) -> int:
         reason = "there is a file of this name already; --force writes over it" if isinstance(error, FileExistsError) else reason_of(error)
         tell(f"cannot export {name}: {reason}")
 
-    reader = Reader.of(wanted.paths)
+    reader, lost = Reader.of(wanted.paths), _Told(wanted.way)
     for name in wanted.settings.kept(find_scores(wanted.paths, fail, wanted.exclude), wanted.paths):
         try:
-            its, told = _export(name, reader, wanted)
+            its, told = _export(name, reader, wanted, lost)
         except OSError as error:
             fail(name, error)
             continue
