@@ -5,7 +5,7 @@ _gregorio_chant_options() {
   case "$1" in
     check) echo '--staged --exclude --output-format --select --ignore --fail-on --rules --fix --unsafe-fixes --diff --jobs --no-config --quiet --help' ;;
     format) echo '--staged --exclude --check --diff --wrap --canonical --allow --jobs --no-config --quiet --help' ;;
-    show) echo '--exclude --output --svg --width --no-initial --face --neumes --no-messages --font --watch --rules --no-config --help' ;;
+    show) echo '--exclude --output --svg --width --no-initial --face --neumes --no-messages --play --font --watch --rules --no-config --help' ;;
     page) echo '--port --rules --no-config --help' ;;
     explain) echo '--all --help' ;;
     export) echo '--to --exclude --folder --force --tempo --no-config --quiet --help' ;;

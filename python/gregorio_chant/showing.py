@@ -10,12 +10,14 @@ from pathlib import Path
 from urllib.parse import quote
 
 from gregorio_chant import checking, files
+from gregorio_chant.dump import Score, ScoreError
 from gregorio_chant.picture import Look, Names, draw
 from gregorio_chant.picture.page import NARROW, Entry, Shown, index_of, page_of
 from gregorio_chant.reports import Checked, counted, summary_of
 from gregorio_chant.results import Kind
 from gregorio_chant.selection import UnknownCode
 from gregorio_chant.settings import Finder, NoSettings
+from gregorio_chant.sounds import NoSound, Sound, sounds_of
 from gregorio_chant.source import text_of
 from gregorio_chant.streams import CANNOT_READ_OR_WRITE, STDIN, CannotWrite, printable, reason_of, tell, write_data
 from gregorio_chant.walk import find_scores
@@ -34,6 +36,7 @@ class Wanted:
     svg: bool = False
     look: Look = field(default_factory=Look)
     with_messages: bool = True
+    sings: bool = False
     with_rules: bool = False
     exclude: tuple[str, ...] = ()
     settings: Finder = NoSettings()
@@ -48,14 +51,12 @@ class Wanted:
         return [] if self.output is None else [Path(self.output)]
 
 
-def shown_of(checked: Checked, data: bytes, look: Look, prefix: str, *, with_messages: bool = True) -> Shown:
-    """Returns a score as a page shows it: its picture, and one for a phone if the first is wider."""
-    messages = checked.messages if with_messages else ()
-    picture = draw(data, messages, look=look, names=Names(prefix, links=True))
-    narrow = None
-    if look.width > NARROW:
-        narrow = draw(data, messages, look=replace(look, width=NARROW), names=Names(f"{prefix}n-", links=True, messages=prefix))
-    return Shown(checked, printable(checked.shown_name), picture, text_of(data), prefix, narrow, with_messages)
+def _sounds(data: bytes) -> tuple[Sound, ...]:
+    """Returns the sounds of a score; none if it has no height."""
+    try:
+        return tuple(sounds_of(Score.parse(data).syllables))
+    except (NoSound, ScoreError):
+        return ()
 
 
 class _Scores:
@@ -92,7 +93,15 @@ class _Scores:
             yield checked, content.data
 
     def shown(self, checked: Checked, data: bytes, prefix: str) -> Shown:
-        return shown_of(checked, data, self._wanted.look, prefix, with_messages=self._wanted.with_messages)
+        """Returns a score as a page shows it: its picture, and one for a phone if the first is wider."""
+        wanted, look = self._wanted, self._wanted.look
+        messages = checked.messages if wanted.with_messages else ()
+        names = Names(prefix, links=True, has_heads=wanted.sings)
+        picture, narrow = draw(data, messages, look=look, names=names), None
+        if look.width > NARROW:
+            narrow = draw(data, messages, look=replace(look, width=NARROW), names=replace(names, prefix=f"{prefix}n-", messages=prefix))
+        sounds = _sounds(data) if wanted.sings else ()
+        return Shown(checked, printable(checked.shown_name), picture, text_of(data), prefix, narrow, wanted.with_messages, sounds)
 
     def summary(self) -> str:
         return summary_of(self.files, self.failed, self.kinds)

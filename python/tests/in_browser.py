@@ -12,6 +12,7 @@ import unittest
 from collections.abc import Callable
 from pathlib import Path
 from typing import Any
+from xml.etree import ElementTree as Xml
 
 from gregorio_chant.picture import OWN, Face, Look, draw
 from gregorio_chant.picture.page import leading_to
@@ -130,7 +131,7 @@ class Shown(Browsing):
         self.put("a.gabc", HOSTILE)
         self.open("a.gabc")
         self.assertEqual(self.look("document.querySelectorAll('script, foo, b, img').length"), 0)
-        self.assertEqual(self.look("document.querySelectorAll('svg').length"), 1)
+        self.assertEqual(self.look("document.querySelectorAll('svg').length"), 2)
         self.assertIn("<script>alert(1)</script>", self.look("document.querySelector('svg > text').textContent"))
         self.assert_quiet()
 
@@ -158,16 +159,60 @@ class Shown(Browsing):
         command("show", "-o", "pages/", "scores")
         self.browser.get(Path("pages/index.html").resolve().as_uri())
         self.browser.find_element("link text", "scores/in/a b.gabc").click()
-        self.assertEqual(self.look("document.querySelectorAll('svg').length"), 1)
+        self.assertEqual(self.look("document.querySelectorAll('svg').length"), 2)
         self.find(".back a").click()
         self.assertTrue(self.browser.current_url.endswith("pages/index.html"))
         self.assert_quiet()
+
+    def test_sings(self) -> None:
+        """`--play` sings: notes light up one after another, in the picture that is seen, by the page's own script alone; a
+        double click on a syllable begins there, and a score with hostile text sings too."""
+        self.put("a.gabc", HOSTILE)
+        self.open("--play", str(EXAMPLES / "hymn.gabc"), "a.gabc")
+        self.assertEqual(self.look("document.querySelectorAll('script').length"), 1)
+        self.browser.execute_script("document.querySelector('.sing input').value = 240")
+        self.find(".sing button").click()
+        self.await_(lambda: bool(self.look("document.querySelector('.now')")), "no note lights up")
+        self.assertEqual(self.find(".sing button").text, "Stop")
+        self.assertTrue(self.look("document.querySelector('.now').parentElement.id").startswith("p1-s"))
+        first = self.look("document.querySelector('.now').getAttribute('x')")
+        self.await_(lambda: bool(self.look("document.querySelector('.now')?.getAttribute('x')") != first), "no other note lights up")
+        self.find(".sing button").click()
+        self.assertIsNone(self.look("document.querySelector('.now')"))
+        self.browser.execute_script("document.querySelector('#p1-s20').dispatchEvent(new MouseEvent('dblclick', { bubbles: true }))")
+        self.await_(lambda: bool(self.look("document.querySelector('.now')?.parentElement.id") == "p1-s20"), "it does not begin there")
+        self.browser.execute_cdp_cmd("Emulation.setDeviceMetricsOverride", {"width": 340, "height": 700, "deviceScaleFactor": 1, "mobile": True})
+        self.await_(lambda: str(self.look("document.querySelector('.now')?.parentElement.id")).startswith("p1-n-s"), "the picture that is seen lights up")
+        self.assert_quiet()
+
+    def test_every_note_has_its_head(self) -> None:
+        """Each note that sounds has a head where it is drawn, in both faces."""
+        for face in ("square", "plain"):
+            self.open("--play", "--face", face, *(str(EXAMPLES / f"{it}.gabc") for it in ("hymn", "introit", "psalm-tone", "every-item")))
+            lacking = self.browser.execute_script(
+                "return [...document.querySelectorAll('.sing')].map((panel) => JSON.parse(panel.dataset.sounds).filter(([syllable, head, key]) => key !== null &&"
+                " panel.dataset.prefixes.split(' ').some((prefix) => { let left = head; let group = document.getElementById(`${prefix}s${syllable}`);"
+                " for (let part = 2; group; part += 1) { const heads = group.dataset.heads.split(' ').filter(Boolean).length; if (left < heads) return false; left -= heads;"
+                " group = document.getElementById(`${prefix}s${syllable}-${part}`); } return true; })).length)",
+            )
+            self.assertEqual(lacking, [0, 0, 0, 0], face)
+
+    def test_phone(self) -> None:
+        """On a narrow screen the picture for phones is seen, whole, and messages lead into it."""
+        self.put("a.gabc", FAULTY)
+        self.open("a.gabc")
+        self.browser.execute_cdp_cmd("Emulation.setDeviceMetricsOverride", {"width": 360, "height": 700, "deviceScaleFactor": 1, "mobile": True})
+        self.assertEqual(self.look("[...document.querySelectorAll('svg')].map(it => it.getClientRects().length)"), [0, 1])
+        self.assertLessEqual(self.look("document.querySelector('.narrow svg').getBoundingClientRect().right"), 360)
+        self.find("a.narrow").click()
+        self.assertTrue(self.browser.current_url.endswith("#p1-n-m1-at"))
+        self.assertTrue(self.is_seen("#p1-n-m1-at"))
 
     def test_text_has_its_length(self) -> None:
         """Whatever the face, each text is as long as it was laid out."""
         self.open(str(EXAMPLES / "hymn.gabc"))
         length = "it.getEndPositionOfChar(it.getNumberOfChars() - 1).x - it.getStartPositionOfChar(0).x"
-        texts = "[...document.querySelectorAll('text[textLength]')]"
+        texts = "[...document.querySelectorAll('.wide text[textLength]')]"
         self.assertEqual(self.look(f"{texts}.filter(it => Math.abs({length} - it.textLength.baseVal.value) > 0.5).map(it => it.textContent)"), [])
 
 
@@ -227,7 +272,7 @@ class Written(Browsing):
         self.assertTrue(self.browser.current_url.startswith(self.here))
         self.find("#messages li a").click()
         self.await_(lambda: score.encode("utf-16-le")[2 * self.cursor() :].startswith("5)".encode("utf-16-le")), "the cursor is elsewhere")
-        self.assertEqual(self.look("document.querySelector('#picture .here title').textContent"), "e(g)")
+        self.assertEqual(self.look("document.querySelector('#picture .here title').textContent"), "e: sol")
         self.find("#p1-s2").click()
         self.await_(lambda: score.encode("utf-16-le")[2 * self.cursor() :].startswith("\U0001d11e(f)".encode("utf-16-le")), "the cursor is elsewhere")
         self.assert_quiet()
@@ -242,6 +287,42 @@ class Written(Browsing):
             self.await_seen(seen)
             self.assertTrue(self.look("document.querySelector('#score').value").startswith(content.decode(errors="replace")))
         self.await_seen("F1", "#messages")
+        self.assert_quiet()
+
+    def test_kept(self) -> None:
+        """The tab keeps the score over a reload."""
+        self.write(SCORE)
+        self.await_seen("Nothing was found.", "#messages")
+        self.browser.refresh()
+        self.await_seen("Nothing was found.", "#messages")
+        self.assertEqual(self.look("document.querySelector('#score').value"), SCORE)
+        self.assert_quiet()
+
+    def test_saved(self) -> None:
+        """Score, canonical form and picture are saved under names of their own; the picture is a file of its own."""
+        self.browser.execute_cdp_cmd("Browser.setDownloadBehavior", {"behavior": "allow", "downloadPath": str(Path(".").resolve())})
+        self.write(FAULTY)
+        self.await_seen("character left out", "#messages")
+        for kind in ("score", "canonical", "picture"):
+            self.find(f"button[data-save={kind}]").click()
+        names = ("kyrie.gabc", "kyrie.canonical.gabc", "kyrie.svg")
+        self.await_(lambda: all(Path(it).exists() and Path(it).stat().st_size > 0 for it in names), "a file is not there")
+        self.assertEqual([Path(it).read_text() for it in names[:2]], [FAULTY, FAULTY.replace("5", "").replace("(c4) ", "(c4)\n")])
+        root = Xml.fromstring(Path("kyrie.svg").read_text())
+        self.assertIn(".staff", root.findtext("{http://www.w3.org/2000/svg}style") or "")
+        self.assertEqual([it for it in root.iter() if it.tag.endswith("}a")], [])
+        if shutil.which("rsvg-convert"):
+            self.assertEqual(subprocess.run(["rsvg-convert", "kyrie.svg"], capture_output=True, check=True).stderr, b"")
+        self.assert_quiet()
+
+    def test_sings(self) -> None:
+        """It sings what stands in the field."""
+        self.write(SCORE)
+        self.await_seen("Nothing was found.", "#messages")
+        self.find("#sing button").click()
+        self.await_(lambda: bool(self.look("document.querySelector('#picture .now')")), "no note lights up")
+        self.find("#sing button").click()
+        self.assertIsNone(self.look("document.querySelector('.now')"))
         self.assert_quiet()
 
     def test_too_long(self) -> None:
@@ -267,6 +348,7 @@ class Written(Browsing):
         self.await_seen("Nothing was found.", "#messages")
         self.browser.execute_cdp_cmd("Emulation.setDeviceMetricsOverride", {"width": 340, "height": 700, "deviceScaleFactor": 1, "mobile": True})
         self.assertLessEqual(self.look("document.documentElement.scrollWidth"), 340)
+        self.await_(lambda: int(self.look("document.querySelector('#picture svg').getAttribute('width')")) < 340, "the picture is as wide as before")
         self.assert_quiet()
 
     def test_server_that_ends(self) -> None:

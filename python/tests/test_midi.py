@@ -56,7 +56,8 @@ class Midi(InFolder):
 
     def test_scores(self) -> None:
         """All notes of the examples come back, in order and with their heights."""
-        from gregorio_chant.midi import NoSound, midi_of
+        from gregorio_chant.midi import midi_of
+        from gregorio_chant.sounds import NoSound
 
         tried = 0
         for file in sorted(EXAMPLES.glob("*.gabc")):

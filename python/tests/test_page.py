@@ -64,10 +64,10 @@ class Serving(Asking):
         return json.loads(body)
 
     def test_answers(self) -> None:
-        """It answers the compiler's output and dump, and the picture and messages that `show` writes."""
+        """It answers the compiler's output and dump, and the picture and messages that `show --play` writes."""
         for score in (FAULTY.encode(), (EXAMPLES / "every-finding.gabc").read_bytes(), b"", b"\xff", b"name: a;\n%%\n(c4) a(f) b(g\n", HOSTILE.encode()):
             it = self.answer(score)
-            shown = command("show", "-", data=score).stdout.decode()
+            shown = command("show", "--play", "-", data=score).stdout.decode()
             self.assertEqual((it["canonical"], it["dump"]), (compile(score).output, compile(score, Format.DUMP).output))
             self.assertIn(it["picture"], shown)
             self.assertIn(_without_links(it["messages"]), _without_links(shown))
@@ -77,13 +77,27 @@ class Serving(Asking):
             Xml.fromstring(it["picture"])
         self.assertEqual(self.answer(SCORE.encode())["name"], "Kyrie")
 
+    def test_sounds(self) -> None:
+        """It answers the notes of a score for the script that sings, and none where a note has no height."""
+        for score, wanted in (
+            (b"name: a;\n%%\n(c4) a(f.) b(gss,)\n", [[2, 0, 53, 2.0], [3, 0, 55, 1.0], [3, 0, 55, 1.0], [3, 0, None, 1.0]]), (b"%%\na(f)\n", []), (b"", []),
+        ):
+            status, body, _ = self.ask("POST", "/sounds", score)
+            self.assertEqual((status, json.loads(body)), (200, wanted))
+
+    def test_width(self) -> None:
+        """A picture is as wide as it is asked for, within bounds."""
+        for word, width in (("", "720"), ("?width=400", "400"), ("?width=1", "280"), ("?width=99999", "1200"), ("?width=x", "720"), ("?width=" + "9" * 5000, "720")):
+            status, body, _ = self.ask("POST", f"/score{word}", SCORE.encode())
+            self.assertEqual((status, Xml.fromstring(json.loads(body)["picture"]).get("width")), (200, width), word[:20])
+
     def test_page(self) -> None:
         """The page has no script and no style within it, and asks for nothing but what the server has."""
         status, body, headers = self.ask("GET", "/")
         page = Page(body.decode())
         self.assertEqual((status, headers["Content-Type"]), (200, "text/html; charset=utf-8"))
         self.assertIn(f'data-most="{MOST}"', body.decode())
-        self.assertEqual((page.tags.count("script"), page.tags.count("style")), (1, 0))
+        self.assertEqual((page.tags.count("script"), page.tags.count("style")), (2, 0))
         self.assertEqual([it for it in page.attributes if it.startswith("on") or it == "style"], [])
         for path, kind in (("/page.js", "text/javascript"), ("/page.css", "text/css"), ("/icon.svg", "image/svg+xml")):
             self.assertIn(path, page.links)

@@ -24,6 +24,7 @@ from gregorio_chant.picture.languages import language_of
 from gregorio_chant.picture.layout import Layout, staff_lines
 from gregorio_chant.picture.neumes import neume_of
 from gregorio_chant.picture.shapes import SHAPES
+from gregorio_chant.picture.svg import number
 from gregorio_chant.picture.values import Line, Rect, Sign, height_of, step_of
 from support import EXAMPLES, ROOT, scores_of_tables
 
@@ -365,6 +366,30 @@ class Pictures(unittest.TestCase):
         self.assertGreater(middle("praise", "English"), middle("praise", ""))
         self.assertGreater(middle("ia", "latin"), middle("ia", "hu"))
         self.assertEqual(middle("qui", "french"), middle("qui", "la"))
+
+    def test_headers_have_styles(self) -> None:
+        """Tags of styles in a header are styles, and all else stands for itself."""
+        root = Xml.fromstring(picture("name: a <x>;\ncommentary: Ps. 5 <i>s.</i>;\n%%\n(c4) a(f)\n"))
+        self.assertEqual([(it.text, it.get("font-style")) for it in root.iter(f"{SVG}tspan")], [("Ps. 5 ", None), ("s.", "italic")])
+        self.assertIn("a <x>", [it.text for it in root.iter(f"{SVG}text")])
+
+    def test_staff(self) -> None:
+        """A staff has as many lines as the header says."""
+        for lines in "2345":
+            root = Xml.fromstring(picture(f"name: x;\nstaff-lines: {lines};\n%%\n(c2) a(f)\n"))
+            (staff,) = [it.get("d") or "" for it in root.iter(f"{SVG}path") if it.get("class") == "staff"]
+            self.assertEqual(staff.count("M"), int(lines))
+
+    def test_error_beside_a_warning(self) -> None:
+        """A field with an error is that of an error, whatever else stands there."""
+        score = b"name: a;\n%%\n(c4) a(f) <i>b(g5)\n"
+        self.assertEqual({it.code for it in check(score).messages}, {"W3", "E1"})
+        self.assertIn('class="mark"', draw(score).svg)
+        self.assertNotIn('class="mark w"', draw(score).svg)
+
+    def test_numbers(self) -> None:
+        for value, wanted in ((-0.04, "0"), (0.0, "0"), (1.25, "1.2"), (-3.0, "-3"), (10.0, "10")):
+            self.assertEqual(number(value), wanted)
 
     def test_for_who_cannot_see(self) -> None:
         """A line is a group that is named by its words, in its language; hyphens are left out."""

@@ -2,6 +2,8 @@
 what cannot be read or written."""
 from __future__ import annotations
 
+import base64
+import hashlib
 import re
 import shutil
 import subprocess
@@ -22,7 +24,7 @@ from test_picture import HOSTILE
 
 WARNED = "name: b;\n%%\n(c4) <x>Ky(g)ri(g)\n"
 FATAL = "name: c;\n%%\n(c4) Ky(g)ri(g\n"
-_VOID = ("meta", "br", "link")
+_VOID = ("meta", "br", "link", "input")
 
 
 class Page(HTMLParser):
@@ -227,6 +229,20 @@ class Output(InFolder):
                 self.assertIn(it, with_them.stdout.decode())
                 self.assertNotIn(it, without.stdout.decode())
         self.assertNotIn("character left out", command("show", "--no-messages", "a.gabc").stdout.decode())
+
+    def test_play(self) -> None:
+        """`--play` has a button, the notes and one script, which the policy lets through by its hash; a
+        score without height has no button, and a page without `--play` no script."""
+        self.put("a.gabc", SCORE)
+        self.put("b.gabc", "%%\na(f)\n")
+        whole = command("show", "--play", "a.gabc", "b.gabc").stdout.decode()
+        self.assertEqual(whole.count('class="sing"'), 1)
+        (script,) = re.findall("(?s)<script>(.*?)</script>", whole)
+        name = base64.b64encode(hashlib.sha256(script.encode()).digest()).decode()
+        self.assertIn(f"script-src 'sha256-{name}'", whole)
+        self.assertIn('data-sounds="[[2,0,53,1.0],[3,0,55,1.0],[3,1,53,1.0],[3,2,55,1.0],[4,0,52,2.0],[5,0,null,2.0]]"', whole)
+        self.assertNotIn("data-heads", command("show", "a.gabc").stdout.decode())
+        self.assertNotIn("<script", command("show", "--play", "b.gabc").stdout.decode())
 
     def test_looks(self) -> None:
         """Faces, hands and the initial are chosen by words."""

@@ -38,6 +38,7 @@ def add(commands: argparse._SubParsersAction[Parser]) -> Parser:
     it.add_argument("--font", metavar="FILE", help="draw neumes with the outlines of this font, which has the glyph names of GregorioTeX, as greciliae.ttf")
     it.add_argument("--no-initial", action="store_true", help="leave the first letter in the text, and not before the first line, whatever initial-style says")
     it.add_argument("--no-messages", action="store_true", help="leave out the messages, and the line that says what is not drawn")
+    it.add_argument("--play", action="store_true", help="let the page sing each score, by a script of its own: a double click on a syllable begins there")
     it.add_argument("--watch", action="store_true", help="write again when a score changes, until Control-C ends it")
     it.add_argument("--rules", action="store_true", help="show what the rules find too; they stand outside the proof of the compiler")
     add_no_config(it)
@@ -57,8 +58,8 @@ def run(words: argparse.Namespace) -> int:
     def wanted() -> showing.Wanted:
         look = Look(float(words.width), face, words.neumes, has_initial=not words.no_initial, has_notes=not words.no_messages)
         return showing.Wanted(
-            paths_of(words), words.output, words.svg, look, with_messages=not words.no_messages, with_rules=words.rules,
-            exclude=tuple(words.exclude), settings=settings_of(words),
+            paths_of(words), words.output, words.svg, look, with_messages=not words.no_messages, sings=words.play,
+            with_rules=words.rules, exclude=tuple(words.exclude), settings=settings_of(words),
         )
 
     if not words.watch:

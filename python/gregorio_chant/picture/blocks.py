@@ -98,6 +98,7 @@ class _Writer:
         if self._fused is not None:
             signs = (_join(height_of(step_of(self._fused.pitch)), height_of(step_of(first.pitch))), *signs)
         self._put(Block(glyph.place.offset - self._base, signs, drawn.width, SPACES.after_neume, drawn.anchor, first.pitch))
+        self.blocks[-1].heads = tuple([(it.x, it.y, it.width) for it in drawn.heads])
         self._neumes.append(Neume(self.blocks[-1], tuple(it._replace(note=note) for it, note in zip(drawn.heads, glyph.notes))))
         self._fused, self._last = None, last
 

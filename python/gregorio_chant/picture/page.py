@@ -2,16 +2,21 @@
 no script, and asks for no address."""
 from __future__ import annotations
 
+import base64
+import hashlib
+import json
 from collections import Counter
 from collections.abc import Iterable, Iterator, Sequence
 from dataclasses import dataclass, field
 from html import escape
+from pathlib import Path
 
 from gregorio_chant.picture.drawing import Picture
 from gregorio_chant.picture.shown import shown
 from gregorio_chant.picture.svg import STYLE as PICTURE_STYLE
 from gregorio_chant.reports import Checked, summary_of
 from gregorio_chant.results import Kind
+from gregorio_chant.sounds import TICKS, Sound
 
 STYLE = PICTURE_STYLE + """
 :root{color-scheme:light dark}
@@ -26,12 +31,13 @@ pre{overflow-x:auto;font-size:.85rem;line-height:1.4}
 pre span{display:block;padding-left:4.5em;text-indent:-4.5em;white-space:pre-wrap;overflow-wrap:anywhere}
 pre span::before{content:attr(data-n);display:inline-block;width:3.5em;margin-right:1em;text-align:right;text-indent:0;opacity:.6}
 table{border-collapse:collapse;margin-bottom:1.5rem}td,th{text-align:left;padding:.2rem .8rem .2rem 0;vertical-align:top}td{overflow-wrap:anywhere}td.n,th.n{text-align:right}
+.chant .now{fill:#e60;fill-opacity:.55}.sing input{vertical-align:middle}
 .narrow{display:none}
 @media(max-width:36rem){.wide{display:none}.narrow{display:revert}.picture{overflow-x:auto}}
 @media(prefers-color-scheme:dark){body{color:#ddd;background:#161616}a{color:#8bf}.error,.fatal{color:#f88}.warning{color:#db6}
 .chant{color:#ddd}.chant .paper{fill:#161616}.chant .staff{stroke:#c65}.chant .red,.chant .code{fill:#f88}
 .chant .mark{fill:#f66;stroke:#f66}.chant .mark.w{fill:#db6;stroke:#db6}}
-@media print{details,.back,.messages a+a,.messages .wide,.picture.narrow{display:none}.picture.wide{display:block}.messages a{color:inherit;text-decoration:none}body{max-width:none;padding:0;color:#000;background:#fff}section{break-inside:avoid-page}
+@media print{details,.back,.sing,.messages a+a,.messages .wide,.picture.narrow{display:none}.picture.wide{display:block}.messages a{color:inherit;text-decoration:none}body{max-width:none;padding:0;color:#000;background:#fff}section{break-inside:avoid-page}
 .chant{color:#000}.chant .paper{fill:#fff}}
 """
 # How wide a picture for narrow screens is, in pixels.
@@ -58,6 +64,7 @@ class Shown:
     prefix: str = ""
     narrow: Picture | None = None
     with_messages: bool = True
+    sounds: Sequence[Sound] = ()
 
 
 @dataclass
@@ -76,15 +83,46 @@ class Entry:
         return -self.kinds[Kind.FATAL], -self.kinds[Kind.ERROR], -self.kinds[Kind.WARNING], self.name
 
 
-def head(title: str) -> str:
-    """Returns a page up to its body."""
+# The script by which a page sings.
+SINGER = Path(__file__).with_name("sing.js").read_text(encoding="utf-8")
+
+
+def _hash_of(script: str) -> str:
+    """Returns how a policy names a script that it lets run."""
+    return f"'sha256-{base64.b64encode(hashlib.sha256(script.encode()).digest()).decode()}'"
+
+
+def sing_panel(sounds: Iterable[Sound], prefixes: str) -> str:
+    """Returns the button and the slider by which a score is sung, whose pictures have these
+    prefixes."""
+    notes = json.dumps(notes_of(sounds), separators=(",", ":"))
     return (
-        f'<!DOCTYPE html>\n<html lang="en">\n<head>\n<meta charset="utf-8">\n<meta http-equiv="Content-Security-Policy" content="{_POLICY}">\n'
+        f'<p class="sing" data-prefixes="{escape(prefixes)}" data-sounds="{escape(notes)}" hidden><button type="button">Sing</button> '
+        '<label>Notes a minute <input type="range" min="60" max="240" value="140"></label></p>\n'
+    )
+
+
+def notes_of(sounds: Iterable[Sound]) -> list[tuple[int, int, int | None, float]]:
+    """Returns sounds as the script takes them: number of the syllable, number of the note in it, key,
+    and how many notes long."""
+    return [(it.syllable, it.note, it.key, it.ticks / TICKS) for it in sounds]
+
+
+def head(title: str, *, sings: bool = False) -> str:
+    """Returns a page up to its body. Its policy lets no script run, but the one that sings, if it
+    does."""
+    policy = f"{_POLICY}; script-src {_hash_of(SINGER)}" if sings else _POLICY
+    return (
+        f'<!DOCTYPE html>\n<html lang="en">\n<head>\n<meta charset="utf-8">\n<meta http-equiv="Content-Security-Policy" content="{policy}">\n'
         f'<meta name="viewport" content="width=device-width, initial-scale=1">\n<title>{text(title)}</title>\n<style>{STYLE}</style>\n</head>\n<body>\n'
     )
 
 
 FOOT = "</body>\n</html>\n"
+
+
+def _foot(*, sings: bool) -> str:
+    return f"<script>{SINGER}</script>\n{FOOT}" if sings else FOOT
 
 
 def leading_to(address: str) -> str:
@@ -143,22 +181,25 @@ def section(score: Shown) -> Iterator[str]:
         yield '<div class="picture narrow">\n'
         yield from score.narrow.pieces
         yield "</div>\n"
+    if score.sounds:
+        yield sing_panel(score.sounds, score.prefix if score.narrow is None else f"{score.prefix} {score.prefix}n-")
     if score.with_messages:
         yield from list_of_messages(score)
     yield from _source(score)
     yield "</section>\n"
 
 
-def page_of(scores: Iterable[Shown], title: str, note: str = "", back: str = "") -> Iterator[str]:
+def page_of(scores: Sequence[Shown], title: str, note: str = "", back: str = "") -> Iterator[str]:
     """Yields a page with scores; `back` is the address of its index."""
-    yield head(title)
+    sings = any(it.sounds for it in scores)
+    yield head(title, sings=sings)
     if back:
         yield f'<p class="back"><a href="{escape(back)}">All scores</a></p>\n'
     else:
         yield f"<h1>{text(title)}</h1>\n"
     for score in scores:
         yield from section(score)
-    yield f"<p>{text(note)}</p>\n{FOOT}" if note else FOOT
+    yield f"<p>{text(note)}</p>\n{_foot(sings=sings)}" if note else _foot(sings=sings)
 
 
 def index_of(entries: Sequence[Entry], failed: int) -> Iterator[str]:

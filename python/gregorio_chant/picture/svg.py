@@ -57,11 +57,12 @@ def attributes_of(styles: frozenset[str]) -> dict[str, str]:
 class Names:
     """The names of a picture's parts: `prefix` begins its ids, which no two pictures of a page
     share, and `links` says whether marks lead to messages, whose ids begin with `messages` if this is
-    another one."""
+    another one. `has_heads` says whether the picture tells where heads stand, for who sings it."""
 
     prefix: str = ""
     links: bool = False
     messages: str | None = None
+    has_heads: bool = False
 
     def shape(self, name: str) -> str:
         return f"{self.prefix}{name}"
@@ -188,6 +189,9 @@ class Painter:
         if part.number == 0 and index < len(self._places.syllables):
             place = self._places.syllables[index]
             attributes |= {"data-line": str(place.line), "data-column": str(place.column)}
+        if self._names.has_heads:
+            heads = [(placed.x + x + left, y, width) for x, block in part.blocks for left, y, width in block.heads]
+            attributes["data-heads"] = " ".join(",".join(map(number, it)) for it in heads)
         group = SubElement(parent, "g", attributes)
         title = sung(part.syllable) if part.number == 0 else ""
         if title:

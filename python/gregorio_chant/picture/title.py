@@ -11,13 +11,14 @@ from gregorio_chant.picture.shown import shown
 from gregorio_chant.picture.spaces import SPACES
 from gregorio_chant.picture.svg import MARGIN, attributes_of, number, text_of
 from gregorio_chant.picture.widths import styled_width
-from gregorio_chant.picture.words import Run, read_text
+from gregorio_chant.picture.words import Run
 
 _NAME_SIZE, _HEAD_SIZE = 20.0, 12.0
 _MODES = {str(at): it for at, it in enumerate(("I", "II", "III", "IV", "V", "VI", "VII", "VIII"), 1)}
 _STYLES = {"0": 0, "1": 1, "2": 2}
 _MOST_ANNOTATIONS = 2
 _BLANKS = re.compile("[ \t\n]+")
+_STYLE_TAG = re.compile("(</?(?:b|c|e|i|sc|tt|ul)>)")
 _THIN_SPACE = "\u2009"
 
 
@@ -36,9 +37,23 @@ class Headers:
         return next(iter(reversed(self.all(name))), "")
 
 
+def _runs(value: str) -> list[Run]:
+    """Returns a header's value, on one line, as runs: tags of styles count as in the text of a
+    syllable, and all else stands for itself."""
+    runs: list[Run] = []
+    styles: frozenset[str] = frozenset()
+    for at, piece in enumerate(_STYLE_TAG.split(_BLANKS.sub(" ", value).strip(" "))):
+        if at % 2:
+            name = piece.strip("</>")
+            styles = styles - {name} if piece.startswith("</") else styles | {name}
+        elif piece:
+            runs.append(Run(piece, styles))
+    return runs
+
+
 def _plain(value: str) -> str:
-    """Returns a header's value as text without tags, on one line."""
-    return _BLANKS.sub(" ", "".join(it.text for it in read_text(value).runs)).strip(" ")
+    """Returns a header's value as text without tags of styles, on one line."""
+    return "".join(it.text for it in _runs(value))
 
 
 def _mode(headers: Headers) -> str:
@@ -96,7 +111,7 @@ class Title:
     def _fitted(self, value: str, x: float, size: float, room: float, anchor: str) -> str:
         """Returns a header's value with its styles, cut to take at most `room`."""
         element = Element("text", {"x": number(x), "y": number(self.y), "font-size": number(size), "text-anchor": anchor})
-        runs = read_text(_BLANKS.sub(" ", value)).runs
+        runs = _runs(value)
         styled = any(it.styles for it in runs)
         for run, text in _cut(runs, size, room):
             if styled:

@@ -95,7 +95,7 @@ class Neumes(NamedTuple):
 class Block:
     """Signs that no line end parts. `offset` says where it begins in the canonical text, from the
     first snippet of its syllable on. `anchor` is the middle of its first head, or of a bar;
-    `first` is its first pitch."""
+    `first` is its first pitch, and `heads` has left, height and width of each head."""
 
     offset: int
     signs: tuple[Sign, ...]
@@ -108,6 +108,7 @@ class Block:
     is_custos: bool = False
     ends_line: Break | None = None
     neumes: tuple[Neumes, ...] = ()
+    heads: tuple[tuple[float, float, float], ...] = ()
 
 
 @dataclass(slots=True)

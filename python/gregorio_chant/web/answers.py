@@ -5,10 +5,12 @@ from dataclasses import dataclass
 
 from gregorio_chant import checking
 from gregorio_chant.compiled import Compiled
+from gregorio_chant.dump import read_in_turn
 from gregorio_chant.files import Content
-from gregorio_chant.picture import Names, draw
-from gregorio_chant.picture.page import Shown, list_of_messages
+from gregorio_chant.picture import USUAL_WIDTH, Look, Names, draw
+from gregorio_chant.picture.page import Shown, list_of_messages, notes_of
 from gregorio_chant.settings import Finder
+from gregorio_chant.sounds import NoSound, sounds_of
 from gregorio_chant.source import text_of
 from gregorio_chant.streams import STDIN
 
@@ -33,11 +35,20 @@ class Answers:
     with_rules: bool
     settings: Finder
 
-    def of(self, data: bytes) -> Answer:
-        """Returns what is made of a score. Raises `MemoryError`."""
+    def of(self, data: bytes, width: float = USUAL_WIDTH) -> Answer:
+        """Returns what is made of a score, with a picture this wide. Raises `MemoryError`."""
         wanted = checking.Wanted((STDIN,), with_rules=self.with_rules, settings=self.settings)
         checked = checking.check_file(STDIN, wanted, lambda _: Content(data))
-        picture = draw(data, checked.messages, names=Names(_PREFIX, links=True))
+        picture = draw(data, checked.messages, look=Look(width=width), names=Names(_PREFIX, links=True, has_heads=True))
         messages = list_of_messages(Shown(checked, checked.shown_name, picture, text_of(data), _PREFIX))
         compiled = Compiled(data)
         return Answer(picture.name, picture.svg, "".join(messages), compiled.canonical, compiled.dump)
+
+    def sounds_of(self, data: bytes) -> list[tuple[int, int, int | None, float]]:
+        """Returns the notes of a score as the page sings them; none if one of them has no height.
+        Raises `MemoryError`."""
+        dump = Compiled(data).dump
+        try:
+            return notes_of(sounds_of(read_in_turn(dump)[1])) if dump else []
+        except NoSound:
+            return []

@@ -1,8 +1,9 @@
-// Sends the score to the page's own server while it is written, and shows what comes back. Nothing is kept.
+// Sends the score to the page's own server while it is written, and shows what comes back. The tab keeps the score until it is closed, and nothing else is kept.
 "use strict";
 
 const PREFIX = "p1-";
 const PAUSE = 120;
+const WIDEST = 720;
 const MOST_BYTES = Number(document.body.dataset.most);
 const at = (id) => document.getElementById(id);
 const score = at("score");
@@ -12,6 +13,7 @@ const score = at("score");
 let waiting = null;
 let isAsking = false;
 let timer = 0;
+let drawnAt = 0;
 
 // Asks about these bytes. Of what comes while an answer is awaited the last is asked about next.
 async function ask(bytes) {
@@ -33,9 +35,14 @@ async function ask(bytes) {
 
 async function answerTo(body) {
   if (body.length > MOST_BYTES) throw new Error(`A score has ${MOST_BYTES.toLocaleString("en")} bytes at most here.`);
+  const width = Math.round(Math.min(at("picture").clientWidth, WIDEST));
+  return fromServer(`/score?width=${width}`, body);
+}
+
+async function fromServer(path, body) {
   let answer;
   try {
-    answer = await fetch("/score", { method: "POST", body, headers: { "Content-Type": "application/octet-stream" } });
+    answer = await fetch(path, { method: "POST", body, headers: { "Content-Type": "application/octet-stream" } });
   } catch {
     throw new Error("The server has ended: start gregorio-chant page again.");
   }
@@ -48,6 +55,12 @@ function askSoon() {
   timer = setTimeout(() => ask(new TextEncoder().encode(score.value)), PAUSE);
 }
 
+// Draws again once the picture has another width.
+function askAtWidth() {
+  const width = at("picture").clientWidth;
+  if (score.value !== "" && Math.abs(width - drawnAt) > 8 && Math.min(width, drawnAt) < WIDEST) askSoon();
+}
+
 function say(text) {
   at("state").textContent = text;
 }
@@ -55,6 +68,8 @@ function say(text) {
 // ---- showing
 
 function show(answer) {
+  drawnAt = at("picture").clientWidth;
+  singer.stop();
   const picture = new DOMParser().parseFromString(answer.picture, "image/svg+xml").documentElement;
   at("picture").replaceChildren(document.importNode(picture, true));
   // The server escapes each text of the score, and the policy of the page lets no script of it run.
@@ -146,4 +161,64 @@ addEventListener("drop", (event) => {
   event.preventDefault();
   take(file);
 });
+
+// ---- keeping and saving
+
+const KEPT = "score";
+
+// Returns the beginning of a file's name, from the name of the score.
+function fileName() {
+  const words = at("name").textContent.normalize("NFD").replace(/\p{M}/gu, "").toLowerCase();
+  return words.replace(/[^\p{L}\p{N}]+/gu, "-").replace(/^-|-$/g, "").slice(0, 60) || "score";
+}
+
+// Returns the picture as a file of its own: with the style that the page has for it.
+function pictureFile() {
+  const picture = at("picture").firstElementChild?.cloneNode(true);
+  if (!picture) return "";
+  const rules = [...document.styleSheets].flatMap((sheet) => [...sheet.cssRules]).filter((rule) => /^\.chant( |$)/.test(rule.selectorText ?? ""));
+  const style = document.createElementNS(SVG, "style");
+  style.textContent = rules.map((rule) => rule.cssText).join("");
+  picture.prepend(style);
+  for (const it of picture.querySelectorAll(".here")) it.classList.remove("here");
+  for (const it of picture.querySelectorAll("a")) it.replaceWith(...it.childNodes);
+  return new XMLSerializer().serializeToString(picture);
+}
+
+const FILES = {
+  score: () => [`${fileName()}.gabc`, "text/plain", score.value],
+  canonical: () => [`${fileName()}.canonical.gabc`, "text/plain", at("canonical").textContent],
+  picture: () => [`${fileName()}.svg`, "image/svg+xml", pictureFile()],
+};
+
+function save(kind) {
+  const [name, type, text] = FILES[kind]();
+  if (text === "") return;
+  const way = Object.assign(document.createElement("a"), { download: name, href: URL.createObjectURL(new Blob([text], { type })) });
+  way.click();
+  setTimeout(() => URL.revokeObjectURL(way.href), 1000);
+}
+
+function keep() {
+  try {
+    sessionStorage.setItem(KEPT, score.value);
+  } catch {
+    // The score is larger than what the browser keeps.
+    sessionStorage.removeItem(KEPT);
+  }
+}
+
+at("saves").addEventListener("click", (event) => {
+  if (event.target.dataset.save !== undefined) save(event.target.dataset.save);
+});
+score.addEventListener("input", keep);
+addEventListener("pagehide", keep);
+score.value = sessionStorage.getItem(KEPT) ?? score.value;
+
+// ---- singing
+
+const singer = new Singer(at("sing"));
+singer.load = () => fromServer("/sounds", new TextEncoder().encode(score.value));
+
+new ResizeObserver(askAtWidth).observe(at("picture"));
 if (score.value !== "") askSoon();
