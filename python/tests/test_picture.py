@@ -395,8 +395,7 @@ class Pictures(unittest.TestCase):
         """A line is a group that is named by its words, in its language; hyphens are left out."""
         root = Xml.fromstring(picture("name: x;\n%%\n(c4) KY(f)ri(gfg)e(e.) * e(f)lé(g)ison(h) (::)\n"))
         self.assertEqual([(it.get("aria-label"), it.get("lang")) for it in root.iter(f"{SVG}g") if it.get("aria-label")], [("KYrie * eléison", "la")])
-        (hidden,) = [it for it in root.iter(f"{SVG}g") if it.get("aria-hidden")]
-        self.assertEqual(set(hidden.itertext()), {"-"})
+        self.assertEqual({it.text for it in root.iter(f"{SVG}text") if it.get("aria-hidden")}, {"-"})
         flat = Xml.fromstring(picture("name: x;\nlanguage: de;\n%%\n(c4) a(f) O(ixi)\n"))
         self.assertEqual([it.findtext(f"{SVG}title") for it in flat.iter(f"{SVG}g") if it.get("id")], [None, "a: fa", "O: si\u266d"])
         self.assertIn('lang="de"', picture("name: x;\nlanguage: de;\n%%\n(c4) a(f)\n"))

@@ -6,7 +6,7 @@ from typing import NamedTuple
 
 from gregorio_chant.picture.blocks import begin_of_notes
 from gregorio_chant.picture.marks import Mark, Places
-from gregorio_chant.picture.values import Line, Placed
+from gregorio_chant.picture.values import Line, Part, Placed
 from gregorio_chant.picture.widths import width_of
 
 CODE_SIZE, CODE_ROW = 9.0, 10.5
@@ -32,15 +32,23 @@ def marks_of(placed: Placed, places: Places) -> list[Mark]:
     return [it for it in marks if part.begin <= (it.offset or 0) and (part.end is None or (it.offset or 0) < part.end)]
 
 
-def _x_of(placed: Placed, mark: Mark) -> float:
-    """Returns where the thing begins that a message is about: a block of the notes, or the text."""
-    part = placed.part
-    x = part.text_left if part.has_text else part.left
+def field_of(part: Part, mark: Mark) -> tuple[float, float]:
+    """Returns from where to where the thing goes that a message is about: a block of the notes, or the
+    text with what stands over it."""
+    whole = (
+        min(part.left, part.text_left if part.has_text else part.left), max(part.right, part.text_right if part.has_text else part.right),
+    )
     base = begin_of_notes(part.syllable)
-    for at, block in part.blocks:
-        if mark.offset is not None and base + block.offset <= mark.offset:
-            x = at
-    return placed.x + x
+    found = [it for it in part.blocks if mark.offset is not None and base + it[1].offset <= mark.offset]
+    if not found:
+        return (part.text_left, whole[1]) if part.has_text and part.blocks else whole
+    x, block = found[-1]
+    return x, x + block.width
+
+
+def _x_of(placed: Placed, mark: Mark) -> float:
+    """Returns where the code of a message begins: over what it is about."""
+    return placed.x + field_of(placed.part, mark)[0]
 
 
 def codes_of(line: Line, places: Places) -> list[Code]:

@@ -8,8 +8,8 @@ from dataclasses import dataclass
 from gregorio_chant.picture.values import STEP, Block, Head, Rect
 from gregorio_chant.signs import AUTO, OVER, UNDER, Episema
 
-_THIN = 0.9
-_ICTUS = 4.4
+THIN = 0.9
+ICTUS = 4.4
 # How far from its head an episema stands: over a head on a line, and over one in a space.
 _FROM_LINE, _FROM_SPACE = 5.0, 7.0
 # What a small episema takes of the width of its head, and where that begins.
@@ -67,8 +67,8 @@ def add_signs(neumes: Sequence[Neume], covered: Mapping[int, tuple[Episema, ...]
 def _ictus(head: Head, side: str, *, beside_episema: bool) -> Rect:
     """Returns the ictus of a head; it stands outside an episema on the same side."""
     further = STEP if beside_episema else 0.0
-    y = head.y - 4.2 - _ICTUS - further if side == OVER else head.y + 4.2 + head.foot + further
-    return Rect(head.x + head.width / 2 - _THIN / 2, y, _THIN, _ICTUS)
+    y = head.y - 4.2 - ICTUS - further if side == OVER else head.y + 4.2 + head.foot + further
+    return Rect(head.x + head.width / 2 - THIN / 2, y, THIN, ICTUS)
 
 
 def _is_joined(one: _Covered, other: _Covered) -> bool:
@@ -96,7 +96,7 @@ def _add_lines(run: Sequence[_Covered], side: str) -> None:
     ys = [it.head.y for it in run]
     far = min(ys) if side == OVER else max(ys)
     distance = _FROM_LINE if (far / STEP) % 2 == 0 else _FROM_SPACE
-    y = far - distance - _THIN if side == OVER else far + distance
+    y = far - distance - THIN if side == OVER else far + distance
     for at, it in enumerate(run):
         if at and run[at - 1].neume is it.neume:
             continue
@@ -107,4 +107,4 @@ def _add_lines(run: Sequence[_Covered], side: str) -> None:
             right = left + _SMALL * it.head.width
         if run[-1].neume is not it.neume:
             right = it.neume.block.width + it.neume.block.after
-        it.neume.block.signs += (Rect(left, y, right - left, _THIN),)
+        it.neume.block.signs += (Rect(left, y, right - left, THIN),)

@@ -7,7 +7,7 @@ from functools import lru_cache
 from xml.etree.ElementTree import Element, SubElement, tostring
 
 from gregorio_chant.items import Syllable
-from gregorio_chant.picture.codes import CODE_ROW, CODE_SIZE, Code, marks_of
+from gregorio_chant.picture.codes import CODE_ROW, CODE_SIZE, Code, field_of, marks_of
 from gregorio_chant.picture.marks import Mark, Places
 from gregorio_chant.picture.shown import shown
 from gregorio_chant.picture.spaces import SPACES
@@ -141,10 +141,8 @@ class Painter:
             self._part(group, line, placed)
         for it in codes:
             self.code(group, it.mark, it.x, line.top - 2.5 - CODE_ROW * it.row, it.text)
-        if line.hyphens:
-            hyphens = SubElement(group, "g", {"aria-hidden": "true"})
-            for hyphen in line.hyphens:
-                self._words(hyphens, hyphen, 0.0, line.text)
+        for hyphen in line.hyphens:
+            SubElement(group, "text", {"x": number(hyphen.x), "y": number(line.text), "aria-hidden": "true"}).text = hyphen.text
         return text_of(group)
 
     def _signs(self, parent: Element, signs: Iterable[Sign], x: float) -> None:
@@ -226,8 +224,8 @@ class Painter:
         part = placed.part
         name = self._names.syllable(part.syllable.number - 1, part.number)
         self.places.update({it.number: name for it in marks})
-        left = min(part.left, part.text_left if part.has_text else part.left) - 1.5
-        right = max(part.right, part.text_right if part.has_text else part.right) + 1.5
+        fields = [field_of(part, it) for it in marks]
+        left, right = min(it[0] for it in fields) - 1.5, max(it[1] for it in fields) + 1.5
         kind = "mark" if any(it.message.kind is not Kind.WARNING for it in marks) else "mark w"
         SubElement(parent, "rect", {
             "class": kind, "x": number(placed.x + left), "y": number(line.top), "width": number(max(right - left, 6.0)),
