@@ -2,18 +2,16 @@
 from __future__ import annotations
 
 import os
-from collections.abc import Callable, Iterable, Sequence
+from collections.abc import Callable, Sequence
 from dataclasses import dataclass
-from typing import TYPE_CHECKING
 
-from gregorio_chant.needs import Missing
+from gregorio_chant.files import read_plain
+from gregorio_chant.patterns import MOST, NoPattern, Patterns, TooCostly
 from gregorio_chant.selection import UnknownCode
-
-if TYPE_CHECKING:
-    from pathspec import Pattern
 
 FILE = ".gitignore"
 _GIT = ".git"
+_MOST_BYTES = 1 << 18
 # Takes the name of each folder or file that cannot be read, and why.
 Tell = Callable[[str, OSError], None]
 
@@ -23,11 +21,14 @@ class _Level:
     """Patterns, and the way from the folder that they stand in to the one that is walked:
     nothing, or names that each end in `/`."""
 
-    patterns: tuple[Pattern, ...]
+    patterns: Patterns
     way: str = ""
 
     def below(self, way: str) -> _Level:
         return _Level(self.patterns, self.way + way)
+
+    def verdict(self, ending: str) -> bool | None:
+        return self.patterns.verdict(self.way + ending)
 
 
 @dataclass(frozen=True)
@@ -43,7 +44,7 @@ class LeftOut:
         """Returns what the folders above leave out of one that is named; nothing, if they leave
         out the folder itself."""
         alone = cls((), _Level(_excluding(exclude)))
-        above = cls((), _Level(()))
+        above = cls((), _Level(Patterns()))
         *ways, whole = _ways_from_top(os.path.realpath(folder))
         for way, inner in zip(ways, [*ways[1:], whole]):
             above = above.with_file_of(way, tell)
@@ -61,25 +62,16 @@ class LeftOut:
     def with_file_of(self, folder: str, tell: Tell) -> LeftOut:
         """Returns what is left out with the file of this folder, if it has one, which stands at
         the path `folder`."""
-        patterns = _patterns_in(folder, tell)
-        return LeftOut((*self.levels, _Level(patterns)), self.exclude) if patterns else self
+        patterns = _patterns_in(folder, MOST - sum(it.patterns.count for it in self.levels), tell)
+        return LeftOut((*self.levels, _Level(patterns)), self.exclude) if patterns.count else self
 
     def names(self, name: str, is_folder: bool = False) -> bool:
         """Returns whether what is called `name` in this folder is left out."""
         if is_folder and name == _GIT:
             return True
         ending = f"{name}/" if is_folder else name
-        return _last([self.exclude], ending) or _last(self.levels, ending)
-
-
-def _last(levels: Iterable[_Level], ending: str) -> bool:
-    """Returns what the last pattern says that names this; not left out where none does."""
-    verdict = False
-    for level in levels:
-        for pattern in level.patterns:
-            if pattern.include is not None and pattern.match_file(level.way + ending):
-                verdict = pattern.include
-    return verdict
+        verdicts = (it.verdict(ending) for it in reversed(self.levels))
+        return self.exclude.verdict(ending) is True or next((it for it in verdicts if it is not None), False)
 
 
 def _ways_from_top(folder: str) -> list[str]:
@@ -94,44 +86,47 @@ def _ways_from_top(folder: str) -> list[str]:
     return ways
 
 
-def _patterns_in(folder: str, tell: Tell) -> tuple[Pattern, ...]:
+def _patterns_in(folder: str, most: int, tell: Tell) -> Patterns:
     """Returns the patterns of the folder's file, if it has one. A line that is no pattern is
-    left out, as git does."""
+    left out, as git does, and a file that is a link is not read. Above `most` patterns, or where
+    one of them costs too much, there are none, and that is told."""
     name = os.path.join(folder, FILE)
+    if os.path.isdir(name):
+        return Patterns()
     try:
-        with open(name, encoding="utf-8", errors="surrogateescape") as file:
-            lines = file.read().split("\n")
-    except (FileNotFoundError, NotADirectoryError, IsADirectoryError):
-        return ()
+        lines = read_plain(name, _MOST_BYTES, follows_links=False).decode("utf-8", "surrogateescape").split("\n")
+        return Patterns(_patterns_of(lines, most))
+    except FileNotFoundError:
+        return Patterns()
     except OSError as error:
         tell(name, error)
-        return ()
-    patterns: list[Pattern] = []
-    for line in lines:
+        return Patterns()
+
+
+def _patterns_of(lines: Sequence[str], most: int) -> list[str]:
+    """Returns the lines that are patterns. Raises `OSError` with the line that is one too many or
+    costs too much."""
+    patterns: list[str] = []
+    for number, line in enumerate(lines, 1):
         try:
-            patterns += _patterns_of(line)
-        except ValueError:
-            pass
-    return tuple(patterns)
+            is_pattern = Patterns.takes(line)
+        except TooCostly as error:
+            raise OSError(0, f"line {number}: {error}") from None
+        except NoPattern:
+            continue
+        if is_pattern and len(patterns) == most:
+            raise OSError(0, f"line {number}: there are at most {MOST:,} patterns, with those of the folders above")
+        patterns += [line] * is_pattern
+    return patterns
 
 
-def _excluding(words: Sequence[str]) -> tuple[Pattern, ...]:
-    patterns: list[Pattern] = []
+def _excluding(words: Sequence[str]) -> Patterns:
     for word in words:
         try:
-            patterns += _patterns_of(word)
-        except ValueError:
-            raise UnknownCode(f"--exclude {word}: this is no pattern") from None
-    return tuple(patterns)
-
-
-def _patterns_of(line: str) -> list[Pattern]:
-    """Returns the pattern of a line; none for one that is empty or a comment. Raises
-    `ValueError` for one that is no pattern."""
-    if not line.strip() or line.startswith("#"):
-        return []
+            Patterns.takes(word)
+        except NoPattern as error:
+            raise UnknownCode(f"--exclude {word}: {error}") from None
     try:
-        from pathspec import GitIgnoreSpec
-    except ImportError:
-        raise Missing(f"leaving out what {FILE} or --exclude names", "pathspec") from None
-    return [it for it in GitIgnoreSpec.from_lines([line]).patterns if it.include is not None]
+        return Patterns(words)
+    except NoPattern as error:
+        raise UnknownCode(f"--exclude: {error}") from None

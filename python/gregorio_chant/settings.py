@@ -4,20 +4,25 @@ from __future__ import annotations
 import importlib
 import os
 import re
-import stat
 import sys
 from collections.abc import Callable, Collection, Iterable
 from dataclasses import dataclass
-from fnmatch import fnmatchcase
-from pathlib import Path, PurePath
+from functools import cached_property
+from pathlib import Path
 from typing import Any
 
+from gregorio_chant.files import read_plain
 from gregorio_chant.needs import Missing
+from gregorio_chant.patterns import MOST, NoPattern, Patterns
 from gregorio_chant.selection import Selection, UnknownCode, codes_in
 from gregorio_chant.streams import STDIN, printable, reason_of
 
 NAME = "gregorio-chant.toml"
 _MOST_BYTES = 65_536
+_MOST_DOTS = 8
+# The texts and comments of TOML, in which dots mean nothing, and what stands between keys.
+_TEXTS = re.compile(r'''"""(?:\\.|[^\\])*?"""|\'\'\'.*?\'\'\'|"(?:\\.|[^"\\\n])*"|'[^'\n]*'|#[^\n]*''', re.DOTALL)
+_NO_KEY = re.compile(r"""[^\w"'. \t-]+""")
 
 
 class SettingsError(ValueError):
@@ -47,24 +52,36 @@ class Settings:
     wrap: int | None = None
     canonical: bool | None = None
 
-    def _fits(self, name: str, pattern: str) -> bool:
-        """Returns whether the file with this name, or a folder that it lies in, fits a pattern: from the folder of the settings, or by its last part alone."""
-        if self.folder is None or name == STDIN:
-            return False
-        path = PurePath(os.path.relpath(os.path.abspath(name), self.folder))
-        return any(fnmatchcase(it.as_posix(), pattern.rstrip("/")) or fnmatchcase(it.name, pattern.rstrip("/")) for it in (path, *path.parents))
+    @cached_property
+    def _excluded(self) -> Patterns:
+        return Patterns(self.exclude)
+
+    @cached_property
+    def _ignoring(self) -> tuple[Patterns, tuple[tuple[Patterns, frozenset[str]], ...]]:
+        """All patterns of files in which codes are ignored, and each by itself."""
+        return Patterns(it for it, _ in self.ignores_of_files), tuple((Patterns((it,)), codes) for it, codes in self.ignores_of_files)
+
+    def _way_to(self, name: str) -> str | None:
+        """Returns the path of a file from the folder of the settings on; nothing for what is none."""
+        return None if self.folder is None or name == STDIN else os.path.relpath(os.path.abspath(name), self.folder)
 
     def excludes(self, name: str) -> bool:
-        return any(self._fits(name, it) for it in self.exclude)
+        way = self._way_to(name)
+        return way is not None and self._excluded.has(way)
+
+    def _ignored_in(self, name: str) -> frozenset[str]:
+        way, (all_patterns, each) = self._way_to(name), self._ignoring
+        if way is None or not all_patterns.has(way):
+            return frozenset()
+        return frozenset[str]().union(*(codes for patterns, codes in each if patterns.has(way)))
 
     def selection(self, name: str, chosen: Chosen = Chosen()) -> Selection:
         """Returns what is reported of a file. What the settings ignore in it comes to what is ignored anyway."""
         def first(word: frozenset[str] | None, setting: frozenset[str] | None) -> frozenset[str]:
             return word if word is not None else setting or frozenset()
 
-        of_file = frozenset[str]().union(*(codes for pattern, codes in self.ignores_of_files if self._fits(name, pattern)))
         select = chosen.select if chosen.select is not None else self.select
-        return Selection(select, first(chosen.ignore, self.ignore) | of_file, first(chosen.fail_on, self.fail_on), self.canonical is True)
+        return Selection(select, first(chosen.ignore, self.ignore) | self._ignored_in(name), first(chosen.fail_on, self.fail_on), self.canonical is True)
 
 
 class _Reader:
@@ -99,6 +116,20 @@ class _Reader:
             raise self.fail(key, 'a list of texts is wanted, as ["W3"]')
         return tuple(value)
 
+    def _patterns(self, key: str, value: Any) -> tuple[str, ...]:
+        words = self._words(key, value)
+        for it in words:
+            self._refuse_no_pattern(key, it)
+        if len(words) > MOST:
+            raise self.fail(key, f"there are at most {MOST:,} patterns")
+        return words
+
+    def _refuse_no_pattern(self, key: str, word: str) -> None:
+        try:
+            Patterns.takes(word)
+        except NoPattern as error:
+            raise self.fail(key, f"{printable(word)}: {error}") from None
+
     def _flag(self, key: str, value: Any) -> bool:
         if not isinstance(value, bool):
             raise self.fail(key, "true or false is wanted")
@@ -118,12 +149,16 @@ class _Reader:
         return self._take(self._table(key, value), {"wrap": ("wrap", self._number), "canonical": ("canonical", self._flag)})
 
     def _ignores(self, key: str, value: Any) -> tuple[tuple[str, frozenset[str]], ...]:
-        return tuple((pattern, self._codes(pattern, codes)) for pattern, codes in self._table(key, value).items())
+        table = self._table(key, value)
+        for it in self._patterns(key, list(table)):
+            if it.startswith("!"):
+                raise self.fail(it, "a pattern of files in which codes are ignored takes nothing back")
+        return tuple((pattern, self._codes(pattern, codes)) for pattern, codes in table.items())
 
     def settings(self, table: dict[str, Any]) -> Settings:
         taken = self._take(table, {
             "select": ("select", self._codes), "ignore": ("ignore", self._codes), "fail-on": ("fail_on", self._codes), "rules": ("rules", self._flag),
-            "exclude": ("exclude", self._words), "per-file-ignores": ("ignores_of_files", self._ignores), "format": ("format", self._format),
+            "exclude": ("exclude", self._patterns), "per-file-ignores": ("ignores_of_files", self._ignores), "format": ("format", self._format),
         })
         form = taken.pop("format", {})
         if form.get("canonical") and "wrap" in form:
@@ -133,17 +168,13 @@ class _Reader:
 
 def _read(path: Path, known: Collection[str]) -> Settings:
     try:
-        with open(os.open(path, os.O_RDONLY | os.O_NONBLOCK), "rb") as file:
-            if not stat.S_ISREG(os.fstat(file.fileno()).st_mode):
-                raise SettingsError(f"{printable(str(path))}: it is no plain file")
-            data = file.read(_MOST_BYTES + 1)
+        data = read_plain(str(path), _MOST_BYTES)
     except OSError as error:
         raise SettingsError(f"{printable(str(path))}: {reason_of(error)}") from None
-    if len(data) > _MOST_BYTES:
-        raise SettingsError(f"{printable(str(path))}: it is longer than {_MOST_BYTES:,} bytes")
     try:
         toml = importlib.import_module("tomllib" if sys.version_info >= (3, 11) else "tomli")
         text = data.decode("utf-8")
+        _refuse_long_keys(path, text)
         return _Reader(path, text, known).settings(toml.loads(text))
     except ImportError:
         raise Missing(f"{printable(str(path))}, before Python 3.11,", "tomli") from None
@@ -151,6 +182,13 @@ def _read(path: Path, known: Collection[str]) -> Settings:
         raise
     except (ValueError, RecursionError) as error:
         raise SettingsError(f"{printable(str(path))}: {printable(str(error))}") from None
+
+
+def _refuse_long_keys(path: Path, text: str) -> None:
+    """Raises `SettingsError` where a key has many dots: the memory that the reader of TOML takes for it grows with their square."""
+    for number, line in enumerate(_TEXTS.sub(lambda found: '"' + "\n" * found[0].count("\n"), text).split("\n"), 1):
+        if any(it.count(".") > _MOST_DOTS for it in _NO_KEY.split(line)):
+            raise SettingsError(f"{printable(str(path))}:{number}: a key has at most {_MOST_DOTS} dots")
 
 
 class Finder:

@@ -11,6 +11,8 @@ from gregorio_chant.streams import STDIN
 from gregorio_chant.streams import tell as tell_user
 
 _ENDING = ".gabc"
+# No folder further below the one that is named is read.
+_DEEPEST = 100
 
 
 def find_scores(paths: Iterable[str], tell: Tell, exclude: Sequence[str] = ()) -> list[str]:
@@ -33,9 +35,12 @@ def find_scores(paths: Iterable[str], tell: Tell, exclude: Sequence[str] = ()) -
 
 def _below(folder: str, top: LeftOut, tell: Tell) -> Iterator[str]:
     root = os.path.realpath(folder)
-    waiting = [(folder, top)]
+    waiting = [(folder, top, 0)]
     while waiting:
-        where, left_out = waiting.pop()
+        where, left_out, depth = waiting.pop()
+        if depth > _DEEPEST:
+            tell(where, OSError(0, f"it lies more than {_DEEPEST} folders deep"))
+            continue
         entries = _entries(where, tell)
         if any(it.name == FILE for it in entries):
             left_out = left_out.with_file_of(where, tell)
@@ -43,7 +48,7 @@ def _below(folder: str, top: LeftOut, tell: Tell) -> Iterator[str]:
             sweep(where)
         yield from (it.path for it in entries if _is_score(it) and not left_out.names(it.name) and _stays_below(it, root))
         inner = [it for it in entries if it.is_dir(follow_symlinks=False) and not left_out.names(it.name, is_folder=True)]
-        waiting += [(it.path, left_out.below(it.name)) for it in reversed(inner)]
+        waiting += [(it.path, left_out.below(it.name), depth + 1) for it in reversed(inner)]
 
 
 def _entries(folder: str, tell: Tell) -> list[os.DirEntry[str]]:
