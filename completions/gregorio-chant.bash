@@ -9,7 +9,7 @@ _gregorio_chant_options() {
     page) echo '--port --rules --no-config --help' ;;
     explain) echo '--all --help' ;;
     export) echo '--to --exclude --folder --force --tempo --no-config --quiet --help' ;;
-    find) echo '--interval --neume --text --semitones --exclude --output-format --jobs --no-config --quiet --help' ;;
+    find) echo '--interval --neume --text --volpiano --semitones --exclude --output-format --jobs --no-config --quiet --help' ;;
     index) echo '--exclude --output-format --jobs --no-config --quiet --help' ;;
     neumes) echo '--each --exclude --output-format --jobs --no-config --quiet --help' ;;
     server) echo '--rules --no-config --help' ;;
@@ -58,7 +58,7 @@ _gregorio_chant() {
     --neumes) mapfile -t COMPREPLY < <(compgen -W 'auto stgall modern laon text' -- "$word") ;;
     --to) mapfile -t COMPREPLY < <(compgen -W 'volpiano musicxml mei midi' -- "$word") ;;
     --folder) mapfile -t COMPREPLY < <(compgen -d -- "$word") ;;
-    --jobs | --wrap | --width | --port | --interval | --neume | --text | --tempo) ;;
+    --jobs | --wrap | --width | --port | --interval | --neume | --text | --volpiano | --tempo) ;;
     *)
       if [[ $word == -* ]]; then
         mapfile -t COMPREPLY < <(compgen -W "$(_gregorio_chant_options "$command")" -- "$word")

@@ -9,8 +9,9 @@ from collections.abc import Iterator, Sequence
 from dataclasses import dataclass
 
 from gregorio_chant.dump import Glyph, Note, Score, Syllable
+from gregorio_chant.formats.volpiano import LETTERS, letter_of, volpiano_of
 from gregorio_chant.nearest import did_you_mean
-from gregorio_chant.passages import text_of_syllables
+from gregorio_chant.passages import Word, text_of_syllables
 from gregorio_chant.selection import UnknownCode
 from gregorio_chant.tables import Row
 
@@ -26,13 +27,15 @@ KINDS = (
     *(f"{it}{end}" for it in _JOINED for end in ("", "-subpunctis", "-subpunctis-resupinus")), "climacus", "climacus-resupinus", "inclinata", *_SHAPES,
 )
 _SIGNS = {"none": "", "natural": "", "flat": "\u266d", "sharp": "\u266f"}
+# What a melody in Volpiano has beside its letters.
+_NO_LETTERS = re.compile("[-1-7iIwWxXyYzZ\\s]")
 _STEP = re.compile(r"[+-]?[0-9]{1,2}")
 # How much of a score an index shows.
 _NOTES, _WORDS = 12, 6
 
 NEUME = ("neume", "spelling", "degrees", "text")
 COUNT = ("neume", "count", "spelling", "text")
-INDEX = ("name", "office_part", "mode", "text", "degrees", "final", "lowest", "highest", "steps")
+INDEX = ("name", "office_part", "mode", "text", "degrees", "final", "lowest", "highest", "steps", "volpiano")
 FOUND = ("notes", "degrees", "text")
 
 
@@ -65,16 +68,24 @@ def counted_neumes(score: Score) -> Iterator[Row]:
         yield Row(it.source.line, it.source.column, (kind, count[kind], it.spelling, syllable.plain), count[kind])
 
 
+def _incipit(words: Sequence[Word]) -> str | None:
+    """Returns the melody of words in Volpiano, if it has letters for it."""
+    try:
+        return volpiano_of(syllable for it in words for syllable in it.syllables)
+    except ValueError:
+        return None
+
+
 def index_row(score: Score) -> Iterator[Row]:
     """Yields one row for the score, at its first note or else its first line of notes."""
     notes, reach = score.notes, score.range
     first = notes[0] if notes else score.syllables[0] if score.syllables else None
     line, column = (first.source.line, first.source.column) if first else (1, 1)
-    words = [it.text for it in score.words[:_WORDS]]
+    words = score.words[:_WORDS]
     yield Row(line, column, (
-        score.header("name"), score.header("office-part"), score.header("mode"), " ".join(words), degrees_of(notes[:_NOTES]),
+        score.header("name"), score.header("office-part"), score.header("mode"), " ".join(it.text for it in words), degrees_of(notes[:_NOTES]),
         degree_of(notes[-1]) if notes else None, degree_of(reach.low) if reach else None, degree_of(reach.high) if reach else None,
-        (reach.high.step or 0) - (reach.low.step or 0) if reach else None,
+        (reach.high.step or 0) - (reach.low.step or 0) if reach else None, _incipit(words),
     ))
 
 
@@ -120,13 +131,37 @@ class IntervalSearch:
         rises = tuple(None if a is None or b is None else b - a for a, b in zip(heights, heights[1:]))
         for at in range(len(rises) - count + 1):
             if rises[at : at + count] == self.wanted:
-                yield self._row(of_notes[at : at + count + 1])
+                yield _row_of(of_notes[at : at + count + 1])
 
-    @staticmethod
-    def _row(found: Sequence[tuple[Syllable, Note]]) -> Row:
-        notes = [note for _, note in found]
-        syllables = list({it.number: it for it, _ in found}.values())
-        return Row.at(notes[0].source, "".join(it.pitch for it in notes), degrees_of(notes), text_of_syllables(syllables))
+
+def _row_of(found: Sequence[tuple[Syllable, Note]]) -> Row:
+    """Returns the row of notes that follow each other, each with its syllable."""
+    notes = [note for _, note in found]
+    syllables = list({it.number: it for it, _ in found}.values())
+    return Row.at(notes[0].source, "".join(it.pitch for it in notes), degrees_of(notes), text_of_syllables(syllables))
+
+
+@dataclass(frozen=True)
+class VolpianoSearch:
+    """Finds a melody by its letters in Volpiano: the clef, hyphens, bars, flats and liquescence do not count."""
+
+    letters: str
+
+    @classmethod
+    def of(cls, word: str) -> VolpianoSearch:
+        """Raises `UnknownCode` for what is no melody."""
+        letters = _NO_LETTERS.sub("", word).replace("(", "8").replace(")", "9").lower()
+        if not letters or any(it not in LETTERS for it in letters):
+            raise UnknownCode(f"--volpiano {word}: letters of a melody are needed, as in 1---f--gh")
+        return cls(letters)
+
+    def __call__(self, score: Score) -> Iterator[Row]:
+        sung = [(syllable, note) for syllable in score.syllables for note in syllable.notes for _ in range(note.times)]
+        melody = "".join(letter_of(note) or "?" for _, note in sung)
+        at = melody.find(self.letters)
+        while at >= 0:
+            yield _row_of(list(dict.fromkeys(sung[at : at + len(self.letters)])))
+            at = melody.find(self.letters, at + 1)
 
 
 def folded(text: str) -> str:

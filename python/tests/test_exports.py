@@ -48,24 +48,24 @@ def sung(score: Score) -> list[Note]:
 class Volpiano(unittest.TestCase):
     def test_a_score(self) -> None:
         score = Score.parse("name: a;\n%%\n(c4) Ky(c)ri(gixi)e,(iyi/ji) (,) e(h~)lé(fss)i(f)son(g) (::)")
-        self.assertEqual(volpiano_of(score), "1---c--g-ij--Ij-kj---3---H--ff--f--g---4")
+        self.assertEqual(volpiano_of(score.syllables), "1---c--g-ij--Ij-kj---3---H--ff--f--g---4")
 
     def test_flats(self) -> None:
         """A sign holds up to the end of its word, and a clef with a flat gives one to each word."""
         score = Score.parse("name: a;\n%%\n(cb4) a(ii)b(i) c(i) d(iyi)")
-        self.assertEqual(volpiano_of(score), "1---ij-j--j---ij---j")
+        self.assertEqual(volpiano_of(score.syllables), "1---ij-j--j---ij---j")
 
     def test_no_letter(self) -> None:
         for text in ("(c4) a(g#g)", "(c4) a(gxg)", "(f4) a(a)"):
             with self.subTest(text), self.assertRaises(OutOfRange):
-                volpiano_of(Score.parse(f"name: a;\n%%\n{text}"))
+                volpiano_of(Score.parse(f"name: a;\n%%\n{text}").syllables)
 
     def test_scores(self) -> None:
         """The letters are the notes in order, and words and syllables with notes are parted as the score parts them."""
         count = 0
         for score in scores():
             try:
-                text = volpiano_of(score)
+                text = volpiano_of(score.syllables)
             except OutOfRange:
                 continue
             letters = re.sub(r"[1346-7iIwWxXyYzZ-]", "", text)

@@ -47,6 +47,14 @@ class Found(InFolder):
         self.assertEqual(len(self.found("--text", "*")), 5)
         self.assertEqual(folded("«Dómine!»"), "domine")
 
+    def test_melodies(self) -> None:
+        """A melody is found by its letters, whatever stands between them; what is none is refused."""
+        for letters in ("fgfg", "1---f--gf--g", "FGfG"):
+            self.assertEqual(self.found("--volpiano", letters), ["s/a.gabc:4:9: fgfg  fa sol fa sol  Kýri"], letters)
+        self.assertEqual(self.found("--volpiano", "fggggggg"), [])
+        for word in ("---", "1", "f?g", "t"):
+            self.assertEqual(command("find", "--volpiano", word, "s").returncode, 3, word)
+
     def test_forms(self) -> None:
         """The three forms say the same."""
         words = ("find", "--interval", "-1", "s")
@@ -64,6 +72,7 @@ class Found(InFolder):
             ("Kýrie, eléison", "sol", "mi", "si♭", "4"), ("Ky riee eleison.", "ut", "ut", "fa", "3"),
         ])
         self.assertEqual(rows[0]["degrees"], "fa sol fa sol mi fa sol si♭ la sol")
+        self.assertEqual(rows[0]["volpiano"].replace("-", ""), "1fgfge" + "3" * rows[0]["volpiano"].count("3") + "fgijhg")
 
     def test_neumes_counted(self) -> None:
         ran = command("neumes", "s")
@@ -92,7 +101,7 @@ class Found(InFolder):
 
     def test_refusals(self) -> None:
         for words, told in (
-            (("find", "s"), "one of --interval, --neume and --text is needed"), (("find", "--text", "a", "--neume", "pes", "s"), "one of --interval"),
+            (("find", "s"), "one of --interval, --neume, --text and --volpiano is needed"), (("find", "--text", "a", "--neume", "pes", "s"), "one of --interval"),
             (("find", "--interval", "one", "s"), "numbers are needed"), (("find", "--neume", "tortulus", "s"), "did you mean torculus?"),
             (("find", "--text", " ", "s"), "needs a word"), (("find", "--text", "a", "--semitones", "s"), "--semitones is for --interval"),
             (("neumes",), "a PATH is needed\n"), (("index", "--output-format", "sarif", "s"), "text, csv, json"),

@@ -4,39 +4,42 @@ from __future__ import annotations
 import argparse
 
 from gregorio_chant.commands.words import OUTSIDE, STATUSES, Parser, add_table, examples, table_of
-from gregorio_chant.searching import FOUND, IntervalSearch, NeumeSearch, TextSearch
+from gregorio_chant.searching import FOUND, IntervalSearch, NeumeSearch, TextSearch, VolpianoSearch
 from gregorio_chant.selection import UnknownCode
 from gregorio_chant.tables import Maker, write_table
 
 NAME = "find"
-_ABOUT = f"""Finds intervals, neumes or words in scores, and writes the place of each. It writes no file. {OUTSIDE}"""
+_ABOUT = f"""Finds intervals, neumes, words or melodies in scores, and writes the place of each. It writes no file. {OUTSIDE}"""
 _EXAMPLES = examples((
     'gregorio-chant find --interval "+2 +1 -3" scores',
     "gregorio-chant find --neume 'torculus*' --output-format csv scores",
-    "gregorio-chant find --text 'Kyri* elei*' scores",
+    "gregorio-chant find --text 'Kyri* elei*' scores", "gregorio-chant find --volpiano fghg scores",
 ))
 
 
 def add(commands: argparse._SubParsersAction[Parser]) -> Parser:
     """Adds the words of `find`."""
-    it = commands.add_parser(NAME, help="find intervals, neumes or words in scores", description=_ABOUT, epilog=f"{_EXAMPLES}\n\n{STATUSES}")
+    it = commands.add_parser(NAME, help="find intervals, neumes, words or melodies in scores", description=_ABOUT, epilog=f"{_EXAMPLES}\n\n{STATUSES}")
     it.add_argument("--interval", metavar="STEPS", help="notes that follow each other so many steps higher, or lower below 0, through bars too")
     it.add_argument("--neume", metavar="KIND", help="neumes of this kind; * stands for anything")
     it.add_argument("--text", metavar="WORDS", help="words that follow each other; * stands for anything, accents and capitals do not count")
+    it.add_argument("--volpiano", metavar="LETTERS", help="a melody by its letters in Volpiano; clef, hyphens, bars and flats do not count")
     it.add_argument("--semitones", action="store_true", help="with --interval: count semitones and no steps")
     add_table(it)
     return it
 
 
 def _search(words: argparse.Namespace) -> Maker:
-    if sum(it is not None for it in (words.interval, words.neume, words.text)) != 1:
-        raise UnknownCode("one of --interval, --neume and --text is needed")
+    if sum(it is not None for it in (words.interval, words.neume, words.text, words.volpiano)) != 1:
+        raise UnknownCode("one of --interval, --neume, --text and --volpiano is needed")
     if words.semitones and words.interval is None:
         raise UnknownCode("--semitones is for --interval")
     if words.interval is not None:
         return IntervalSearch.of(words.interval, words.semitones)
     if words.neume is not None:
         return NeumeSearch.of(words.neume)
+    if words.volpiano is not None:
+        return VolpianoSearch.of(words.volpiano)
     return TextSearch.of(words.text)
 
 

@@ -3,7 +3,7 @@ from __future__ import annotations
 
 from collections.abc import Iterable, Iterator
 
-from gregorio_chant.dump import Bar, Note, Score, Syllable
+from gregorio_chant.dump import Bar, Note, Syllable
 from gregorio_chant.formats import NoHeight, Way
 from gregorio_chant.formats.losses import ATTRIBUTES, BREAKS, CUSTODES, EPISEMATA, ICTUS, MORAE, NABC, SHAPES, STYLES, TRANSLATIONS, VIRGULAE
 
@@ -72,12 +72,18 @@ def _parts(syllables: Iterable[Syllable]) -> Iterator[tuple[str, str]]:
                 hyphens, last = "-", glyph
 
 
-def volpiano_of(score: Score) -> str:
-    """Returns the melody of a score. Raises `NoHeight` and `OutOfRange`."""
-    return "1" + "".join(f"{hyphens}{letters}" for hyphens, letters in _parts(score.syllables))
+def volpiano_of(syllables: Iterable[Syllable]) -> str:
+    """Returns the melody of syllables. Raises `NoHeight` and `OutOfRange`."""
+    return "1" + "".join(f"{hyphens}{letters}" for hyphens, letters in _parts(syllables))
+
+
+def letter_of(note: Note) -> str | None:
+    """Returns the small letter of a note, without a sign before it; `None` if it has none."""
+    at = -1 if note.step is None else note.step + _UT
+    return LETTERS[at] if 0 <= at < len(LETTERS) else None
 
 
 WAY = Way(
-    "volpiano", ".volpiano", lambda score: f"{volpiano_of(score)}\n".encode(),
+    "volpiano", ".volpiano", lambda score: f"{volpiano_of(score.syllables)}\n".encode(),
     frozenset((NABC, STYLES, TRANSLATIONS, ATTRIBUTES, BREAKS, CUSTODES, SHAPES, MORAE, EPISEMATA, ICTUS, VIRGULAE)),
 )
