@@ -158,7 +158,7 @@ class Shown(Browsing):
         self.put("scores/c.gabc", SCORE)
         command("show", "-o", "pages/", "scores")
         self.browser.get(Path("pages/index.html").resolve().as_uri())
-        self.browser.find_element("link text", "scores/in/a b.gabc").click()
+        self.browser.find_element("link text", "in/a b.gabc").click()
         self.assertEqual(self.look("document.querySelectorAll('svg').length"), 2)
         self.find(".back a").click()
         self.assertTrue(self.browser.current_url.endswith("pages/index.html"))

@@ -407,7 +407,8 @@ class Pictures(unittest.TestCase):
             self.assertEqual(tried.failed, 0)
 
     def test_not_drawn(self) -> None:
-        self.assertIn("Not drawn: 2 attributes and 1 part of raw TeX.", picture("name: x;\n%%\n(c4) a(f[ob:1;6mm]g[cs:t]) <v>x</v>b(g)\n"))
+        self.assertIn("Not drawn: 2 attributes and 1 part of raw TeX.", picture("name: x;\n%%\n(c4) a(f[nv:x]g[ll:1]) <v>x</v>b(g)\n"))
+        self.assertNotIn("Not drawn", picture("name: x;\n%%\n(c4) a(f[ob:1;6mm]g[cs:t])\n"))
 
 
 class Sizes(unittest.TestCase):

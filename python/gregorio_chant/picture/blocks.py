@@ -2,12 +2,13 @@
 its signs and the distance after it."""
 from __future__ import annotations
 
-from collections.abc import Iterable, Sequence
+from collections.abc import Iterable, Iterator, Sequence
 from functools import cached_property
 from gregorio_chant.items import (
-    Alteration, Bar, Break, Clef, Custos, Fusion, Glyph, Item, NabcSnippet, Note, NoteSnippet, Space, Syllable,
+    Alteration, Attribute, Bar, Break, Clef, Custos, Fusion, Glyph, Item, NabcSnippet, Note, NoteSnippet, Space, Syllable,
 )
 from gregorio_chant.picture import staff
+from gregorio_chant.picture.attributes import At, add_attributes
 from gregorio_chant.picture.episemata import Neume, add_signs
 from gregorio_chant.picture.faces import OWN, Drawn, Face
 from gregorio_chant.picture.hands import PLAIN, Hand, neumes_of
@@ -61,9 +62,13 @@ class _Writer:
         # The last note, where the next one is fused to it.
         self._fused: Note | None = None
         self._last: Note | None = None
+        # The note before each attribute.
+        self._attributes: list[tuple[Attribute, Note]] = []
+        self._before: Note | None = None
 
     def add(self, item: Item) -> None:
         if isinstance(item, Note):
+            self._before = item
             glyph = self._glyphs.get(item.place.offset)
             if glyph is not None:
                 self._add_neume(glyph)
@@ -80,6 +85,8 @@ class _Writer:
             self.blocks[-1].ends_line = item
         elif isinstance(item, (Clef, Alteration, Bar, Custos)):
             self._add_sign(item)
+        elif isinstance(item, Attribute) and self._before is not None:
+            self._attributes.append((item, self._before))
 
     def _put(self, block: Block) -> None:
         self.blocks.append(block)
@@ -107,7 +114,17 @@ class _Writer:
         covered = episemata_of(self._snippet.items)
         if covered or any(head.note.ictus for it in self._neumes for head in it.heads):
             add_signs(self._neumes, covered)
+        if self._attributes:
+            add_attributes(self._at_heads())
         return self.blocks
+
+    def _at_heads(self) -> Iterator[At]:
+        """Yields each attribute with the head that it stands after."""
+        heads = {head.note.place.offset: (it, head) for it in self._neumes for head in it.heads}
+        for attribute, note in self._attributes:
+            if note.place.offset in heads:
+                neume, head = heads[note.place.offset]
+                yield At(attribute, neume.block, head, neume.heads)
 
     @cached_property
     def _pitches(self) -> dict[int, str | None]:

@@ -6,6 +6,7 @@ from collections.abc import Iterable, Iterator
 from dataclasses import dataclass
 
 from gregorio_chant.items import Attribute, Syllable
+from gregorio_chant.picture.attributes import is_drawn
 from gregorio_chant.picture.blocks import first_pitch
 from gregorio_chant.picture.faces import OWN, Face
 from gregorio_chant.picture.hands import PLAIN, Hand
@@ -76,7 +77,7 @@ class Layout:
         for syllable, pitch in _with_pitches(self.syllables):
             parts, text = maker.parts_of(syllable, pitch)
             if "[" in syllable.spelling:
-                self.attributes += sum(isinstance(it, Attribute) for it in syllable.items)
+                self.attributes += sum(isinstance(it, Attribute) and not is_drawn(it) for it in syllable.items)
             self.raw += text.raw
             yield from parts
 

@@ -6,10 +6,10 @@ from dataclasses import dataclass
 
 from gregorio_chant.items import Break, Clef
 from gregorio_chant.picture import staff
+from gregorio_chant.picture.attributes import ABOVE_SIZE, curves_of
 from gregorio_chant.picture.blocks import moved
 from gregorio_chant.picture.breaking import Room, Unit, breaks_of, units_of
 from gregorio_chant.picture.initial import Initial
-from gregorio_chant.picture.parts import ABOVE_SIZE, TRANSLATION_SIZE
 from gregorio_chant.picture.setting import Cursor, hyphens, right_of, spread
 from gregorio_chant.picture.shapes import Shape
 from gregorio_chant.picture.spaces import SPACES, Spaces
@@ -143,10 +143,11 @@ class LineMaker:
         free = self._width - spaces.custos - right_of(line.parts)
         if end.is_spread and free <= _MOST_SPREAD * self._width:
             spread(line.parts, free, self._width)
-        if following is not None and end.has_custos and not _ends_with_custos(line):
+        if following is not None and end.has_custos and not _ends_without_custos(line):
             signs, width = staff.custos(following, self._lines, self._shapes)
             line.signs += moved(signs, self._width - width - spaces.custos_to_end)
         line.hyphens = list(hyphens(line.parts))
+        line.curves = list(curves_of((it.x + x, block) for it in line.parts for x, block in it.part.blocks))
         self._set_heights(line)
 
     def _set_heights(self, line: Line) -> None:
@@ -179,6 +180,11 @@ def _bounds(line: Line, shapes: Mapping[str, Shape]) -> tuple[float, float]:
     for it in signs:
         up, down = (0.0, it.height) if isinstance(it, Rect) else (shapes[it.shape].up, shapes[it.shape].down)
         top, bottom = min(top, it.y - up), max(bottom, it.y + down)
+    for curve in line.curves:
+        top, bottom = min(top, curve.y - curve.height) if curve.over else top, max(bottom, curve.y + curve.height) if not curve.over else bottom
+    for placed in line.parts:
+        for _, block in placed.part.blocks:
+            top = min(top, *(words.y - words.size for words in block.texts), top)
     return top, bottom
 
 
@@ -195,7 +201,8 @@ def _rows(line: Line, spaces: Spaces) -> tuple[tuple[float, ...], float]:
     return tuple(rows), top
 
 
-def _ends_with_custos(line: Line) -> bool:
-    """Returns whether the last signs of a line are a custos of the score's own."""
+def _ends_without_custos(line: Line) -> bool:
+    """Returns whether no custos is to stand at the end of a line: the score has one of its own there, or
+    wants none."""
     blocks = (block for it in reversed(line.parts) for _, block in reversed(it.part.blocks))
-    return next((it.is_custos for it in blocks if it.signs), False)
+    return next((it.is_custos or it.no_custos for it in blocks if it.signs), False)

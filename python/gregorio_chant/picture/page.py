@@ -5,6 +5,7 @@ from __future__ import annotations
 import base64
 import hashlib
 import json
+import os
 from collections import Counter
 from collections.abc import Iterable, Iterator, Sequence
 from dataclasses import dataclass, field
@@ -33,7 +34,9 @@ pre span::before{content:attr(data-n);display:inline-block;width:3.5em;margin-ri
 table{border-collapse:collapse;margin-bottom:1.5rem}td,th{text-align:left;padding:.2rem .8rem .2rem 0;vertical-align:top}td{overflow-wrap:anywhere}td.n,th.n{text-align:right}
 .chant .now{fill:#e60;fill-opacity:.55}.sing input{vertical-align:middle}
 .narrow{display:none}
-@media(max-width:36rem){.wide{display:none}.narrow{display:revert}.picture{overflow-x:auto}}
+@media(max-width:36rem){.wide{display:none}.narrow{display:revert}.picture{overflow-x:auto}
+.index tr{display:flex;flex-wrap:wrap;border-top:1px solid #8888}.index td{padding:.1rem .6rem .1rem 0}.index tr:first-child{display:none}
+.index td:nth-child(-n+2){flex-basis:100%}.index .n:nth-child(3)::before{content:"errors "}.index .n:nth-child(4)::before{content:"warnings "}}
 @media(prefers-color-scheme:dark){body{color:#ddd;background:#161616}a{color:#8bf}.error,.fatal{color:#f88}.warning{color:#db6}
 .chant{color:#ddd}.chant .paper{fill:#161616}.chant .staff{stroke:#c65}.chant .red,.chant .code{fill:#f88}
 .chant .mark{fill:#f66;stroke:#f66}.chant .mark.w{fill:#db6;stroke:#db6}}
@@ -202,6 +205,12 @@ def page_of(scores: Sequence[Shown], title: str, note: str = "", back: str = "")
     yield f"<p>{text(note)}</p>\n{_foot(sings=sings)}" if note else _foot(sings=sings)
 
 
+def _common_folder(names: Sequence[str]) -> str:
+    """Returns the folder that all names begin with, with its last `/`; nothing if there is none."""
+    common = os.path.commonprefix([it.rpartition("/")[0] + "/" for it in names if "/" in it]) if all("/" in it for it in names) else ""
+    return common[: common.rfind("/") + 1]
+
+
 def index_of(entries: Sequence[Entry], failed: int) -> Iterator[str]:
     """Yields an index: scores with errors first, and how often each code was found."""
     kinds = sum((it.kinds for it in entries), Counter[Kind]())
@@ -213,11 +222,12 @@ def index_of(entries: Sequence[Entry], failed: int) -> Iterator[str]:
         yield '<table>\n<tr><th>Code<th class="n">Found</tr>\n'
         yield from (f'<tr><td>{text(code)}<td class="n">{count:,}</tr>\n' for code, count in sorted(codes.items(), key=lambda it: (-it[1], it[0])))
         yield "</table>\n"
-    yield '<table>\n<tr><th>Score<th>Name<th class="n">Errors<th class="n">Warnings<th>Codes</tr>\n'
+    yield '<table class="index">\n<tr><th>Score<th>Name<th class="n">Errors<th class="n">Warnings<th>Codes</tr>\n'
+    common = _common_folder([it.name for it in entries])
     for it in sorted(entries, key=lambda it: it.rank):
         errors = it.kinds[Kind.ERROR] + it.kinds[Kind.FATAL]
         yield (
-            f'<tr><td><a href="{escape(it.address)}"><bdi>{text(it.name)}</bdi></a><td><bdi>{text(it.title)}</bdi><td class="n">{errors:,}'
+            f'<tr><td><a href="{escape(it.address)}"><bdi>{text(it.name[len(common) :])}</bdi></a><td><bdi>{text(it.title)}</bdi><td class="n">{errors:,}'
             f'<td class="n">{it.kinds[Kind.WARNING]:,}<td>{text(" ".join(sorted(it.codes)))}</tr>\n'
         )
     yield f"</table>\n{FOOT}"

@@ -6,6 +6,7 @@ from collections.abc import Iterator
 from typing import NamedTuple
 
 from gregorio_chant.items import Break, Clef, Syllable
+from gregorio_chant.picture.attributes import ABOVE_SIZE
 from gregorio_chant.picture.blocks import begin_of_notes, blocks_of
 from gregorio_chant.picture.faces import OWN, Face
 from gregorio_chant.picture.hands import PLAIN, Hand
@@ -15,7 +16,7 @@ from gregorio_chant.picture.values import Block, Part, Words
 from gregorio_chant.picture.widths import styled_width, width_of
 from gregorio_chant.picture.words import SyllableText, read_and_set
 
-TRANSLATION_SIZE, ABOVE_SIZE = 12.0, 11.0
+TRANSLATION_SIZE = 12.0
 _DOTS = "…"
 _MOST_KEPT = 4096
 
@@ -34,8 +35,13 @@ class _Row(NamedTuple):
     is_bar: bool
 
 
+def _nabc_width(block: Block) -> float:
+    return max((it.width for it in block.neumes), default=0.0)
+
+
 def _row_of(blocks: list[tuple[float, Block]], width: float) -> _Row:
-    """Returns a row of blocks at these places from the first one's left."""
+    """Returns a row of blocks at these places from the first one's left, at least `width` wide."""
+    width = max(width, max((x + _nabc_width(it) for x, it in blocks), default=width))
     anchor: float | None = None
     first: str | None = None
     clef: Clef | None = None
@@ -62,7 +68,8 @@ def _cut_into_rows(blocks: list[Block], room: float) -> Iterator[_Row]:
     row: list[tuple[float, Block]] = []
     x = 0.0
     for block in blocks:
-        if row and x + block.width > room:
+        # The NABC of a snippet stands over its first block: a line may end within the snippet.
+        if row and x + max(block.width, _nabc_width(block)) > room:
             yield _row_of(row, x - row[-1][1].after)
             row, x = [], 0.0
         row.append((round(x, 2), block))
@@ -154,6 +161,8 @@ class PartMaker:
             first.translation = _shortened(syllable.translation, TRANSLATION_SIZE, room).moved(left)
         if text.above:
             first.above = tuple(_shortened(it, ABOVE_SIZE, room).moved(first.left) for it in text.above)
+        for part in parts:
+            part.above += tuple([words.moved(x) for x, block in part.blocks for words in block.above])
         if len(parts) > 1:
             _add_ends(parts)
         return parts, text

@@ -11,7 +11,7 @@ from gregorio_chant.picture.codes import CODE_ROW, CODE_SIZE, Code, field_of, ma
 from gregorio_chant.picture.marks import Mark, Places
 from gregorio_chant.picture.shown import shown
 from gregorio_chant.picture.spaces import SPACES
-from gregorio_chant.picture.values import Line, Neumes, Placed, Rect, Sign, Use, Words
+from gregorio_chant.picture.values import Curve, Line, Neumes, Placed, Rect, Sign, Use, Words
 from gregorio_chant.picture.widths import FACES
 from gregorio_chant.picture.words import SIZE
 from gregorio_chant.results import Kind
@@ -20,7 +20,7 @@ MARGIN = SPACES.margin
 # The style of pictures: a file of its own holds it, a page has it once.
 STYLE = (
     f".chant{{color:#000;font-family:{FACES};fill:currentColor}}.chant .paper{{fill:#fff}}.chant .staff{{fill:none;stroke:#a43;stroke-width:.7}}"
-    ".chant .red{fill:#b00}.chant .mark{fill:#c00;fill-opacity:.09;stroke:#c00;stroke-width:.7}.chant .mark.w{fill:#960;stroke:#960;stroke-dasharray:3 2}"
+    ".chant .curve{fill:none;stroke:currentColor;stroke-width:.9}.chant .red{fill:#b00}.chant .mark{fill:#c00;fill-opacity:.09;stroke:#c00;stroke-width:.7}.chant .mark.w{fill:#960;stroke:#960;stroke-dasharray:3 2}"
     f".chant .code{{fill:#a00;font:bold {CODE_SIZE:.0f}px sans-serif}}"
 )
 _ATTRIBUTES = {
@@ -87,6 +87,17 @@ def add(parent: Element, name: str, text: str) -> None:
     SubElement(parent, name).text = shown(text)
 
 
+def _path_of(curve: Curve) -> str:
+    """Returns the path of a slur or a brace; one with an accent has that over its middle."""
+    width, high = number(curve.width), -curve.height if curve.over else curve.height
+    begin = f"M{number(curve.x)},{number(curve.y)}"
+    if curve.kind in ("slur", "round"):
+        return f"{begin}q{number(curve.width / 2)},{number(2 * high)} {width},0"
+    quarter, half = number(curve.width / 4), number(high / 2)
+    path = f"{begin}q0,{half} {quarter},{half}t{quarter},{half}q0,{number(-high / 2)} {quarter},{number(-high / 2)}t{quarter},{number(-high / 2)}"
+    return path + (f"M{number(curve.x + curve.width / 2 - 1)},{number(curve.y + high - 1.5)}l2.5,-3.5" if curve.kind == "accented" else "")
+
+
 _ALTERED = {"flat": "\u266d", "sharp": "\u266f"}
 
 
@@ -139,6 +150,8 @@ class Painter:
         self._signs(group, line.signs, 0.0)
         for placed in line.parts:
             self._part(group, line, placed)
+        for curve in line.curves:
+            SubElement(group, "path", {"class": "curve", "d": _path_of(curve)})
         for it in codes:
             self.code(group, it.mark, it.x, line.top - 2.5 - CODE_ROW * it.row, it.text)
         for hyphen in line.hyphens:
@@ -198,6 +211,8 @@ class Painter:
         self._field(group, line, placed)
         for x, block in part.blocks:
             self._signs(group, block.signs, placed.x + x)
+            for words in block.texts:
+                self._words(group, words._replace(styles=frozenset("i")), placed.x + x, words.y)
             for it in block.neumes:
                 self._neumes(group, it, placed.x + x, line.rows[it.row - 1])
         for words in part.texts:

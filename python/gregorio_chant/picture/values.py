@@ -78,6 +78,30 @@ class Words(NamedTuple):
         return Words(self.text, self.x + x, self.y + y, self.width, self.size, self.styles, self.title)
 
 
+class CurveMark(NamedTuple):
+    """What an attribute asks for at a place of a block: a whole slur or brace, or the `begin` or the
+    `end` of one, `over` the notes or under them. `kind` is slur, round, curly or accented."""
+
+    kind: str
+    role: str
+    over: bool
+    x: float
+    y: float
+    width: float
+    height: float
+
+
+class Curve(NamedTuple):
+    """A slur or a brace on a line, from its left end on."""
+
+    kind: str
+    over: bool
+    x: float
+    y: float
+    width: float
+    height: float
+
+
 class Neumes(NamedTuple):
     """The NABC of a snippet, in a row over the staff, by its number from 1: shapes, or if there are
     none its text. `up` and `down` are how far it goes from the line that it stands on."""
@@ -95,7 +119,8 @@ class Neumes(NamedTuple):
 class Block:
     """Signs that no line end parts. `offset` says where it begins in the canonical text, from the
     first snippet of its syllable on. `anchor` is the middle of its first head, or of a bar;
-    `first` is its first pitch, and `heads` has left, height and width of each head."""
+    `first` is its first pitch, and `heads` has left, height and width of each head. `texts` stand at
+    its notes, and `above` over the staff; `no_custos` says that none stands at a line's end here."""
 
     offset: int
     signs: tuple[Sign, ...]
@@ -109,6 +134,10 @@ class Block:
     ends_line: Break | None = None
     neumes: tuple[Neumes, ...] = ()
     heads: tuple[tuple[float, float, float], ...] = ()
+    curves: tuple[CurveMark, ...] = ()
+    texts: tuple[Words, ...] = ()
+    above: tuple[Words, ...] = ()
+    no_custos: bool = False
 
 
 @dataclass(slots=True)
@@ -160,6 +189,7 @@ class Line:
     signs: list[Sign] = field(default_factory=list)
     hyphens: list[Words] = field(default_factory=list)
     initial: list[Words] = field(default_factory=list)
+    curves: list[Curve] = field(default_factory=list)
     indent: float = 0.0
     width: float = 0.0
     top: float = 0.0
