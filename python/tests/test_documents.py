@@ -36,7 +36,7 @@ class Documents(InFolder):
     def test_picture_of_the_score(self) -> None:
         """The picture of the README is what its command makes of its first example. `gregorio-chant show` with these words writes it anew."""
         score = block("README.md", "test: score").encode()
-        (words,) = re.findall(r"`gregorio-chant (show .*?) score\.gabc`", README)
+        (words,) = re.findall(r"`gregorio-chant\s(show\s[^`]*?)\sscore\.gabc`", README)
         self.assertEqual(command(*words.split(), "-", data=score).stdout, (ROOT / "docs" / "kyrie.svg").read_bytes())
 
     def test_options(self) -> None:
