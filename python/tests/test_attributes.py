@@ -50,6 +50,10 @@ class Curves(unittest.TestCase):
         for notes in ("a(f[oslur:0{]g)", "a(f[oslur:0}]g)", "a(f[oslur:0{]g) b(h[uslur:0}])"):
             self.assertEqual(line_of(notes).curves, [], notes)
 
+    def test_within_the_line(self) -> None:
+        curve = curve_of("a(f[oslur:0;900mm,2mm]g)")
+        self.assertAlmostEqual(curve.x + curve.width, 700.0, 1)
+
     def test_drawn(self) -> None:
         svg = picture("name: x;\n%%\n(c4) a(f[oslur:0;5mm,2mm]g[ocba:1;9mm]) b(h[ub:1;99999999999mm])\n")
         self.assertEqual(len([it for it in Xml.fromstring(svg).iter(f"{SVG}path") if it.get("class") == "curve"]), 3)

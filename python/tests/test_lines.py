@@ -36,6 +36,8 @@ class Breaks(unittest.TestCase):
             for end in ("(z)", "(::z)", "(Z)", "(::)"):
                 lines = lines_of("la(f) " * count + end + " mi(g) fa(g) sol(g)", 320.0)
                 self.assertGreater(min(counts(lines)), 1, (count, end, counts(lines)))
+                texts = [sum(it.part.has_text for it in line.parts) for line in lines]
+                self.assertGreater(min(texts), 2, (count, end, texts))
 
     def test_lines_are_spread(self) -> None:
         """Each line but the last one of a stretch goes up to the custos."""

@@ -14,6 +14,7 @@ from gregorio_chant.picture.faces import OWN, Face
 from gregorio_chant.picture.layout import lay_out
 from gregorio_chant.picture.look import USUAL_WIDTH, Look
 from gregorio_chant.picture.shown import shown
+from gregorio_chant.picture.spaces import Spaces
 from gregorio_chant.picture.svg import STYLE, Names
 
-__all__ = ["OWN", "STYLE", "USUAL_WIDTH", "Face", "Look", "Names", "Picture", "draw", "lay_out", "picture", "shown"]
+__all__ = ["OWN", "STYLE", "USUAL_WIDTH", "Face", "Look", "Names", "Picture", "Spaces", "draw", "lay_out", "picture", "shown"]

@@ -102,15 +102,15 @@ def add_attributes(attributes: Iterable[At]) -> None:
                 block.above = (*block.above, _words(found[2], at.head.x, 0.0, ABOVE_SIZE))
 
 
-def curves_of(placed: Iterable[tuple[float, Block]]) -> Iterator[Curve]:
-    """Yields the curves of blocks at their places on one line. One that begins or ends on another line
-    is left out."""
+def curves_of(placed: Iterable[tuple[float, Block]], width: float) -> Iterator[Curve]:
+    """Yields the curves of blocks at their places on a line of this width, beyond which none goes. One
+    that begins or ends on another line is left out."""
     begun: dict[tuple[str, bool], tuple[float, float]] = {}
     for x, block in placed:
         for it in block.curves:
             key = it.kind, it.over
             if it.role == "whole":
-                yield Curve(it.kind, it.over, x + it.x, it.y, it.width, it.height)
+                yield Curve(it.kind, it.over, x + it.x, it.y, min(it.width, max(width - x - it.x, 1.0)), it.height)
             elif it.role == "begin":
                 begun[key] = x + it.x, it.y
             elif key in begun:

@@ -3,6 +3,7 @@ way through all possible breaks is taken, as TeX does for paragraphs."""
 from __future__ import annotations
 
 import bisect
+import itertools
 import math
 from collections.abc import Iterable, Iterator, Sequence
 from dataclasses import dataclass
@@ -96,6 +97,8 @@ def breaks_of(units: Sequence[Unit], rooms: Sequence[Sequence[Room]], end: Break
     the last row is that of all further lines. `end` is the end that the score asks for after the last
     unit."""
     begins, rights = _measured(units, spaces)
+    # How many syllables with a text stand before each unit.
+    passed = list(itertools.accumulate((any(part.texts for part in unit) for unit in units), initial=0))
     best: list[_Way | None] = [_Way(0.0, 0, 0), *([None] * len(units))]
     for at in range(len(units)):
         way = best[at]
@@ -103,7 +106,7 @@ def breaks_of(units: Sequence[Unit], rooms: Sequence[Sequence[Room]], end: Break
             continue
         room = rooms[min(way.lines, len(rooms) - 1)][at]
         for to, free in _ends_from(at, room, begins, rights):
-            cost = way.cost + (_TOO_WIDE if free < 0 else _price(free, units[to - 1], to - at, end, to == len(units)))
+            cost = way.cost + (_TOO_WIDE if free < 0 else _price(free, units[to - 1], passed[to] - passed[at], end, to == len(units)))
             known = best[to]
             if known is None or cost < known.cost:
                 best[to] = _Way(cost, at, way.lines + 1)

@@ -147,7 +147,7 @@ class LineMaker:
             signs, width = staff.custos(following, self._lines, self._shapes)
             line.signs += moved(signs, self._width - width - spaces.custos_to_end)
         line.hyphens = list(hyphens(line.parts))
-        line.curves = list(curves_of((it.x + x, block) for it in line.parts for x, block in it.part.blocks))
+        line.curves = list(curves_of(((it.x + x, block) for it in line.parts for x, block in it.part.blocks), self._width))
         self._set_heights(line)
 
     def _set_heights(self, line: Line) -> None:
