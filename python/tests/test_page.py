@@ -54,9 +54,10 @@ class Serving(Asking):
 
     def stop(self, server: subprocess.Popen[bytes]) -> None:
         """Ends the server as Control-C does: it has said nothing but its address."""
+        is_ended = server.poll() is not None
         server.send_signal(signal.SIGINT)
         self.assertEqual(server.communicate(timeout=20), (b"", b""))
-        self.assertEqual(server.returncode, 130)
+        self.assertEqual(server.returncode, 143 if is_ended else 130)
 
     def answer(self, score: bytes, **headers: str) -> Any:
         status, body, _ = self.ask("POST", "/score", score, **headers)
@@ -117,8 +118,8 @@ class Serving(Asking):
             got, _, headers = self.ask(method, path, b"" if method == "POST" else None, **sent)
             self.assertEqual(got, status, (method, path))
             policy = headers["Content-Security-Policy"]
-            self.assertTrue(policy.startswith("default-src 'none'; "), policy)
-            self.assertEqual(set(re.findall(r"-(?:src|uri|action|ancestors) ([^;]*)", policy)), {"'none'", "'self'"})
+            self.assertEqual(policy, _POLICY)
+            self.assertEqual(headers["Cache-Control"], "no-store")
             self.assertEqual(headers["X-Content-Type-Options"], "nosniff")
             self.assertNotIn("Access-Control-Allow-Origin", headers)
 
@@ -146,6 +147,7 @@ class Serving(Asking):
         """What is no request is answered, and no line tells of it."""
         self.assertEqual(self.status_of(b"\x16\x03\x01 no request\r\n\r\n"), 400)
         self.assertEqual(self.status_of(self.head("POST", "/score", Content_Length="x")), 400)
+        self.assertEqual(self.status_of(self.head("POST", "/score", Content_Length="9" * 5_000)), 413)
 
     def test_loopback_alone(self) -> None:
         """No other address of this machine leads to it."""
@@ -182,6 +184,52 @@ class Serving(Asking):
             self.assertLess(time.monotonic() - begin, 5)
             self.assertIn(b"200", slow.recv(100))
 
+    def children(self) -> int:
+        """Returns how many processes the server has."""
+        return len(Path(f"/proc/{self.server.pid}/task/{self.server.pid}/children").read_text().split())
+
+    def await_children(self, number: int) -> None:
+        end = time.monotonic() + 10
+        while self.children() != number and time.monotonic() < end:
+            time.sleep(0.01)
+        self.assertEqual(self.children(), number)
+
+    def asked(self, **headers: str) -> socket.socket:
+        """Asks about a score that takes long."""
+        asked = socket.create_connection(("127.0.0.1", self.port), timeout=60)
+        self.addCleanup(asked.close)
+        asked.sendall(self.head("POST", "/score", Content_Length=str(len(_LONG)), **headers) + _LONG)
+        return asked
+
+    def test_given_up(self) -> None:
+        """What is made of a score is given up when the tab goes, or asks anew."""
+        gone = self.asked(Tab="a")
+        self.await_children(1)
+        gone.close()
+        self.await_children(0)
+        first = self.asked(Tab="a")
+        self.await_children(1)
+        other = self.asked(Tab="b")
+        self.await_children(2)
+        self.assertEqual(self.answer(SCORE.encode(), Tab="a")["name"], "Kyrie")
+        self.assertIn(b" 409 ", first.recv(100))
+        self.await_children(1)
+        other.close()
+        self.await_children(0)
+
+    def test_too_many(self) -> None:
+        for _ in range(16):
+            self.asked()
+        self.await_children(16)
+        self.assertEqual(self.ask("POST", "/score", SCORE.encode())[0], 503)
+
+    def test_ended_while_it_draws(self) -> None:
+        self.asked()
+        self.await_children(1)
+        begin = time.monotonic()
+        self.server.terminate()
+        self.assertEqual((self.server.wait(20), time.monotonic() - begin < 2), (143, True))
+
     def test_port(self) -> None:
         taken = command("page", "--port", str(self.port))
         self.assertEqual((taken.returncode, taken.stdout), (4, b""))
@@ -196,6 +244,13 @@ class Serving(Asking):
         self.assertEqual(words[:2], ["gregorio-chant", "page"])
         self.start(*words[2:])
         self.assertEqual(self.port, port)
+
+
+_POLICY = (
+    "default-src 'none'; script-src 'self'; style-src 'self'; img-src 'self'; connect-src 'self'; base-uri 'none'; form-action 'none'; frame-ancestors 'none'"
+)
+# A score that takes seconds to be drawn.
+_LONG = b"name: a;\n%%\n(c4) " + b"Ky(f)ri(gfg)e(e.) " * 20_000
 
 
 class Words(InFolder):

@@ -1,15 +1,15 @@
 """The page and its answers, as an application for a server."""
 from __future__ import annotations
 
+import json
 from collections.abc import Callable, Collection
 from dataclasses import asdict
 from pathlib import Path
 from typing import Any
 
 from starlette.applications import Starlette
-from starlette.concurrency import run_in_threadpool
 from starlette.requests import Request
-from starlette.responses import JSONResponse, Response
+from starlette.responses import Response
 from starlette.routing import Route
 from starlette.types import ASGIApp
 
@@ -17,8 +17,13 @@ from gregorio_chant.picture import USUAL_WIDTH
 from gregorio_chant.picture.page import MOST_BYTES, SINGER, STYLE
 from gregorio_chant.picture.shapes import SHAPES
 from gregorio_chant.web.answers import Answers
+from gregorio_chant.web.computing import Computations, GivenUp, TooMany
 from gregorio_chant.web.guard import Guard, TooLong, too_long
 
+# A score of more bytes is read at a button, and not at each pause of the typing.
+_MOST_TYPED = 100_000
+# The header in which the page says which tab of the browser it is.
+_TAB = "tab"
 _TYPES = {".html": "text/html", ".css": "text/css", ".js": "text/javascript", ".svg": "image/svg+xml"}
 _LEAST_WIDTH, _MOST_WIDTH, _MOST_DIGITS = 280, 1200, 6
 _ICON = f'<svg xmlns="http://www.w3.org/2000/svg" viewBox="-8 -11 22 22"><path fill="#a43" fill-rule="evenodd" d="{SHAPES["c-clef"].path}"/></svg>'
@@ -27,7 +32,8 @@ _ICON = f'<svg xmlns="http://www.w3.org/2000/svg" viewBox="-8 -11 22 22"><path f
 def _files() -> dict[str, str]:
     """Returns the files of the page by their paths."""
     page, script, style = (Path(__file__).with_name(it).read_text(encoding="utf-8") for it in ("page.html", "page.js", "page.css"))
-    return {"/": page.replace("MOST_BYTES", str(MOST_BYTES)), "/page.js": script, "/sing.js": SINGER, "/page.css": STYLE + style, "/icon.svg": _ICON}
+    page = page.replace("MOST_BYTES", str(MOST_BYTES)).replace("MOST_TYPED", str(_MOST_TYPED))
+    return {"/": page, "/page.js": script, "/sing.js": SINGER, "/page.css": STYLE + style, "/icon.svg": _ICON}
 
 
 def _route_of(path: str, content: str) -> Route:
@@ -56,15 +62,28 @@ def _width_of(request: Request) -> float:
     return float(min(max(width, _LEAST_WIDTH), _MOST_WIDTH))
 
 
+def _json_of(made: object) -> bytes:
+    return json.dumps(made, ensure_ascii=False, separators=(",", ":")).encode("utf-8")
+
+
 def app_of(answers: Answers, names: Collection[str]) -> ASGIApp:
     """Returns the application of a server of these names."""
+    computations = Computations()
+
     async def answered(request: Request, make: Callable[[bytes], Any]) -> Response:
+        tab = request.headers.get(_TAB)
         try:
-            return JSONResponse(await run_in_threadpool(make, await _body_of(request)))
+            data = await _body_of(request)
+            made = await computations.answer(None if tab is None else (tab, request.url.path), lambda: _json_of(make(data)), request.receive)
         except TooLong:
             return too_long()
+        except GivenUp:
+            return Response("the score was given up: another one came, or reading it failed\n", 409)
+        except TooMany:
+            return Response("too many scores are read at this moment\n", 503)
         except MemoryError:
             return Response("no memory\n", 507)
+        return Response(made, media_type="application/json")
 
     async def score(request: Request) -> Response:
         width = _width_of(request)

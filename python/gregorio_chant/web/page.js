@@ -5,44 +5,42 @@ const PREFIX = "p1-";
 const PAUSE = 120;
 const WIDEST = 720;
 const MOST_BYTES = Number(document.body.dataset.most);
+const MOST_TYPED = Number(document.body.dataset.typed);
+const TAB = crypto.randomUUID();
 const at = (id) => document.getElementById(id);
 const score = at("score");
 
 // ---- asking
 
-let waiting = null;
-let isAsking = false;
+let asking = new AbortController();
 let timer = 0;
 let drawnAt = 0;
 
-// Asks about these bytes. Of what comes while an answer is awaited the last is asked about next.
+// Asks about these bytes, and gives up what was asked before.
 async function ask(bytes) {
-  waiting = bytes;
-  if (isAsking) return;
-  isAsking = true;
-  while (waiting !== null) {
-    const body = waiting;
-    waiting = null;
-    try {
-      show(await answerTo(body));
-      say("");
-    } catch (error) {
-      say(error.message);
-    }
+  asking.abort();
+  const { signal } = (asking = new AbortController());
+  at("read").hidden = true;
+  try {
+    const answer = await answerTo(bytes, signal);
+    if (signal.aborted) return;
+    show(answer);
+    say("");
+  } catch (error) {
+    if (!signal.aborted) say(error.message);
   }
-  isAsking = false;
 }
 
-async function answerTo(body) {
+async function answerTo(body, signal) {
   if (body.length > MOST_BYTES) throw new Error(`A score has ${MOST_BYTES.toLocaleString("en")} bytes at most here.`);
   const width = Math.round(Math.min(at("picture").clientWidth, WIDEST));
-  return fromServer(`/score?width=${width}`, body);
+  return fromServer(`/score?width=${width}`, body, signal);
 }
 
-async function fromServer(path, body) {
+async function fromServer(path, body, signal) {
   let answer;
   try {
-    answer = await fetch(path, { method: "POST", body, headers: { "Content-Type": "application/octet-stream" } });
+    answer = await fetch(path, { method: "POST", body, headers: { "Content-Type": "application/octet-stream", Tab: TAB }, signal });
   } catch {
     throw new Error("The server has ended: start gregorio-chant page again.");
   }
@@ -52,7 +50,18 @@ async function fromServer(path, body) {
 
 function askSoon() {
   clearTimeout(timer);
-  timer = setTimeout(() => ask(new TextEncoder().encode(score.value)), PAUSE);
+  timer = setTimeout(() => askUnlessLong(new TextEncoder().encode(score.value)), PAUSE);
+}
+
+// A long score is read when its button is pressed, and not at each pause of the typing.
+function askUnlessLong(bytes) {
+  if (bytes.length <= MOST_TYPED) {
+    ask(bytes);
+    return;
+  }
+  asking.abort();
+  at("read").hidden = false;
+  say(`A score above ${MOST_TYPED.toLocaleString("en")} bytes is read at the button.`);
 }
 
 // Draws again once the picture has another width.
@@ -146,6 +155,7 @@ async function take(file) {
 }
 
 score.addEventListener("input", askSoon);
+at("read").addEventListener("click", () => ask(new TextEncoder().encode(score.value)));
 document.addEventListener("selectionchange", () => {
   if (document.activeElement === score) showCursor();
 });

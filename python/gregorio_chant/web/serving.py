@@ -2,14 +2,22 @@
 from __future__ import annotations
 
 import socket
+import sys
 from contextlib import AbstractContextManager, nullcontext
+from multiprocessing import active_children
 
 import uvicorn
 
+from gregorio_chant.ending import undone
 from gregorio_chant.loopback import ADDRESS, own_names
+from gregorio_chant.processes import end_all
 from gregorio_chant.streams import CANNOT_READ_OR_WRITE, reason_of, tell, write
 from gregorio_chant.web.answers import Answers
 from gregorio_chant.web.app import app_of
+
+
+# As many bytes as uvicorn takes of a head.
+_MOST_DIGITS = 1 << 16
 
 
 class _Server(uvicorn.Server):  # type: ignore[misc]
@@ -41,5 +49,9 @@ def serve(port: int, answers: Answers) -> int:
             app, http="h11", ws="none", lifespan="off", log_config=None, log_level="error", access_log=False, proxy_headers=False, server_header=False,
         )
         write(f"http://{ADDRESS}:{bound}/\n")
-        _Server(config).run(sockets=[listening])
+        # Else h11 raises an exception at the length of a body that has more digits.
+        if sys.version_info >= (3, 11):
+            sys.set_int_max_str_digits(_MOST_DIGITS)
+        with undone(lambda: end_all(active_children())):
+            _Server(config).run(sockets=[listening])
     return 0
