@@ -15,6 +15,7 @@ FOLDER with each piece. So the server may be ended at any moment and started aga
 uploads goes on at the offset that it reports. HEAD and GET answer at once, also while a score is
 written. A score to which nothing came for AGE seconds (a day, where that is not given) is let go.
 Where the state of a score is damaged, its requests but DELETE are answered with 500 and a line.
+Where the disk is full they are answered with 507: after room was made the upload goes on.
 
 It listens on this machine alone, and knows no users. A request whose `Host` or `Origin` names
 another place is refused with 403 before its body is read, so that no page of the web can send
@@ -23,6 +24,7 @@ take what came last.
 """
 from __future__ import annotations
 
+import errno
 import json
 import os
 import re
@@ -38,7 +40,7 @@ from http import HTTPStatus
 from http.server import BaseHTTPRequestHandler, ThreadingHTTPServer
 from pathlib import Path
 from typing import BinaryIO
-from urllib.parse import parse_qs, urlsplit
+from urllib.parse import SplitResult, parse_qs, urlsplit
 
 from gregorio_chant import Format, Run, StateError, Step
 from gregorio_chant.loopback import ADDRESS, is_of_this_place, own_names
@@ -124,9 +126,13 @@ class Upload:
     def begin(cls, folder: Path, format: Format) -> None:
         """Makes the folder of a new score."""
         folder.mkdir()
-        for name in NAMES:
-            (folder / name).touch()
-        _save(folder, {"format": format.value, "offset": 0, "status": None, "output": 0, "messages": 0}, Run(format).state)
+        try:
+            for name in NAMES:
+                (folder / name).touch()
+            _save(folder, {"format": format.value, "offset": 0, "status": None, "output": 0, "messages": 0}, Run(format).state)
+        except OSError:
+            shutil.rmtree(folder, ignore_errors=True)
+            raise
 
     def feed(self, piece: bytes) -> None:
         """Reads the next bytes. After a fatal fault they are counted and not read."""
@@ -279,11 +285,30 @@ class Handler(BaseHTTPRequestHandler):
         self.close_connection = True
         return False
 
+    @contextmanager
+    def _refusing(self) -> Iterator[None]:
+        """Answers a request that is refused within, and one for which there is no room."""
+        try:
+            yield
+        except Refused as refused:
+            self._refuse(refused)
+        except OSError as error:
+            if error.errno not in (errno.ENOSPC, errno.EDQUOT, errno.EFBIG):
+                raise
+            self._refuse(Refused(HTTPStatus.INSUFFICIENT_STORAGE, "there is no room for this score"))
+
+    def _url(self) -> SplitResult:
+        """Returns the path of the request in its parts. Raises `Refused` where it is none."""
+        try:
+            return urlsplit(self.path)
+        except ValueError:
+            raise Refused(HTTPStatus.BAD_REQUEST) from None
+
     def _with_score(self, reads: _Calls, writes: _Calls) -> None:
         """Makes one of these calls with the folder of the score in the path, by what stands
         after the name."""
-        found = PATH.fullmatch(urlsplit(self.path).path)
-        try:
+        with self._refusing():
+            found = PATH.fullmatch(self._url().path)
             if found and found[2] in reads:
                 reads[found[2]](self.server.score_to_read(found[1]))
             elif found and found[2] in writes:
@@ -291,20 +316,18 @@ class Handler(BaseHTTPRequestHandler):
                     writes[found[2]](folder)
             else:
                 raise Refused(HTTPStatus.NOT_FOUND)
-        except Refused as refused:
-            self._refuse(refused)
 
     def do_POST(self) -> None:
-        url = urlsplit(self.path)
-        if url.path != "/scores":
-            return self._with_score({}, {"/end": self._end})
-        try:
-            name = self.server.begin(Format(parse_qs(url.query).get("format", ["gabc"])[0]))
-        except ValueError:
-            return self._answer(HTTPStatus.BAD_REQUEST)
-        except Refused as refused:
-            return self._answer(refused.status, refused.body)
-        self._answer(HTTPStatus.CREATED, Location=f"/scores/{name}", Upload_Offset="0")
+        with self._refusing():
+            url = self._url()
+            if url.path != "/scores":
+                return self._with_score({}, {"/end": self._end})
+            try:
+                format = Format(parse_qs(url.query).get("format", ["gabc"])[0])
+            except ValueError:
+                raise Refused(HTTPStatus.BAD_REQUEST) from None
+            name = self.server.begin(format)
+            self._answer(HTTPStatus.CREATED, Location=f"/scores/{name}", Upload_Offset="0")
 
     def do_HEAD(self) -> None:
         self._with_score({None: lambda folder: self._answer(HTTPStatus.OK, Upload_Offset=str(Known.read(folder).offset))}, {})

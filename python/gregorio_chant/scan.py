@@ -181,9 +181,15 @@ def _scan_score(found: Scan, left_out: Collection[int]) -> None:
         else:
             notes = _scan_text(found, at)
             end = _scan_notes(found, notes, left_out)
-        if notes < len(text) or found.first_without_comments(Span(at, end)) is not None:
+        if notes < len(text) or _keeps_something(found, Span(at, end), left_out):
             found.syllables.add(at, end, notes)
         at = end
+
+
+def _keeps_something(found: Scan, last: Span, left_out: Collection[int]) -> bool:
+    """Returns whether the compiler keeps something of the text after the last notes: of tags of styles and of a `}` by themselves it keeps nothing."""
+    kept = "".join(found.text[it] for it in found.without_comments(last) if it not in left_out)
+    return bool(_STYLE.sub("", kept).replace("}", ""))
 
 
 def _scan_text(found: Scan, at: int) -> int:

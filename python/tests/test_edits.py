@@ -122,6 +122,8 @@ class ByHand(unittest.TestCase):
     def test_headers(self) -> None:
         edited = self.score.edited().set_header("name", None).set_header("mode", None).set_header("none", None)
         self.assertEqual(edited.text(), SCORE.replace("name:Kyrie ;", "").replace("mode: 1;\r\n", ""))
+        twice = Score.parse("name: a;\nannotation: b;\nannotation: c;\n%%\n(c4) a(f)").edited().set_header("annotation", "d").text()
+        self.assertIn("annotation: b;\nannotation: d;", twice)
         self.assertEqual(Score.parse("%%\n").edited().set_header("name", "a").set_header("mode", "1").text(), "name: a;\nmode: 1;\n%%\n")
         self.assertEqual(self.refused("name: a;\nname: b;\n%%\n", lambda it: it.edited().set_header("name", None).text()), "2:1: with it the compiler reads something otherwise")
         self.assertIn("F3", self.refused("name: a;\n%%\n", lambda it: it.edited().set_header("x", "a\n%%").text()))

@@ -121,6 +121,11 @@ class Layout(unittest.TestCase):
             self.assertEqual(made.data.decode().split("%%\n")[1], wanted)
             self.assertEqual(made.reasons(), [])
 
+    def test_a_line_that_just_fits(self) -> None:
+        for width, wanted in ((19, "(c4) a(f) b(g) c(h)"), (18, "(c4) a(f) b(g)\nc(h)")):
+            made = formatted(b"name: a;\n%%\n(c4) a(f) b(g) c(h)\n", Style(width=width))
+            self.assertEqual(made.data.decode().split("%%\n")[1].rstrip(), wanted)
+
     @unittest.skipUnless(has("hypothesis"), "there is no hypothesis")
     def test_made_scores(self) -> None:
         from hypothesis import HealthCheck, given, settings

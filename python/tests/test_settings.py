@@ -50,6 +50,8 @@ class Settings(InFolder):
             self.assertEqual(self.told("s"), wanted, text)
             self.assertEqual(self.told("--no-config", "s"), everything)
         self.assertEqual(self.told("--ignore", "W6", "s"), ["E1"])
+        self.put(NAME, '[per-file-ignores]\n"a.gabc" = ["W6"]\n')
+        self.assertEqual(self.told("--ignore", "W1", "s"), ["E1"])
         self.put(NAME, 'select = ["W6"]\nignore = ["E1"]\n')
         self.assertEqual(self.told("--select", "E1,W6", "s"), ["W6", "W6"])
         self.assertEqual(self.told("--select", "E1", "--ignore", "W1", "s"), ["E1"])

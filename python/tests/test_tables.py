@@ -8,7 +8,7 @@ import unittest
 from pathlib import Path
 
 from gregorio_chant.dump import Score, intervals
-from gregorio_chant.searching import KINDS, IntervalSearch, NeumeSearch, TextSearch, each_neume, folded
+from gregorio_chant.searching import KINDS, IntervalSearch, NeumeSearch, TextSearch, each_neume, folded, index_row
 from support import EXAMPLES, FAULTY, InFolder, command, scores_of_tables
 
 A = "name: A;\nmode: 1;\n%%\n(c4) Ký(f)ri(gfg)e,(e.) % (fgh)\n e(fg)lé(ixi)i(h)son(g) (::)\n"
@@ -46,6 +46,8 @@ class Found(InFolder):
         self.assertEqual(self.found("--text", "KYR*  ELEÍSON"), ["s/a.gabc:4:6: fgfgefgihg  fa sol fa sol mi fa sol si♭ la sol  Kýrie, eléison"])
         self.assertEqual(len(self.found("--text", "*")), 5)
         self.assertEqual(folded("«Dómine!»"), "domine")
+        sharp = Score.parse("name: a;\n%%\n(c4) Stra\u00dfe(f)")
+        self.assertEqual(len(list(TextSearch.of("strasse")(sharp))), 1)
 
     def test_melodies(self) -> None:
         """A melody is found by its letters, whatever stands between them; what is none is refused."""
@@ -73,6 +75,8 @@ class Found(InFolder):
         ])
         self.assertEqual(rows[0]["degrees"], "fa sol fa sol mi fa sol si♭ la sol")
         self.assertEqual(rows[0]["volpiano"].replace("-", ""), "1fgfge" + "3" * rows[0]["volpiano"].count("3") + "fgijhg")
+        (row,) = index_row(Score.parse("name: a;\n%%\n(c4) " + " ".join(f"w{it}(iyi)" for it in "abcdefgh")))
+        self.assertEqual((row.cells[3], row.cells[5]), ("wa wb wc wd we wf", "si"))
 
     def test_neumes_counted(self) -> None:
         ran = command("neumes", "s")

@@ -3,6 +3,7 @@ from __future__ import annotations
 
 import os
 import re
+import resource
 import socket
 import subprocess
 import sys
@@ -121,6 +122,25 @@ class UploadServer(Asking):
                 self.stop()
                 self.start()
             self.check_answers(path, score, format)
+
+    def test_no_path(self) -> None:
+        for method in ("GET", "POST", "PATCH", "HEAD"):
+            self.assertEqual(self.status_of(self.head(method, "http://[", Content_Length="0")), 400)
+
+    def test_full_disk(self) -> None:
+        """Where there is no room for more the answer says so, and after room was made the upload goes on."""
+        score = (EXAMPLES / "introit.gabc").read_bytes()
+        path = self.begin()
+        self.send(path, score, 100)
+        assert self.server is not None
+        none, _ = resource.prlimit(self.server.pid, resource.RLIMIT_FSIZE, (10, resource.RLIM_INFINITY))
+        self.assertEqual(self.ask("POST", "/scores")[:2], (507, b"there is no room for this score\n"))
+        self.assertEqual(self.ask("PATCH", path, score[100:200], Upload_Offset="100")[0], 507)
+        self.assertEqual(self.ask("POST", f"{path}/end")[0], 507)
+        self.assertEqual(len(os.listdir("scores")), 1)
+        resource.prlimit(self.server.pid, resource.RLIMIT_FSIZE, (none, resource.RLIM_INFINITY))
+        self.send(path, score, len(score))
+        self.check_answers(path, score, "gabc")
 
     def test_broken_connection(self) -> None:
         """What came before a connection broke is kept, and what the server wrote after its last state is cut off."""

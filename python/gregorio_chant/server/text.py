@@ -11,6 +11,7 @@ from functools import cached_property
 from gregorio_chant.server.protocol import Position, Range
 from gregorio_chant.source import raw_offsets, text_of, utf16_length
 
+_HALF = re.compile("[\ud800-\udfff]")
 _LINE_END = re.compile("\r\n|\n|\r")
 
 
@@ -28,8 +29,8 @@ class Text:
 
     @cached_property
     def plain(self) -> str:
-        """The text as the compiler counts it."""
-        return text_of(self.data)
+        """The text as the compiler counts it. Half a character of UTF-16, which is no text, is one character."""
+        return text_of(_HALF.sub("\ufffd", self.raw).encode("utf-8"))
 
     @cached_property
     def _raw_offsets(self) -> list[int]:

@@ -1,6 +1,7 @@
 """The kinds of a score's parts, for editors that colour by them: read off the text, also where a fatal fault stops the score."""
 from __future__ import annotations
 
+import bisect
 import re
 from collections.abc import Iterator
 from typing import NamedTuple
@@ -13,7 +14,7 @@ from gregorio_chant.server.protocol import Json, Params
 KINDS = ["property", "comment", "keyword", "parameter", "class", "operator", "variable", "function"]
 _TAG = re.compile(r"\$.|%[^\n]*|(?P<keyword></?[^>\n]*>)", re.DOTALL)
 _NOTES = re.compile(
-    r"%[^\n]*|(?P<parameter>\[[^\]\n]*\]?)|(?P<next>\|)|(?P<class>[cf]b?[1-5](?:@[cf]b?[1-5])?)|(?P<operator>[`^,;:]+)"
+    r"%[^\n]*|@\[|(?P<parameter>\[[^\]\n]*\]?)|(?P<next>\|)|(?P<class>[cf]b?[1-5](?:@[cf]b?[1-5])?)|(?P<operator>[`^,;:]+)"
     r"|(?P<variable>-?[a-npA-NP][vVsoOwWqrR=~<>.'_0-9]*)"
 )
 _NABC = re.compile(r"%[^\n]*|(?P<next>\|)|(?P<function>[a-z][^\s|)%/`]*)")
@@ -29,7 +30,7 @@ def tokens(document: Document, params: Params) -> Json:
     """Returns the parts in the form of the protocol: five numbers for each, the first two from the part before it."""
     numbers: list[int] = []
     line = character = 0
-    for it in sorted(_tokens(document)):
+    for it in _apart(sorted(_tokens(document)), [it.begin for it in document.scan.comments]):
         where = document.text.range(it.begin, it.end)
         if where.start.line != line:
             character = 0
@@ -38,6 +39,16 @@ def tokens(document: Document, params: Params) -> Json:
         ]
         line, character = where.start.line, where.start.character
     return {"data": numbers}
+
+
+def _apart(tokens: list[_Token], comments: list[int]) -> Iterator[_Token]:
+    """Yields the parts so that none lies over another one: where a comment begins within one, that ends there."""
+    end = 0
+    for it in tokens:
+        if it.begin >= end:
+            first = bisect.bisect_right(comments, it.begin)
+            end = min(it.end, comments[first]) if first < len(comments) else it.end
+            yield it._replace(end=end)
 
 
 def _tokens(document: Document) -> Iterator[_Token]:
