@@ -27,12 +27,12 @@ pub fn compile(score: impl AsRef<[u8]>, job: &Job) -> Result<Compiled, Error> {
     if job.limits != Limits::default() {
         return compile_by_a_run(score, job);
     }
-    let mut texts = Texts::for_input(score.len());
+    let mut texts = Texts::for_input(score.len())?;
     loop {
         let mut lengths = Lengths::default();
         let answer = library::compile(job, score, &mut texts.output, &mut texts.messages, &mut lengths);
         let status = status_of(answer)?;
-        if texts.fit(lengths.output, lengths.messages) {
+        if texts.fit(lengths.output, lengths.messages)? {
             let (output, messages) = texts.take(lengths.output, lengths.messages)?;
             return Ok(Compiled { output, messages, status });
         }

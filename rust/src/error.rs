@@ -2,6 +2,7 @@
 
 use crate::library;
 use std::fmt;
+use std::io;
 
 /// How a score was read.
 #[derive(Clone, Copy, Debug, PartialEq, Eq, Hash)]
@@ -48,6 +49,19 @@ impl fmt::Display for Error {
 }
 
 impl std::error::Error for Error {}
+
+impl From<Error> for io::Error {
+    /// Returns an error of the same meaning, with this one within.
+    fn from(error: Error) -> io::Error {
+        let kind = match error {
+            Error::NoMemory => io::ErrorKind::OutOfMemory,
+            Error::Limits | Error::Over => io::ErrorKind::InvalidInput,
+            Error::NoState | Error::OtherState => io::ErrorKind::InvalidData,
+            Error::Library(_) => io::ErrorKind::Other,
+        };
+        io::Error::new(kind, error)
+    }
+}
 
 /// Returns the status with this number, or the error that it stands for.
 pub(crate) fn status_of(answer: u32) -> Result<Status, Error> {

@@ -28,7 +28,7 @@ mod texts;
 pub use compiled::{compile, Compiled};
 pub use error::{Error, Status};
 pub use job::{Format, Job, Limits, Warnings};
-pub use message::{messages, Code, Message, Messages, Severity};
+pub use message::{messages, Code, Message, Messages, NoCode, Severity};
 pub use run::{Run, Step};
 
 /// Returns the version of the library that is linked. That of this crate is the same where both come from one build.

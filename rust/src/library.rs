@@ -2,8 +2,10 @@
 //! nothing that is written overlaps anything else, and nothing changes during a call. This is the only module with `unsafe`.
 
 use crate::job::{Format, Job, Warnings};
-use std::ffi::{c_char, CStr};
-use std::hash::{BuildHasher, RandomState};
+use std::collections::hash_map::RandomState;
+use std::ffi::CStr;
+use std::hash::{BuildHasher, Hasher};
+use std::os::raw::c_char;
 
 pub(crate) const WHOLE: u32 = 0;
 pub(crate) const ERRORS: u32 = 1;
@@ -157,7 +159,11 @@ type End = unsafe extern "C" fn(
 /// Returns a key for the table of the headers' names: two random words, so that nobody can choose names that are slow to read.
 fn new_key() -> [u64; 2] {
     let random = RandomState::new();
-    [random.hash_one(0), random.hash_one(1)]
+    [0, 1].map(|number| {
+        let mut hasher = random.build_hasher();
+        hasher.write_u64(number);
+        hasher.finish()
+    })
 }
 
 fn number_of(format: Format) -> u32 {
@@ -187,7 +193,7 @@ fn options_of(job: &Job) -> Options {
 /// Returns the version of the library.
 pub(crate) fn version() -> &'static CStr {
     // SAFETY: `gregorio_version` is a constant text that ends in a NUL.
-    unsafe { CStr::from_ptr(&raw const gregorio_version) }
+    unsafe { CStr::from_ptr(std::ptr::addr_of!(gregorio_version)) }
 }
 
 /// Compiles `score` under the default limits into the buffers, and tells the lengths of both texts.

@@ -3,7 +3,9 @@
 use crate::error::{status_of, Error, Status};
 use crate::job::Warnings;
 use crate::library::{self, Record};
+use crate::texts::filled;
 use std::fmt;
+use std::str::FromStr;
 
 /// How grave a message is.
 #[derive(Clone, Copy, Debug, PartialEq, Eq, PartialOrd, Ord, Hash)]
@@ -28,13 +30,48 @@ impl Code {
     }
 }
 
+/// The kinds of codes: their letter, what their numbers begin with for C, and how many there are.
+const KINDS: [(char, u32, u32); 3] = [('E', 100, 6), ('W', 200, 12), ('F', 300, 7)];
+
+/// A text is no code of this version.
+#[derive(Clone, Copy, Debug, PartialEq, Eq, Hash)]
+pub struct NoCode;
+
+impl fmt::Display for NoCode {
+    fn fmt(&self, formatter: &mut fmt::Formatter<'_>) -> fmt::Result {
+        formatter.write_str("this is no code")
+    }
+}
+
+impl std::error::Error for NoCode {}
+
+impl FromStr for Code {
+    type Err = NoCode;
+
+    /// Reads a code as it is written in messages.
+    ///
+    /// # Errors
+    ///
+    /// [`NoCode`] for all but E1 to E6, W1 to W12 and F1 to F7.
+    ///
+    /// # Examples
+    ///
+    /// ```
+    /// use gregorio_chant::Code;
+    ///
+    /// assert_eq!("W12".parse::<Code>().map(Code::number), Ok(212));
+    /// assert!(["", "E", "E0", "E01", "E7", "e1", "W+1"].iter().all(|it| it.parse::<Code>().is_err()));
+    /// ```
+    fn from_str(text: &str) -> Result<Code, NoCode> {
+        let is_text = |it: &Code| it.to_string() == text;
+        let codes = KINDS.iter().flat_map(|(_, base, count)| (base + 1..=base + count).map(Code));
+        codes.into_iter().find(is_text).ok_or(NoCode)
+    }
+}
+
 impl fmt::Display for Code {
     fn fmt(&self, formatter: &mut fmt::Formatter<'_>) -> fmt::Result {
-        let kind = match self.0 / 100 {
-            1 => 'E',
-            2 => 'W',
-            _ => 'F',
-        };
+        let kind = KINDS.iter().find(|(_, base, _)| *base == self.0 / 100 * 100).map_or('F', |it| it.0);
         write!(formatter, "{kind}{}", self.0 % 100)
     }
 }
@@ -72,6 +109,31 @@ pub struct Messages {
     pub status: Status,
 }
 
+impl IntoIterator for Messages {
+    type Item = Message;
+    type IntoIter = std::vec::IntoIter<Message>;
+
+    fn into_iter(self) -> Self::IntoIter {
+        self.list.into_iter()
+    }
+}
+
+impl Messages {
+    /// Returns an iterator over the messages.
+    pub fn iter(&self) -> std::slice::Iter<'_, Message> {
+        self.list.iter()
+    }
+}
+
+impl<'a> IntoIterator for &'a Messages {
+    type Item = &'a Message;
+    type IntoIter = std::slice::Iter<'a, Message>;
+
+    fn into_iter(self) -> Self::IntoIter {
+        self.list.iter()
+    }
+}
+
 fn message_of(record: &Record) -> Message {
     Message {
         line: record.line,
@@ -103,7 +165,7 @@ fn message_of(record: &Record) -> Message {
 /// ```
 pub fn messages(score: impl AsRef<[u8]>, warnings: Warnings) -> Result<Messages, Error> {
     let score = score.as_ref();
-    let mut records = vec![Record::default(); 64];
+    let mut records = filled::<Record>(64)?;
     loop {
         let mut count = 0;
         let status = status_of(library::messages(warnings, score, &mut records, &mut count))?;
@@ -111,6 +173,6 @@ pub fn messages(score: impl AsRef<[u8]>, warnings: Warnings) -> Result<Messages,
             let list = found.iter().map(message_of).collect();
             return Ok(Messages { list, status });
         }
-        records = vec![Record::default(); count];
+        records = filled(count)?;
     }
 }

@@ -3,7 +3,7 @@
 use crate::error::{status_of, Error, Status};
 use crate::job::Job;
 use crate::library::{self, Lengths};
-use crate::texts::Texts;
+use crate::texts::{filled, Texts};
 
 /// What became known with a piece of a run, or at its end.
 #[derive(Clone, Debug, PartialEq, Eq)]
@@ -58,7 +58,7 @@ impl Run {
     pub fn new(job: Job) -> Result<Run, Error> {
         let mut run = Run {
             job,
-            state: vec![0; library::state_bound(&job)],
+            state: filled(library::state_bound(&job))?,
             length: 0,
             is_over: false,
         };
@@ -79,7 +79,9 @@ impl Run {
     pub fn restore(job: Job, state: &[u8]) -> Result<Run, Error> {
         let mut run = Run::new(job)?;
         // A state of larger limits may be longer than one of this job: the library says whose it is.
-        run.state.resize(run.state.len().max(state.len()), 0);
+        if run.state.len() < state.len() {
+            run.state = filled(state.len())?;
+        }
         run.state[..state.len()].copy_from_slice(state);
         run.length = state.len();
         run.feed(b"")?;
@@ -107,7 +109,7 @@ impl Run {
         if self.is_over {
             return Err(Error::Over);
         }
-        let mut texts = Texts::for_input(piece.len());
+        let mut texts = Texts::for_input(piece.len())?;
         loop {
             let mut step = library::Step::default();
             let answer = library::feed(
@@ -120,7 +122,7 @@ impl Run {
                 &mut step,
             );
             let status = match answer {
-                library::SHORT if !texts.fit(step.output, step.messages) => continue,
+                library::SHORT if !texts.fit(step.output, step.messages)? => continue,
                 library::RUNS => None,
                 library::FATAL => Some(Status::Fatal),
                 other => return Err(error_of(other)),
@@ -156,7 +158,7 @@ impl Run {
         if self.is_over {
             return Err(Error::Over);
         }
-        let mut texts = Texts::for_input(0);
+        let mut texts = Texts::for_input(0)?;
         loop {
             let mut lengths = Lengths::default();
             let answer = library::end(
@@ -167,7 +169,7 @@ impl Run {
                 &mut texts.messages,
                 &mut lengths,
             );
-            if answer == library::SHORT && !texts.fit(lengths.output, lengths.messages) {
+            if answer == library::SHORT && !texts.fit(lengths.output, lengths.messages)? {
                 continue;
             }
             let status = Some(status_of(answer)?);

@@ -14,28 +14,36 @@ pub(crate) struct Texts {
 
 impl Texts {
     /// Returns buffers for what is made of so many bytes: more than most scores want.
-    pub(crate) fn for_input(length: usize) -> Texts {
-        Texts {
-            output: vec![0; length.saturating_mul(2).saturating_add(LEAST)],
-            messages: vec![0; LEAST],
-        }
+    pub(crate) fn for_input(length: usize) -> Result<Texts, Error> {
+        Ok(Texts {
+            output: filled(length.saturating_mul(2).saturating_add(LEAST))?,
+            messages: filled(LEAST)?,
+        })
     }
 
     /// Returns whether texts of these lengths fit. Where one does not, its buffer is made anew with room for it.
-    pub(crate) fn fit(&mut self, output: usize, messages: usize) -> bool {
+    pub(crate) fn fit(&mut self, output: usize, messages: usize) -> Result<bool, Error> {
         let fits = output <= self.output.len() && messages <= self.messages.len();
         for (buffer, length) in [(&mut self.output, output), (&mut self.messages, messages)] {
             if buffer.len() < length {
-                *buffer = vec![0; length];
+                *buffer = filled(length)?;
             }
         }
-        fits
+        Ok(fits)
     }
 
     /// Returns the texts that these buffers begin with.
     pub(crate) fn take(self, output: usize, messages: usize) -> Result<(String, String), Error> {
         Ok((text_of(self.output, output)?, text_of(self.messages, messages)?))
     }
+}
+
+/// Returns so many default values, or that there is not enough memory.
+pub(crate) fn filled<T: Clone + Default>(length: usize) -> Result<Vec<T>, Error> {
+    let mut values = Vec::new();
+    values.try_reserve_exact(length).map_err(|_| Error::NoMemory)?;
+    values.resize(length, T::default());
+    Ok(values)
 }
 
 /// Returns the text that `buffer` begins with, in no more memory than it wants. Every text of the library is UTF-8.

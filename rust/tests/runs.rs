@@ -1,6 +1,7 @@
 //! Tries runs: what is refused, long answers, what is over, threads.
 
-use gregorio_chant::{compile, messages, version, Error, Format, Job, Limits, Run, Status, Warnings};
+use gregorio_chant::{compile, messages, version, Code, Error, Format, Job, Limits, Run, Status, Warnings};
+use std::io;
 use std::thread;
 
 const SCORE: &[u8] = b"name: a;\n%%\n(c4) Ky(f)ri<i>(gh";
@@ -14,6 +15,22 @@ fn begun() -> Run {
 #[test]
 fn versions_are_equal() {
     assert_eq!(version(), env!("CARGO_PKG_VERSION"));
+}
+
+#[test]
+fn messages_are_taken_in_turn() {
+    let found = messages("%%\n(c4) Ky(g5)ri(g5)", Warnings::Untold).unwrap();
+    let wanted: Vec<Code> = vec!["E1".parse().unwrap(); 2];
+    assert_eq!(found.iter().map(|it| it.code).collect::<Vec<_>>(), wanted);
+    assert_eq!((&found).into_iter().count(), 2);
+    assert_eq!(found.into_iter().map(|it| it.code).collect::<Vec<_>>(), wanted);
+}
+
+#[test]
+fn errors_become_those_of_ends() {
+    let error = io::Error::from(Run::restore(Job::default(), b"none").unwrap_err());
+    assert_eq!(error.kind(), io::ErrorKind::InvalidData);
+    assert_eq!(error.to_string(), Error::NoState.to_string());
 }
 
 #[test]
