@@ -146,7 +146,8 @@ class Client {
     const ended = (why) => vscode.window.showErrorMessage(`${command.join(" ")} has ended: ${why}`);
     this.connection = new Connection(command, (method, params) => this.told(method, params), ended);
     const workspace = { workspaceEdit: { documentChanges: false } };
-    this.connection.request("initialize", { processId: process.pid, rootUri: null, capabilities: { workspace, window: { showDocument: { support: true } } } });
+    const textDocument = { hover: { contentFormat: ["markdown"] } };
+    this.connection.request("initialize", { processId: process.pid, rootUri: null, capabilities: { workspace, textDocument, window: { showDocument: { support: true } } } });
     this.connection.notify("initialized", {});
     for (const document of vscode.workspace.textDocuments) this.opened(document);
   }
@@ -230,7 +231,7 @@ function providers(client) {
     editsOf(await client.ask("rangeFormatting", document, { range: range(where), options }, token));
   const hover = async (document, at, token) => {
     const told = await client.ask("hover", document, { position: position(at) }, token);
-    return told && new vscode.Hover(new vscode.MarkdownString().appendCodeblock(told.contents.value, "plaintext"));
+    return told && new vscode.Hover(new vscode.MarkdownString(told.contents.value));
   };
   const complete = async (document, at, token) =>
     ((await client.ask("completion", document, { position: position(at) }, token)) || []).map(completionOf);

@@ -7,10 +7,13 @@ from collections.abc import Iterable
 from gregorio_chant.codes import CODES, shown
 from gregorio_chant.nearest import did_you_mean
 from gregorio_chant.repairs import REPAIRS, Repair
+from gregorio_chant.results import Kind
 from gregorio_chant.rules import RULES
 from gregorio_chant.selection import LISTED, UnknownCode
 
 _WIDTH = 80
+# Where Debian's package has the documentation, which has no public place.
+PAGES = "file:///usr/share/doc/gregorio-canonical/docs"
 
 
 def page_of(name: str) -> str:
@@ -22,6 +25,20 @@ def page_of(name: str) -> str:
     if rule is not None:
         return _page(f"{rule.name}: {rule.kind.value}, by check --rules alone", rule.meaning, rule.wrong, rule.right) + _repairs_of(rule.name)
     raise UnknownCode(f"{name} is no code and no rule: {did_you_mean(name, [*CODES, *RULES], LISTED)}")
+
+
+def page_uri(name: str) -> str:
+    """Returns the URI of the documentation that has a code or a rule."""
+    code = CODES.get(name)
+    if code is None:
+        return f"{PAGES}/PYTHON.md#rules"
+    return f"{PAGES}/LANGUAGE.md#{'fatal-faults' if code.kind is Kind.FATAL else 'errors-and-warnings'}"
+
+
+def example_of(name: str) -> tuple[str, str]:
+    """Returns a line that has the message of a code or of a rule, and one that has not."""
+    it = CODES.get(name) or RULES[name]
+    return shown(it.wrong), shown(it.right)
 
 
 def _page(title: str, meaning: str, wrong: str, right: str) -> str:

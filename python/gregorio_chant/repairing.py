@@ -54,7 +54,7 @@ class Proposal:
     def line(self, text: str) -> str:
         """Returns what it does to `text`, with how that reads now and then; of a guess also what it changes."""
         before, after = readings(text, ((it.offset, it.old, it.new) for it in self.edits))
-        told = f"{named(before.strip())} becomes {named(after.strip())}" if before.strip() else f"{named(after.strip())} is written"
+        told = f"{named(before)} becomes {named(after)}" if before.strip() else f"{named(after.strip())} is written"
         return told if self.repair.is_safe else f"a guess: {told}; {self.repair.changes}"
 
 

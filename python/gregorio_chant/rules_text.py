@@ -20,6 +20,8 @@ _OTHER_MODE = re.compile(r"[1-8a-zN]\b|[0-9]|per|irr|ton|dir|$", re.IGNORECASE)
 _TAG = re.compile(r"<[^>]*>")
 _SPECIAL = re.compile(r"\$.|<(v|alt)>.*?</\1>|<sp>(.*?)</sp>", re.DOTALL)
 _PUNCTUATION = (",", ";", ":", ".", "!", "?")
+# Punctuation at the end of a text; the ; of a character's name in HTML is none.
+_ENDS_SENTENCE = re.compile(r"(?!.*&#?\w+;$).*[,;:.!?]$", re.DOTALL)
 _NOTES_IN_BRACKETS = re.compile(r"(?<=\w)\[([a-mA-M](?:[a-mA-MvVwWsoq~<>.'_/!]*))\](?=\w)")
 _BAR_AS_TEXT = re.compile(r"[ \t\n]*([;:,])[ \t\n]+\w")
 _SECOND_LINE = re.compile(r"^%%", re.MULTILINE)
@@ -115,7 +117,7 @@ def missing_blank(subject: Subject) -> Iterator[Found]:
     before: Syllable | None = None
     for it in subject.score.syllables:
         is_inside = before is not None and not it.begins_word and bool(before.notes)
-        if is_inside and before is not None and before.plain.endswith(_PUNCTUATION) and it.plain[:1].isalpha():
+        if is_inside and before is not None and _ENDS_SENTENCE.match(before.plain) and it.plain[:1].isalpha():
             yield subject.found(it, f"no blank stands between '{before.plain.strip()}' and '{it.plain.strip()}', so both are one word: write one after the )")
         before = it
 

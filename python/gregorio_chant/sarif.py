@@ -6,16 +6,14 @@ from pathlib import PurePath
 from urllib.parse import quote
 
 from gregorio_chant.codes import CODES
-from gregorio_chant.explaining import page_of
+from gregorio_chant.explaining import page_of, page_uri
 from gregorio_chant.reports import LEVELS, Checked, json_of, with_help
-from gregorio_chant.results import Kind, Message
+from gregorio_chant.results import Message
 from gregorio_chant.rules import RULES
 from gregorio_chant.source import Lines
 from gregorio_chant.streams import NAME, STDIN
 
 _SCHEMA = "https://json.schemastore.org/sarif-2.1.0.json"
-# Where Debian's package has the pages: they have no public place.
-PAGES = "file:///usr/share/doc/gregorio-canonical/docs"
 
 
 class Sarif:
@@ -64,13 +62,12 @@ def _rule(name: str) -> dict[str, object]:
     """Returns what the log says of a code or of a rule."""
     code = CODES.get(name)
     if code is not None:
-        heading = "fatal-faults" if code.kind is Kind.FATAL else "errors-and-warnings"
-        short, meaning, page = code.text, code.meaning, f"LANGUAGE.md#{heading}"
+        short, meaning = code.text, code.meaning
     else:
-        short, meaning, page = RULES[name].meaning.partition(". ")[0], RULES[name].meaning, "PYTHON.md#rules"
+        short, meaning = RULES[name].meaning.partition(". ")[0], RULES[name].meaning
     return {
         "id": name, "shortDescription": {"text": short}, "fullDescription": {"text": meaning}, "help": {"text": page_of(name)},
-        "helpUri": f"{PAGES}/{page}",
+        "helpUri": page_uri(name),
     }
 
 

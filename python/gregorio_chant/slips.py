@@ -24,6 +24,7 @@ MODES = {it: str(number) for number, it in enumerate(("I", "II", "III", "IV", "V
 NOTES = re.compile(r"\([^()\n]*\)")
 # How many characters on each side of a slip a reading shows.
 _AROUND = 16
+_SHORT_LINE = 40
 _STYLE_TAG = re.compile(r"\$.|<(/?)(b|c|e|i|sc|tt|ul)>", re.DOTALL)
 _CLEF = re.compile(r"(?P<turned>[1-5])(?P<kind>[cfCF]b?)|(?P<letter>[cfCF]b?)[lI]?(?P<line>[1-5])|[A-Za-z]b?[lI]?[0-9]")
 _BARS = re.compile(r"[ \t]*\|(?:[ \t]*\|)*[ \t]*")
@@ -80,10 +81,14 @@ class Subject:
 
 def readings(text: str, edits: Iterable[tuple[int, str, str]]) -> tuple[str, str]:
     """Returns how a part of a text is spelled, and how it is with these edits: offsets, what stands
-    there and what is written. Both go up to the next blanks, and not far."""
+    there and what is written. Of a header both are the whole line if that is short; else they go up
+    to the next blanks, and not far."""
     them = sorted(edits)
     first, last = them[0][0], them[-1][0] + len(them[-1][1])
-    begin, end = first, last
+    line_begin, line_end = text.rfind("\n", 0, first) + 1, text.find("\n", last)
+    line_end = len(text) if line_end < 0 else line_end
+    is_short = line_end - line_begin <= _SHORT_LINE and "\n%%" not in text[:first]
+    begin, end = (line_begin, line_end) if is_short else (first, last)
     while begin > max(0, first - _AROUND) and not text[begin - 1].isspace():
         begin -= 1
     while end < min(len(text), last + _AROUND) and not text[end].isspace():

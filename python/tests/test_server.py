@@ -42,11 +42,11 @@ class Serving(Served):
 
     def test_hover(self) -> None:
         self.open("name: a;  % b\n%%\n(cb3) \U0001d11e(f)ri(gi.g&)\n")
-        self.assertEqual(self.hover(2, 14), "g: si flat, punctum\ngig: torculus\n".replace("gig", "gi.g"))
-        self.assertEqual(self.hover(2, 16), "i.: re, punctum\ngi.g: torculus\n")
+        self.assertEqual(self.hover(2, 14), "g: si flat, punctum\n\ngig: torculus\n".replace("gig", "gi.g"))
+        self.assertEqual(self.hover(2, 16), "i.: re, punctum\n\ngi.g: torculus\n")
         self.assertIsNone(self.hover(2, 12))
         self.assertIsNone(self.hover(9, 0))
-        self.assertIn("\n\nRight:\n    Ky(g.)ri(g)\n", self.hover(2, 18) or "")
+        self.assertIn("\nRight:\n    Ky(g.)ri(g)\n", self.hover(2, 18) or "")
 
     def test_rules(self) -> None:
         self.start("--rules")

@@ -209,10 +209,29 @@ class Hover(Served):
         for line, character, told in (
             (0, 3, "nabc-lines: lines of NABC, 0 to 4; 0 without it\n"), (0, 13, None), (1, 0, "name: name of the piece, in most cases its first words; each score has one\n"),
             (3, 1, "cb3@f4: ut on line 3, with a flat si and fa on line 4\n"), (3, 12, "<i>: italic\n"), (3, 16, "</i>: italic\n"), (3, 14, None),
-            (3, 20, "f: la, punctum\nfg: pes\n"), (3, 24, "pe!clS1: pes, clivis\n"), (3, 33, "::: bar finalis\n"), (3, 41, ";: bar minor\n"),
+            (3, 20, "f: la, punctum\n\nfg: pes\n"), (3, 21, "g: si flat, punctum\n\nfg: pes\n"), (3, 24, "pe!clS1: pes, clivis\n"), (3, 33, "::: bar finalis\n"), (3, 41, ";: bar minor\n"),
         ):
             self.assertEqual(self.hover(line, character), told, (line, character))
-        self.assertIn("W6: warning: tag not known", self.hover(3, 37) or "")
+        self.assertEqual(self.hover(3, 37), (
+            "W6: tag not known\nthere is no tag '<x>'; it is kept as it stands\nWrong:\n    <it>Ky</it>(f)\nRight:\n    <i>Ky</i>(f)\n"
+            "gregorio-chant explain W6 says more\n"
+        ))
+
+
+class Markdown(Served):
+    capabilities_of_client = {"textDocument": {"hover": {"contentFormat": ["markdown", "plaintext"]}}}
+
+    def test_hover(self) -> None:
+        self.open("nabc-lines: 1;\nname: a;\n%%\n(c4) <i>a</i>(fg) (`) <x>(;)\n")
+        self.assertEqual(self.hover(3, 6), "`<i>`: italic\n")
+        self.assertEqual(self.hover(3, 14), "`f`: fa, punctum\n\n`fg`: pes\n")
+        self.assertEqual(self.hover(3, 19), "`` ` ``: bar virgula\n")
+        shown = self.ask_here("hover", position=place(3, 22))["contents"]
+        self.assertEqual(shown["kind"], "markdown")
+        self.assertEqual(shown["value"], (
+            "**W6**: tag not known\n\nthere is no tag '\\<x\\>'; it is kept as it stands\n\nWrong:\n\n```gabc\n<it>Ky</it>(f)\n```\n\n"
+            "Right:\n\n```gabc\n<i>Ky</i>(f)\n```\n\n[All about W6](file:///usr/share/doc/gregorio-canonical/docs/LANGUAGE.md#errors-and-warnings)\n"
+        ))
 
 
 class Lines(Served):

@@ -83,7 +83,7 @@ class Extension(InFolder):
         self.assertEqual([it["kind"]["value"] for it in shown["all"]], ["source.fixAll.gregorio-chant"])
         self.assertEqual(shown["format"][0]["newText"], "name: a;\n%%\n(c4) <i>Ky(f)ri</i>(g)\n")
         self.assertEqual([it["newText"] for it in shown["formatLines"]], ["name: a;\n"])
-        self.assertEqual(shown["hover"]["contents"]["value"], "<i>: italic\n")
+        self.assertEqual(shown["hover"]["contents"]["value"], "`<i>`: italic\n")
         self.assertEqual([(it["name"], it["kind"]) for it in shown["outline"]], [("name: a", 6), ("1. Kyri", 2)])
         self.assertEqual(shown["fold"], [])
         self.assertEqual(shown["colour"][:10], [0, 0, 4, 0, 0, 2, 1, 2, 4, 0])

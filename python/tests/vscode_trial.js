@@ -64,12 +64,7 @@ const vscode = {
       this.edits = edits;
     }
   },
-  MarkdownString: class {
-    appendCodeblock(text) {
-      this.value = text;
-      return this;
-    }
-  },
+  MarkdownString: keeping("value"),
   Uri: { parse: (text) => ({ toString: () => text }) },
   commands: { registerCommand: (name, run) => listening(name.replace("gregorio-chant.", ""))(run) },
   env: { openExternal: async (uri) => (opened ? opened(uri.toString()) : undefined, true) },

@@ -22,7 +22,7 @@ from gregorio_chant.slips import Subject
 @dataclass(frozen=True)
 class File:
     """What stays the same as long as a score is open: its file, what is wanted there, whether its editor takes edits with a version, and whether it asks for
-    the edits of an action when that is chosen."""
+    the edits of an action when that is chosen, and whether it shows markdown."""
 
     uri: str
     name: str
@@ -30,6 +30,7 @@ class File:
     with_rules: bool
     takes_versions: bool
     resolves_actions: bool = False
+    takes_markdown: bool = False
 
     @property
     def selection(self) -> Selection:

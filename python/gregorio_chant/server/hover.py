@@ -5,8 +5,9 @@ import bisect
 import re
 from collections.abc import Iterator
 
-from gregorio_chant.explaining import page_of
+from gregorio_chant.explaining import example_of, page_uri
 from gregorio_chant.items import Bar, Clef, Descriptor, Glyph, Item, Note, Syllable
+from gregorio_chant.results import Message
 from gregorio_chant.server.document import Document
 from gregorio_chant.server.protocol import Json, Params
 from gregorio_chant.vocabulary import HEADERS, TAGS
@@ -14,37 +15,69 @@ from gregorio_chant.vocabulary import HEADERS, TAGS
 _CLEF = re.compile(r"([cf])(b?)([1-5])")
 _TAG = re.compile(r"</?([a-z]+)>")
 _DO_OR_FA = {"c": "ut", "f": "fa"}
+# What stands in a score, and what is said of it.
+_Told = tuple[str, str]
 
 
 def hover(document: Document, params: Params) -> Json:
-    """Returns what is said of the thing at this position, and of each message there."""
+    """Returns what is said of the thing at this position, and of each message there: its help and one example. It is in markdown if the editor shows that."""
     at = document.text.offset(params["position"].position())
     parts = [it for it in (_header_at(document, at), _tag_at(document, at)) if it is not None]
     if document.compiled.fault is None:
         parts += _items_at(document, at)
-    parts += [page_of(it.code) for it in document.messages if document.offset(it) == at]
-    return {"contents": {"kind": "plaintext", "value": "\n".join(parts)}} if parts else None
+    with_marks = document.file.takes_markdown
+    told = [f"{_code(thing)}: {meaning}\n" if with_marks else f"{thing}: {meaning}\n" for thing, meaning in parts]
+    here = [(it, help) for it, help in zip(document.messages, document.helps) if document.offset(it) == at]
+    told += [_marked(it, help) if with_marks else _plain(it, help) for it, help in here]
+    return {"contents": {"kind": "markdown" if with_marks else "plaintext", "value": "\n".join(told)}} if told else None
 
 
-def _header_at(document: Document, at: int) -> str | None:
+def _code(text: str) -> str:
+    """Returns a text as code in markdown."""
+    return f"`` {text} ``" if "`" in text else f"`{text}`"
+
+
+def _marked(message: Message, help: str | None) -> str:
+    """Returns what is said of a message in markdown, with the whole page behind a link."""
+    wrong, right = example_of(message.code)
+    lines = [f"**{message.code}**: {_escaped(message.text)}", "", *([_escaped(help), ""] if help else [])]
+    for head, example in (("Wrong:", wrong), ("Right:", right)):
+        lines += [head, "", "```gabc", example, "```", ""]
+    return "\n".join([*lines, f"[All about {message.code}]({page_uri(message.code)})", ""])
+
+
+def _escaped(text: str) -> str:
+    """Returns a text that markdown shows as it stands."""
+    return re.sub(r"([\\`*_{}\[\]<>#|$~])", r"\\\1", text)
+
+
+def _plain(message: Message, help: str | None) -> str:
+    wrong, right = example_of(message.code)
+    lines = [f"{message.code}: {message.text}", *([help] if help else [])]
+    for head, example in (("Wrong:", wrong), ("Right:", right)):
+        lines += [head, *(f"    {it}" for it in example.split("\n"))]
+    return "\n".join([*lines, f"gregorio-chant explain {message.code} says more", ""])
+
+
+def _header_at(document: Document, at: int) -> _Told | None:
     """Returns what the header means whose name stands there."""
     it = document.subject.header_at(at)
     if it is None or it.name not in HEADERS or at >= document.text.plain.index(":", it.begin):
         return None
-    return f"{it.name}: {HEADERS[it.name]}\n"
+    return it.name, HEADERS[it.name]
 
 
-def _tag_at(document: Document, at: int) -> str | None:
+def _tag_at(document: Document, at: int) -> _Told | None:
     it = document.subject.syllable_at(at)
     if it is None or not it.begin <= at < it.notes:
         return None
     for tag in _TAG.finditer(document.text.plain, it.begin, it.notes):
         if tag.start() <= at < tag.end() and tag[1] in TAGS:
-            return f"{tag[0]}: {TAGS[tag[1]]}\n"
+            return tag[0], TAGS[tag[1]]
     return None
 
 
-def _items_at(document: Document, offset: int) -> Iterator[str]:
+def _items_at(document: Document, offset: int) -> Iterator[_Told]:
     """Yields what is said of the note, clef, bar or descriptor at this place of a score."""
     at = document.compiled.comparison.written_offset(offset)
     syllables = document.score.syllables
@@ -57,22 +90,25 @@ def _items_at(document: Document, offset: int) -> Iterator[str]:
                 yield from _told(item, syllables[number])
 
 
-def _told(item: Item, syllable: Syllable) -> Iterator[str]:
+def _told(item: Item, syllable: Syllable) -> Iterator[_Told]:
     if isinstance(item, Note):
-        yield from (_note(item, it) for it in syllable.glyphs if item in it.notes)
+        for it in syllable.glyphs:
+            if item in it.notes:
+                yield from _note(item, it)
     elif isinstance(item, Clef):
-        yield f"{item.spelling}: {' and '.join(_clef(*it) for it in _CLEF.findall(item.spelling))}\n"
+        yield item.spelling, " and ".join(_clef(*it) for it in _CLEF.findall(item.spelling))
     elif isinstance(item, Bar):
-        yield f"{item.spelling}: bar {item.name}\n"
+        yield item.spelling, f"bar {item.name}"
     elif isinstance(item, Descriptor):
-        yield f"{item.spelling}: {', '.join(item.names)}\n"
+        yield item.spelling, ", ".join(item.names)
 
 
 def _clef(letter: str, flat: str, line: str) -> str:
     return f"{_DO_OR_FA[letter]} on line {line}" + (", with a flat si" if flat else "")
 
 
-def _note(note: Note, glyph: Glyph) -> str:
+def _note(note: Note, glyph: Glyph) -> Iterator[_Told]:
     sound = note.degree or "no degree before any clef"
     altered = "" if note.alteration == "none" else f" {note.alteration}"
-    return f"{note.spelling}: {sound}{altered}, {note.shape}\n{glyph.spelling}: {glyph.kind}\n"
+    yield note.spelling, f"{sound}{altered}, {note.shape}"
+    yield glyph.spelling, glyph.kind

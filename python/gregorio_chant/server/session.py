@@ -44,13 +44,13 @@ def name_of(uri: str) -> str:
     return os.fsdecode(path) if parts.scheme == "file" and path and b"\0" not in path else STDIN
 
 
-def _resolves_actions(params: Params) -> bool:
-    """Returns whether an editor asks for the edits of an action when that is chosen."""
-    for name in ("capabilities", "textDocument", "codeAction", "resolveSupport", "properties"):
+def _lists(params: Params, word: str, *names: str) -> bool:
+    """Returns whether the list at the end of these names has a word; there may be none."""
+    for name in names:
         if not params.has(name):
             return False
         params = params[name]
-    return "edit" in [it.text() for it in params.parts()]
+    return word in [it.text() for it in params.parts()]
 
 
 class Session:
@@ -64,7 +64,7 @@ class Session:
         # The documents that have changed since they were checked, the first one first.
         self._unchecked: dict[str, None] = {}
         self._phase = _Phase.BEFORE
-        self._takes_versions = self._shows_documents = self._resolves_actions = False
+        self._takes_versions = self._shows_documents = self._resolves_actions = self._takes_markdown = False
         # Whether a message waits that changes a document.
         self._is_changed: Callable[[str], bool] = lambda uri: False
         self._pages = Pages()
@@ -201,7 +201,9 @@ class Session:
         self._phase = _Phase.OPEN
         self._takes_versions = params.flag("capabilities", "workspace", "workspaceEdit", "documentChanges")
         self._shows_documents = params.flag("capabilities", "window", "showDocument", "support")
-        self._resolves_actions = _resolves_actions(params)
+        texts = ("capabilities", "textDocument")
+        self._resolves_actions = _lists(params, "edit", *texts, "codeAction", "resolveSupport", "properties")
+        self._takes_markdown = _lists(params, "markdown", *texts, "hover", "contentFormat")
         return CAPABILITIES
 
     # ---- documents
@@ -210,7 +212,8 @@ class Session:
         it, uri = params["textDocument"], params.uri()
         text, name = Text(it["text"].text()), name_of(uri)
         settings = self._settings_of(name)
-        file = File(uri, name, settings, self._with_rules or settings.rules is True, self._takes_versions, self._resolves_actions)
+        with_rules = self._with_rules or settings.rules is True
+        file = File(uri, name, settings, with_rules, self._takes_versions, self._resolves_actions, self._takes_markdown)
         self._keep(Document(file, text, it.version()))
 
     def _settings_of(self, name: str) -> Settings:
