@@ -23,7 +23,8 @@ def page_of(name: str) -> str:
         title, it = f"{code.name}: {code.kind.value}: {code.text}", code
         return _page(title, it.meaning, it.wrong, it.right) + _repairs_of(code.name)
     if rule is not None:
-        return _page(f"{rule.name}: {rule.kind.value}, by check --rules alone", rule.meaning, rule.wrong, rule.right) + _repairs_of(rule.name)
+        page = _page(f"{rule.name}: {rule.kind.value}, by check --rules alone", rule.meaning, rule.wrong, rule.right)
+        return page + _silence(rule.name) + _repairs_of(rule.name)
     raise UnknownCode(f"{name} is no code and no rule: {did_you_mean(name, [*CODES, *RULES], LISTED)}")
 
 
@@ -46,6 +47,11 @@ def _page(title: str, meaning: str, wrong: str, right: str) -> str:
     for head, lines in (("Wrong:", wrong), ("Right:", right)):
         parts += ["", head, *(f"    {shown(it)}" for it in lines.split("\n"))]
     return "\n".join(parts) + "\n"
+
+
+def _silence(name: str) -> str:
+    """Returns how to silence a rule: on a line, and in a score."""
+    return f"\nSilence it, on its line or in the whole score:\n    % gregorio: ignore {name}\n    % gregorio: ignore-file {name}\n"
 
 
 def _repair_of(repair: Repair) -> str:

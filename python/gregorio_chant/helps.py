@@ -10,7 +10,7 @@ from collections.abc import Callable, Iterable
 
 from gregorio_chant.guesses import Bracket
 from gregorio_chant.nearest import nearest
-from gregorio_chant.results import Message
+from gregorio_chant.results import Kind, Message
 from gregorio_chant.slips import (
     APOSTROPHES, NOTES, Meant, Subject, bars_for, clef_for, closing_bracket, meant_header, open_styles, opening_bracket, readings, struck_for_mark,
     unread_score_line,
@@ -293,6 +293,18 @@ def help_for(subject: Subject, message: Message) -> str | None:
 
 
 def helps_for(text: str, found: Iterable[Message], told: Iterable[Message]) -> tuple[str | None, ...]:
-    """Returns the help for each message that is reported, of all that are found in this text."""
+    """Returns the help for each message that is reported, of all that are found in this text. Where several messages have one slip, as a lost bracket, all but
+    the first say so."""
     subject = Subject(text, found)
-    return tuple(help_for(subject, it) for it in told)
+    first: dict[str, str] = {}
+    helps: list[str | None] = []
+    for it in told:
+        help, at = help_for(subject, it), subject.offset(it)
+        is_told = help is not None and help in first and it.kind is not Kind.FATAL
+        if is_told and help in (_unclosed(subject, at), _of_file(subject)):
+            helps.append(f"this is the slip that is told at {first[help or '']}")
+            continue
+        if help is not None:
+            first.setdefault(help, f"{it.line}:{it.column}")
+        helps.append(help)
+    return tuple(helps)

@@ -88,6 +88,19 @@ class Command(unittest.TestCase):
             told.append((repair.name, codes, "yes" if repair.is_safe else "no", meaning if repair.is_safe else f"{meaning}: {repair.changes}"))
         self.assertEqual(rows, told)
 
+    def test_rule(self) -> None:
+        """The page of a rule says why, what is wrong and right, and how to silence it."""
+        shown = command("explain", "late-punctuation").stdout.decode()
+        self.assertEqual(shown, (
+            "late-punctuation: warning, by check --rules alone\n\nA comma or another sign of punctuation stands after the notes of its word. Write\n"
+            "it before their (.\n\nWrong:\n    Ky(f)ri(g)e(h), (;)\n\nRight:\n    Ky(f)ri(g)e,(h) (;)\n\nSilence it, on its line or in the whole score:\n"
+            "    % gregorio: ignore late-punctuation\n    % gregorio: ignore-file late-punctuation\n"
+        ))
+        for rule in RULES.values():
+            silenced = rule.score_with(f"{rule.wrong} % gregorio: ignore-file {rule.name}")
+            if rule.name != "unused-ignore" and not rule.after.startswith("\n%%"):
+                self.assertNotIn(rule.name, [it.code for it in messages_with_rules(silenced)])
+
     def test_all(self) -> None:
         shown = command("explain", "--all").stdout.decode()
         for name in [*CODES, *RULES]:

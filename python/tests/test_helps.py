@@ -80,6 +80,12 @@ def helps_of(score: bytes) -> list[tuple[str, str | None]]:
 
 
 class Helps(unittest.TestCase):
+    def test_one_slip(self) -> None:
+        """Of several messages of one lost bracket the first one has its help; equal helps of two slips stand twice."""
+        self.assertEqual([help for _, help in helps_of(f"{_SCORE}KY(f ri(gfg)e(h5)i(h5)".encode())], [
+            "the ( at 3:8 lacks its ): did you mean 'KY(f)'?", "this is the slip that is told at 3:11", *["'5' is no sign of the note before it: remove it"] * 2,
+        ])
+
     def test_quotes(self) -> None:
         """A part of a score is quoted whole up to 40 characters."""
         self.assertEqual(named("a" * 40), f"'{'a' * 40}'")

@@ -13,7 +13,7 @@ from gregorio_chant.settings import Chosen
 from gregorio_chant.streams import STDIN
 
 NAME = "check"
-_ABOUT = f"Reports what is found in files, and writes none without --fix. The messages are the compiler's, but for those of rules. {OUTSIDE}"
+_ABOUT = f"Checks scores, and says for each slip what to write instead. It writes no file without --fix. {OUTSIDE}"
 _EXAMPLES = examples((
     "gregorio-chant check scores",
     "gregorio-chant check --select E,F --exclude drafts/ scores",
@@ -23,19 +23,19 @@ _EXAMPLES = examples((
 
 def add(commands: argparse._SubParsersAction[Parser]) -> Parser:
     """Adds the words of `check`."""
-    it = commands.add_parser(NAME, help="report what is found in files", description=_ABOUT, epilog=f"{_EXAMPLES}\n\n{STATUSES}")
+    it = commands.add_parser(NAME, help="check scores, and repair them", description=_ABOUT, epilog=f"{_EXAMPLES}\n\n{STATUSES}")
     add_paths(it)
     it.add_argument(
         "--output-format", choices=checking.FORMS, default="text", metavar="FORM",
-        help="text with the line of the score (as ever), lines for editors, json, github or sarif",
+        help="text with the line of the score (default), lines for editors, json, github or sarif",
     )
     it.add_argument("--select", metavar="CODES", help="report these alone: codes between commas, E, W or F for a kind, rules for all rules")
     it.add_argument("--ignore", metavar="CODES", help="do not report these; a fatal fault is always reported")
     it.add_argument("--fail-on", metavar="CODES", help="end with status 1 where one of these is reported")
-    it.add_argument("--rules", action="store_true", help="try the rules that the compiler leaves open; they stand outside its proof")
-    it.add_argument("--fix", action="store_true", help="repair the files first, where what is read afterwards is what was written; then report what is left")
-    it.add_argument("--unsafe-fixes", action="store_true", help="with --fix: repair by guesses too; read what they change")
-    it.add_argument("--diff", action="store_true", help="with --fix: write no file, and show what would be repaired, as a diff")
+    it.add_argument("--rules", action="store_true", help="look for slips that the language allows, too: explain --all lists these rules")
+    it.add_argument("--fix", action="store_true", help="repair the files first, then report what is left; no note and no sung letter changes")
+    it.add_argument("--unsafe-fixes", action="store_true", help="with --fix: guess too, as where a bracket was lost; each guess says what it changes")
+    it.add_argument("--diff", action="store_true", help="with --fix: write no file, and show the changes as a diff")
     add_jobs(it)
     add_no_config(it)
     it.add_argument("--quiet", action="store_true", help="write no summary")

@@ -25,8 +25,8 @@ def port(word: str) -> int:
 def add(commands: argparse._SubParsersAction[Parser]) -> Parser:
     """Adds the words of `page`."""
     it = commands.add_parser(NAME, help="serve a page to write a score in and see it", description=_ABOUT, epilog=f"{_EXAMPLES}\n\n{STATUSES}")
-    it.add_argument("--port", type=port, default=0, metavar="N", help="serve at this port, or at a free one where it is 0 (as ever)")
-    it.add_argument("--rules", action="store_true", help="show what the rules find too; they stand outside the proof of the compiler")
+    it.add_argument("--port", type=port, default=0, metavar="N", help="serve at this port, or at a free one for 0 (default)")
+    it.add_argument("--rules", action="store_true", help="show what the rules find too")
     add_no_config(it)
     return it
 

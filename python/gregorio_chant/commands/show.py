@@ -32,15 +32,15 @@ def add(commands: argparse._SubParsersAction[Parser]) -> Parser:
         "-o", "--output", metavar="FILE", help="write the page into this file, or an index and a page a score into this folder, if it ends in / or is one"
     )
     it.add_argument("--svg", action="store_true", help="write the picture of one score alone, as SVG")
-    it.add_argument("--width", type=positive, default=int(USUAL_WIDTH), metavar="N", help="how wide a picture is, in pixels (as ever %(default)s)")
-    it.add_argument("--face", choices=("square", "plain"), default="square", help="draw square notes as chant books have them, or in plain shapes (as ever %(default)s)")
-    it.add_argument("--neumes", choices=NAMES, default=AUTO, help="the hand in which NABC is drawn, or text; auto looks which one the score needs (as ever)")
+    it.add_argument("--width", type=positive, default=int(USUAL_WIDTH), metavar="N", help="how wide a picture is, in pixels (default %(default)s)")
+    it.add_argument("--face", choices=("square", "plain"), default="square", help="draw square notes as chant books have them, or in plain shapes (default %(default)s)")
+    it.add_argument("--neumes", choices=NAMES, default=AUTO, help="the hand in which NABC is drawn, or text; auto looks which one the score needs (default)")
     it.add_argument("--font", metavar="FILE", help="draw neumes with the outlines of this font, which has the glyph names of GregorioTeX, as greciliae.ttf")
     it.add_argument("--no-initial", action="store_true", help="leave the first letter in the text, and not before the first line, whatever initial-style says")
     it.add_argument("--no-messages", action="store_true", help="leave out the messages, and the line that says what is not drawn")
     it.add_argument("--play", action="store_true", help="let the page sing each score, by a script of its own: a double click on a syllable begins there")
     it.add_argument("--watch", action="store_true", help="write again when a score changes, until Control-C ends it")
-    it.add_argument("--rules", action="store_true", help="show what the rules find too; they stand outside the proof of the compiler")
+    it.add_argument("--rules", action="store_true", help="show what the rules find too")
     add_no_config(it)
     return it
 

@@ -21,7 +21,7 @@ from gregorio_chant.tables import FORMS, Wanted
 REFUSED = 3
 # All codes and rules.
 KNOWN = frozenset((*CODES, *RULES))
-OUTSIDE = "What stands around the compiler is outside the proof, and only tested."
+OUTSIDE = "The compiler is proved; this command is tested."
 STATUSES = """exit status: the worst of 0 nothing wrong, 1 errors (format: something would change or was refused), 2 a fatal fault,
 3 the words were refused or a package is missing, 4 a file could not be read or written, 5 no memory"""
 _STAGED = "look at what is staged in git, and not at the files: at all of it, or at what is staged of the PATHs"
@@ -125,7 +125,7 @@ def paths_of(words: argparse.Namespace) -> tuple[str, ...]:
 def add_table(parser: Parser) -> None:
     """Adds the words of a table over files."""
     add_files(parser)
-    parser.add_argument("--output-format", choices=FORMS, default="text", metavar="FORM", help="text (as ever), csv or json")
+    parser.add_argument("--output-format", choices=FORMS, default="text", metavar="FORM", help="text (default), csv or json")
     add_jobs(parser)
     add_no_config(parser)
     parser.add_argument("--quiet", action="store_true", help="write no summary")
