@@ -80,11 +80,17 @@ class Repair:
 
 
 def _escape(subject: Subject, at: int) -> Edits:
-    """Writes `$` before a `>`, but not before one that may end a tag whose `<` is lost. A `)` and a
-    `]` are never made text: their `(` or `[` is lost."""
-    if not subject.text.startswith(">", at) or _may_end_tag(subject, at):
+    """Writes `$` before a `>`, but not before one that may end a tag whose `<` is lost, or stand in
+    notes whose `(` is lost. A `)` and a `]` are never made text: their `(` or `[` is lost."""
+    if not subject.text.startswith(">", at) or _may_end_tag(subject, at) or _may_be_note(subject, at):
         return ()
     return (Edit(at, "", "$"),)
+
+
+def _may_be_note(subject: Subject, at: int) -> bool:
+    """Returns whether the next bracket after this sign is a `)`, which closes nothing."""
+    closer = subject.text.find(")", at)
+    return closer >= 0 and subject.text.find("(", at, closer) < 0
 
 
 def _may_end_tag(subject: Subject, at: int) -> bool:

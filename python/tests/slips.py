@@ -11,7 +11,7 @@ SCORE = (
     "(c3) A(e)spér(eh)ges(hh) me,(h.) *(,) Dó(hi)mi(h)ne,(h.) (;) hys(h)só(j)po,(ji..) (:)\n"
     "et(h) mun(hh)dá(ij)bor:(h.) la(f)vá(h)bis(g') me,(f.) (;)\n"
     "et(f) su(h)per(g) ni(f)vem(gf) <i>de</i>(e)al(fe)bá(e.f!gwh)bor.(e.) <sp>V/</sp>.(::)\n"
-    "Mi(e)se(eh)ré(hjh)re(h) me(hv)i,(ixhi) De(h)us(h.) (::)\n"
+    "Mi(e)se(eh)ré(hjh)re(h>) me(hv)i,(ixhi) De(h)us(h.) (::)\n"
 )
 BACK, STAYS = "back", "stays"
 
@@ -84,6 +84,7 @@ SLIPS = (
     Slip(_WORD + r"\((?=[a-m]{2}\)\w)", "9", "E2", "a ( is missing before it, probably at 7:14", BACK),
     Slip(_WORD + r"\((?=[a-m]{2}\)\w)", "8", "E2", "a ( is missing before it, probably at 7:14", BACK),
     Slip(r"\((?=[a-m]\.\) )", "", "E2", "a ( is missing before it", BACK),
+    Slip(_WORD + r"\((?=[a-m]~?>\))", "", "E2", "a ( is missing before it", BACK),
     Slip(r"(?<= )\((?=[,;]\))", "", "E2", "a ( is missing before it", BACK),
     Slip(r"(\([a-m]{2})\)(?=\w)", r"\1", "E1", "lacks its ): did you mean 'A(e)spér(eh)ges(hh)'?", BACK),
     Slip(r"(\([a-m])\)(?=\w)", r"\1", "E1", "lacks its )", BACK),
