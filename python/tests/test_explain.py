@@ -83,9 +83,10 @@ class Command(unittest.TestCase):
         rows = re.findall(r"^\| `([a-z-]+)` \| (`[\w-]+`(?:, `[\w-]+`)*) \| (yes|no) \| (.*) \|$", page, re.MULTILINE)
         told = []
         for repair in REPAIRS.values():
-            meaning = repair.meaning[0].lower() + repair.meaning[1:].rstrip(".").replace("|", "\\|")
+            meaning = repair.meaning[0].lower() + repair.meaning[1:].rstrip(".")
             codes = ", ".join(f"`{code}`" for code in sorted(repair.codes))
-            told.append((repair.name, codes, "yes" if repair.is_safe else "no", meaning if repair.is_safe else f"{meaning}: {repair.changes}"))
+            cell = (meaning if repair.is_safe else f"{meaning} ({repair.changes})").replace("|", "\\|")
+            told.append((repair.name, codes, "yes" if repair.is_safe else "no", cell))
         self.assertEqual(rows, told)
 
     def test_rule(self) -> None:
