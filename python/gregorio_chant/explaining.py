@@ -32,7 +32,7 @@ def page_uri(name: str) -> str:
     """Returns the URI of the documentation that has a code or a rule."""
     code = CODES.get(name)
     if code is None:
-        return f"{PAGES}/PYTHON.md#rules"
+        return f"{PAGES}/RULES.md#{name}"
     return f"{PAGES}/LANGUAGE.md#{'fatal-faults' if code.kind is Kind.FATAL else 'errors-and-warnings'}"
 
 

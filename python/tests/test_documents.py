@@ -5,6 +5,8 @@ import contextlib
 import io
 import os
 import re
+import subprocess
+import sys
 import unittest
 from dataclasses import fields
 from pathlib import Path
@@ -86,11 +88,14 @@ class Documents(InFolder):
                 self.assertTrue(hasattr(its, word) or word in {it.name for it in fields(its)}, f"{name}.{word}")
 
     def test_rules(self) -> None:
-        self.assertEqual(re.findall(r"^\| `([a-z]+-[a-z-]+|comment)` \|", PAGE.split("\n## Rules\n")[1], re.MULTILINE), list(RULES))
+        """The page of rules is what is printed from their table."""
+        ran = subprocess.run([sys.executable, ROOT / "tools" / "print_rules", "--check"], capture_output=True, text=True, check=False)
+        self.assertEqual((ran.returncode, ran.stdout, ran.stderr), (0, "", ""))
+        self.assertEqual(re.findall(r"^## (.*)$", (ROOT / "docs" / "RULES.md").read_text(encoding="utf-8"), re.MULTILINE), list(RULES))
 
     def test_each_help_says_what_is_not_proved(self) -> None:
         for words in (["--help"], *([it.NAME, "--help"] for it in COMMANDS if it.NAME not in ("explain", "version"))):
-            self.assertRegex(command(*words).stdout.decode().replace("\n", " "), "outside (that|the) +proof", words)
+            self.assertRegex(command(*words).stdout.decode().replace("\n", " "), "outside (that|the) +proof|this command is tested", words)
 
 
 class Examples(InFolder):

@@ -20,7 +20,7 @@ _EXAMPLES = examples((
 def add(commands: argparse._SubParsersAction[Parser]) -> Parser:
     """Adds the words of `find`."""
     it = commands.add_parser(NAME, help="find intervals, neumes, words or melodies in scores", description=_ABOUT, epilog=f"{_EXAMPLES}\n\n{STATUSES}")
-    it.add_argument("--interval", metavar="STEPS", help="notes that follow each other so many steps higher, or lower below 0, through bars too")
+    it.add_argument("--interval", metavar="STEPS", help="notes in a row at these intervals in steps, as +2 -1; bars do not count")
     it.add_argument("--neume", metavar="KIND", help="neumes of this kind; * stands for anything")
     it.add_argument("--text", metavar="WORDS", help="words that follow each other; * stands for anything, accents and capitals do not count")
     it.add_argument("--volpiano", metavar="LETTERS", help="a melody by its letters in Volpiano; clef, hyphens, bars and flats do not count")

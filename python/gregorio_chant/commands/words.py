@@ -23,7 +23,7 @@ REFUSED = 3
 KNOWN = frozenset((*CODES, *RULES))
 OUTSIDE = "The compiler is proved; this command is tested."
 STATUSES = """exit status: the worst of 0 nothing wrong, 1 errors (format: something would change or was refused), 2 a fatal fault,
-3 the words were refused or a package is missing, 4 a file could not be read or written, 5 no memory"""
+3 the arguments were refused or a package is missing, 4 a file could not be read or written, 5 no memory"""
 _STAGED = "look at what is staged in git, and not at the files: at all of it, or at what is staged of the PATHs"
 _PATHS = f"a file, a folder for the scores below it, or {STDIN} for standard input; after -- each word is a path"
 
@@ -51,9 +51,9 @@ class Parser(argparse.ArgumentParser):
         raise SystemExit(REFUSED)
 
     def refuse_unknown(self, words: Sequence[str]) -> NoReturn:
-        """Refuses the first of these words, which stand for nothing."""
+        """Refuses the first of these arguments, which are unknown."""
         question = did_you_mean(words[0], self._option_string_actions, "")
-        self.error(f"{words[0]} is no word of {self.prog}{question and ': '}{question}")
+        self.error(f"unknown argument: {words[0]}{question and '; '}{question}")
 
     def _check_value(self, action: argparse.Action, value: object) -> None:
         if action.choices is not None and value not in action.choices:
@@ -100,7 +100,7 @@ def add_paths(parser: Parser, more: str = "", with_staged: str = "") -> None:
 def add_jobs(parser: Parser) -> None:
     """Adds the word for how many files are worked on at a time."""
     parser.add_argument(
-        "--jobs", type=positive, metavar="N", default=len(os.sched_getaffinity(0)), help="work on so many files at a time (here %(default)s)"
+        "--jobs", type=positive, metavar="N", default=len(os.sched_getaffinity(0)), help="number of parallel jobs (default %(default)s)"
     )
 
 
