@@ -30,7 +30,7 @@ _ONSET = (
 _NUCLEUS = "[aeiouyæœ]|ae|oe|au|eu|[aeo][eiouy]|ie|ou"
 _CODA = "[bcdfghklmnprstwxyz]|[lnr][bcdfgkpstxz]|[bcp]s|[cps]t|nct|n[cg]s|[cgst]h|ght|[fls]{2}|ck|nn|mm|wn|rn"
 _SYLLABLE = re.compile(rf"({_ONSET})?({_NUCLEUS})({_CODA})?")
-# How often a syllable of Latin ends so, among a thousand; where it is not here, as the last one.
+# How often a syllable of Latin ends so, among a thousand; one that is not here is rarer.
 _CODAS = {
     "": 500, "s": 120, "m": 90, "n": 80, "t": 60, "r": 50, "l": 20, "nt": 20, "c": 15, "d": 12, "x": 8, "ns": 8, "b": 8, "nc": 6, "p": 5, "st": 4,
     "g": 3, "rs": 3, "ct": 3, "ps": 2, "f": 1, "h": 1,
@@ -112,7 +112,7 @@ def _rest(rest: str) -> float | None:
 
 
 def _syllable(text: str, after: str) -> float | None:
-    """Returns the weight of a text as that of one syllable; nothing where it is none. `after` is the character after its notes."""
+    """Returns the weight of a text as that of one syllable; nothing if it is none. `after` is the character after its notes."""
     plain = _bare(_MARKUP.sub("", text)).strip("0123456789.,;:!?'’\"*†-–()/ \t\n")
     if not plain:
         return log(0.02)
@@ -129,7 +129,8 @@ def _syllable(text: str, after: str) -> float | None:
 
 
 def _joint(coda: str, after: str) -> float:
-    """Returns the weight of a consonant before the next letter of its word: before a vowel it would begin that syllable, and f and h stand before their like."""
+    """Returns the weight of a consonant before the next letter of its word: before a vowel it would
+    begin that syllable, and f and h stand before their like."""
     if after in "aeiouyæœ":
         return log(0.05)
     return log(0.1) if coda in ("f", "h", "g", "t") and after != coda else 0.0

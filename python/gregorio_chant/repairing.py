@@ -30,7 +30,7 @@ _MOST_COMPILED = 6_000_000
 _RULES_TAKE = 12
 _NO_LETTERS = re.compile(r"[\W_]+")
 _LINE_END = re.compile("\r\n|\n|\r")
-# What a repair may take away where a fault stops the score: blanks and the mark in place of a `;`.
+# What a repair may take away if a fault stops the score: blanks and the mark in place of a `;`.
 _LITTLE = re.compile(r"[ \t]+|[,:]")
 
 

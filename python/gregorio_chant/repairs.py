@@ -284,12 +284,18 @@ REPAIRS: dict[str, Repair] = {
             "close-notes", _codes("E1", "E3"), "Write the ) that is missing after notes.", _NOTES_TO_TEXT,
             _close_notes, "Ky(f ri(gfg)", "Ky(f) ri(gfg)",
         ),
-        Repair("close-at-end", _codes("F6"), "Write the ) that is missing at the end.", "the last notes are read", _close_at_end, "Ky(f)ri(gfg", "Ky(f)ri(gfg)"),
+        Repair(
+            "close-at-end", _codes("F6"), "Write the ) that is missing at the end.", "the last notes are read",
+            _close_at_end, "Ky(f)ri(gfg", "Ky(f)ri(gfg)",
+        ),
         Repair(
             "notes-in-brackets", _codes("notes-in-translation"), "Write ( and ) in place of [ and ].", "a translation becomes notes",
             _notes_in_brackets, "Ky[fg]ri(h)", "Ky(fg)ri(h)",
         ),
-        Repair("clef", _codes("E1", "W12", "lone-capital"), "Write a clef as c or f and its line.", "notes become a clef", _clef, "(4c) Ky(f)", "(c4) Ky(f)", "name: Kyrie;\n%%\n"),
+        Repair(
+            "clef", _codes("E1", "W12", "lone-capital"), "Write a clef as c or f and its line.", "notes become a clef",
+            _clef, "(4c) Ky(f)", "(c4) Ky(f)", "name: Kyrie;\n%%\n",
+        ),
         Repair("double-bar", _codes("E1"), "Write a double bar as ::.", "a bar is added", _bars, "Ky(f) (||)", "Ky(f) (::)"),
         Repair("apostrophe", _codes("E1"), "Write the typewriter's apostrophe.", "a note gets an ictus", _apostrophe, "Ky(f’)ri(g)", "Ky(f')ri(g)"),
         Repair(
@@ -321,7 +327,10 @@ REPAIRS: dict[str, Repair] = {
             "html-entity", _codes("html-entity"), "Write the character itself in place of its name in HTML.", "letters change",
             _character, "D&oacute;(f)", "D\u00f3(f)",
         ),
-        Repair("score-line", _codes("F2", "F3"), "Remove the blanks before %%.", "what is below becomes the score", _score_line, " %%", "%%", _BEGUN, "\n(c4) Ky(f)\n"),
+        Repair(
+            "score-line", _codes("F2", "F3"), "Remove the blanks before %%.", "what is below becomes the score",
+            _score_line, " %%", "%%", _BEGUN, "\n(c4) Ky(f)\n",
+        ),
         Repair(
             "end-header", _codes("F3"), "Write the ; that is missing after the value of a header.", "what is below is read", _end_header, "mode: 1", "mode: 1;",
             _BEGUN, _BODY,
@@ -334,6 +343,9 @@ REPAIRS: dict[str, Repair] = {
             "header-name", _codes("misspelled-header"), "Write the name of a header as GregorioTeX does.", "a header gets another name",
             _header_name, "moed: 1;", "mode: 1;", _BEGUN, _BODY,
         ),
-        Repair("mode-number", _codes("mode-without-number"), "Write the mode as a number.", "the mode becomes a number", _mode, "mode: VII;", "mode: 7;", _BEGUN, _BODY),
+        Repair(
+            "mode-number", _codes("mode-without-number"), "Write the mode as a number.", "the mode becomes a number",
+            _mode, "mode: VII;", "mode: 7;", _BEGUN, _BODY,
+        ),
     )
 }

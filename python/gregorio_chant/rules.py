@@ -11,7 +11,9 @@ from gregorio_chant.ignores import silenced
 from gregorio_chant.losses import Comparison
 from gregorio_chant.results import Format, Kind, Message, Status
 from gregorio_chant.rule import Found, Rule, Subject
-from gregorio_chant.rules_notes import bracket_in_attribute, clef_off_staff, lone_capital, nabc_after_bars, nabc_without_header, outside_staff, unused_alteration
+from gregorio_chant.rules_notes import (
+    bracket_in_attribute, clef_off_staff, lone_capital, nabc_after_bars, nabc_without_header, outside_staff, unused_alteration,
+)
 from gregorio_chant.rules_text import (
     asterisk_without_bar, bar_as_text, blank_before_notes, comment, html_entity, late_punctuation, misspelled_header, missing_blank, mode_without_number,
     notes_in_translation, second_score_line, syllable_without_notes, typed_hyphen, unknown_mode, unknown_special,

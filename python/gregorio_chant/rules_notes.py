@@ -57,7 +57,8 @@ def nabc_without_header(subject: Subject) -> Iterator[Found]:
         return
     after = nabc_after_bars(subject)
     if after:
-        yield Found(after[0][0], f"a | stands in the notes of {counted(len(after), 'syllable')}, and there is no header nabc-lines: what follows it is not read. Write nabc-lines: 1; before the %%")
+        where = f"a | stands in the notes of {counted(len(after), 'syllable')}, and there is no header nabc-lines"
+        yield Found(after[0][0], f"{where}: what follows it is not read. Write nabc-lines: 1; before the %%")
 
 
 def clef_off_staff(subject: Subject) -> Iterator[Found]:

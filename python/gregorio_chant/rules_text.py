@@ -52,7 +52,7 @@ def unknown_special(subject: Subject) -> Iterator[Found]:
     for syllable in subject.score.syllables:
         for it in _SPECIAL.finditer(syllable.text):
             if it[2] is not None and it[2] not in SPECIALS:
-                yield Found(subject.comparison.source_offset(syllable.place.offset + it.start()), f"<sp>{it[2]}</sp> is none of GregorioTeX's special characters")
+                yield subject.found(syllable, f"<sp>{it[2]}</sp> is none of GregorioTeX's special characters", it.start())
 
 
 def asterisk_without_bar(subject: Subject) -> Iterator[Found]:
@@ -136,7 +136,7 @@ def typed_hyphen(subject: Subject) -> Iterator[Found]:
     syllables = subject.score.syllables
     for it, after in zip(syllables, syllables[1:]):
         if it.plain.endswith(("-", "\u2013")) and len(it.plain.strip()) > 1 and not after.begins_word and after.plain[:1].isalpha():
-            yield subject.found(it, f"'{it.plain.strip()}' ends with a hyphen: leave it out, since GregorioTeX writes hyphens where they are wanted")
+            yield subject.found(it, f"'{it.plain.strip()}' ends with a hyphen: leave it out, since GregorioTeX writes hyphens by itself")
 
 
 def html_entity(subject: Subject) -> Iterator[Found]:

@@ -65,7 +65,7 @@ class Subject:
         return self.scan.headers[number] if number >= 0 else None
 
     def unclosed(self, offset: int) -> int | None:
-        """Returns where the `(` stands that probably lacks its `)`, where `offset` lies in notes that hold another `(` after it."""
+        """Returns where the `(` stands that probably lacks its `)`, if `offset` lies in notes that hold another `(` after it."""
         it = self.syllable_at(offset)
         if it is None or offset <= it.notes:
             return None
@@ -123,7 +123,7 @@ def closing_bracket(subject: Subject, at: int) -> Bracket | None:
 
 @dataclass(frozen=True)
 class Meant:
-    """A part of a score that begins at the offset `begin`, and what was meant by it; nothing where that is not known."""
+    """A part of a score that begins at the offset `begin`, and what was meant by it; nothing if that is not known."""
 
     begin: int
     spelling: str
@@ -131,7 +131,8 @@ class Meant:
 
 
 def clef_for(subject: Subject, at: int) -> Meant | None:
-    """Returns the notes at this offset where they look like a clef that is written wrongly: they have no text, and are a letter and a digit."""
+    """Returns the notes at this offset if they look like a clef that is written wrongly: they have no
+    text, and are a letter and a digit."""
     it = subject.syllable_at(at)
     if it is None or at < it.notes or any(c.isalpha() for c in subject.text[it.begin : it.notes]):
         return None
@@ -146,7 +147,7 @@ def clef_for(subject: Subject, at: int) -> Meant | None:
 
 
 def bars_for(subject: Subject, at: int) -> Meant | None:
-    """Returns the notes at this offset where they are two `|` and nothing else: a double bar is meant."""
+    """Returns the notes at this offset if they are two `|` and nothing else: a double bar is meant."""
     it = subject.syllable_at(at)
     if it is None or at <= it.notes:
         return None
@@ -158,7 +159,7 @@ def bars_for(subject: Subject, at: int) -> Meant | None:
 
 
 def unread_score_line(subject: Subject) -> Span | None:
-    """Returns where a line `%%` stands that is none, since blanks stand before it: in the headers, where it is a comment."""
+    """Returns where a line ` %%` stands in the headers: the blanks before it make it a comment."""
     found = _UNREAD_SCORE_LINE.search(subject.text)
     return Span(*found.span()) if found is not None and found.start() < subject.scan.score else None
 

@@ -114,7 +114,9 @@ def places(slip: Slip, score: Read, most: int) -> Iterator[str]:
 
 class Planted(unittest.TestCase):
     def test_distance(self) -> None:
-        for old, new, most, wanted in (("kitten", "sitting", 9, 3), ("kitten", "sitting", 2, 3), ("ab", "ab", 1, 0), ("", "abc", 9, 3), ("abc", "", 2, 3), ("abcd", "bcde", 4, 2)):
+        for old, new, most, wanted in (
+            ("kitten", "sitting", 9, 3), ("kitten", "sitting", 2, 3), ("ab", "ab", 1, 0), ("", "abc", 9, 3), ("abc", "", 2, 3), ("abcd", "bcde", 4, 2),
+        ):
             self.assertEqual(distance(old, new, most), wanted)
 
     def test_planted(self) -> None:

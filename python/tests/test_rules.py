@@ -85,7 +85,9 @@ class Rules(unittest.TestCase):
         self.assertEqual([it[:2] for it in found(score, "misspelled-header")], [(2, 1), (3, 1), (6, 1)])
 
     def test_mode_without_number(self) -> None:
-        for mode, is_well in (("VII", False), ("iv.", False), ("seven", False), ("7", True), ("9", True), ("n", True), ("", True), ("p", True), ("tonus irreg.", True)):
+        for mode, is_well in (
+            ("VII", False), ("iv.", False), ("seven", False), ("7", True), ("9", True), ("n", True), ("", True), ("p", True), ("tonus irreg.", True),
+        ):
             places = [it[:2] for it in found(f"name: a;\nmode: {mode};\n%%\n(c4)\n", "mode-without-number")]
             self.assertEqual(places, [] if is_well else [(2, 1)], mode)
         self.assertIn("write mode: 4;", found("mode: iv.;\n%%\n(c4)\n", "mode-without-number")[0][2])
@@ -113,8 +115,8 @@ class Rules(unittest.TestCase):
 
     def test_unused_alteration(self) -> None:
         for notes, is_well in (
-            ("(ixi)", True), ("(ix)b(i)", True), ("(ixg,i)", False), ("(ixg`i)", True), ("(iix)", False), ("(jxhi)", False), ("(ix)", True), ("(ixiyi)", False), ("(ixg) b(i)", False),
-            ("(ixgc3i)", False),
+            ("(ixi)", True), ("(ix)b(i)", True), ("(ixg,i)", False), ("(ixg`i)", True), ("(iix)", False), ("(jxhi)", False), ("(ix)", True),
+            ("(ixiyi)", False), ("(ixg) b(i)", False), ("(ixgc3i)", False),
         ):
             self.assertEqual(bool(found(f"name: a;\n%%\n(c4) a{notes}", "unused-alteration")), not is_well, notes)
         self.assertEqual([it[:2] for it in found("name: a;\n%%\n(c4)   a(hi  ixg)", "unused-alteration")], [(3, 14)])

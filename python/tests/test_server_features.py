@@ -82,7 +82,8 @@ class Actions(Served):
         self.open("name: a;\n%%\n(c4) <x>Ky<v>a\nb</v>(f)\n")
         self.assertEqual([it["title"] for it in self.offered(2, 0, 2, 9)], ["Silence W6 in this score"])
         self.change("name: a;\n%%\n(c4) Ky(f")
-        self.assertEqual([it["title"] for it in self.offered(2, 0, 2, 9)], ["Write the ) that is missing at the end (a guess: 'Ky(f' becomes 'Ky(f)'; the last notes are read)"])
+        title = "Write the ) that is missing at the end (a guess: 'Ky(f' becomes 'Ky(f)'; the last notes are read)"
+        self.assertEqual([it["title"] for it in self.offered(2, 0, 2, 9)], [title])
 
 
 class Versions(Served):
@@ -209,7 +210,8 @@ class Hover(Served):
         for line, character, told in (
             (0, 3, "nabc-lines: lines of NABC, 0 to 4; 0 without it\n"), (0, 13, None), (1, 0, "name: name of the piece, in most cases its first words; each score has one\n"),
             (3, 1, "cb3@f4: ut on line 3, with a flat si and fa on line 4\n"), (3, 12, "<i>: italic\n"), (3, 16, "</i>: italic\n"), (3, 14, None),
-            (3, 20, "f: la, punctum\n\nfg: pes\n"), (3, 21, "g: si flat, punctum\n\nfg: pes\n"), (3, 24, "pe!clS1: pes, clivis\n"), (3, 33, "::: bar finalis\n"), (3, 41, ";: bar minor\n"),
+            (3, 20, "f: la, punctum\n\nfg: pes\n"), (3, 21, "g: si flat, punctum\n\nfg: pes\n"),
+            (3, 24, "pe!clS1: pes, clivis\n"), (3, 33, "::: bar finalis\n"), (3, 41, ";: bar minor\n"),
         ):
             self.assertEqual(self.hover(line, character), told, (line, character))
         self.assertEqual(self.hover(3, 37), (

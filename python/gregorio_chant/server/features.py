@@ -33,7 +33,8 @@ SHOW = "gregorio-chant.show"
 CAPABILITIES: Json = {
     "capabilities": {
         "positionEncoding": "utf-16", "textDocumentSync": {"openClose": True, "change": _INCREMENTAL},
-        "codeActionProvider": {"codeActionKinds": KINDS, "resolveProvider": True}, "executeCommandProvider": {"commands": [SHOW]}, "completionProvider": {"triggerCharacters": TRIGGERS},
+        "codeActionProvider": {"codeActionKinds": KINDS, "resolveProvider": True}, "executeCommandProvider": {"commands": [SHOW]},
+        "completionProvider": {"triggerCharacters": TRIGGERS},
         "documentFormattingProvider": True, "documentRangeFormattingProvider": True, "documentSymbolProvider": True,
         "foldingRangeProvider": True, "hoverProvider": True,
         "semanticTokensProvider": {"legend": {"tokenTypes": TOKENS, "tokenModifiers": []}, "full": True},
