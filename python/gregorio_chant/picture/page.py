@@ -40,7 +40,7 @@ table{border-collapse:collapse;margin-bottom:1.5rem}td,th{text-align:left;paddin
 @media(prefers-color-scheme:dark){body{color:#ddd;background:#161616}a{color:#8bf}.error,.fatal{color:#f88}.warning{color:#db6}
 .chant{color:#ddd}.chant .paper{fill:#161616}.chant .staff{stroke:#c65}.chant .red,.chant .code{fill:#f88}
 .chant .mark{fill:#f66;stroke:#f66}.chant .mark.w{fill:#db6;stroke:#db6}}
-@media print{details,.back,.sing,.messages a+a,.messages .wide,.picture.narrow{display:none}.picture.wide{display:block}.messages a{color:inherit;text-decoration:none}body{max-width:none;padding:0;color:#000;background:#fff}section{break-inside:avoid-page}
+@media print{details,.back,.sing,.messages .way,.messages .wide,.messages .narrow,.picture.narrow{display:none}.picture.wide{display:block}.messages a{color:inherit;text-decoration:none}body{max-width:none;padding:0;color:#000;background:#fff}section{break-inside:avoid-page}
 .chant{color:#000}.chant .paper{fill:#fff}}
 """
 # How wide a picture for narrow screens is, in pixels.
@@ -156,7 +156,7 @@ def list_of_messages(score: Shown) -> Iterator[str]:
 
 def _links(score: Shown, number: int) -> Iterator[str]:
     """Yields the links from a message into the pictures."""
-    kinds = (("", score.picture),) if score.narrow is None else ((' class="wide"', score.picture), (' class="narrow"', score.narrow))
+    kinds = ((' class="way"', score.picture),) if score.narrow is None else ((' class="wide"', score.picture), (' class="narrow"', score.narrow))
     for kind, picture in kinds:
         place = picture.places.get(number)
         if place:
