@@ -16,7 +16,8 @@ class Connection {
     this.told = told;
     this.waiting = new Map();
     this.number = 0;
-    this.received = Buffer.alloc(0);
+    this.pieces = [];
+    this.wanted = 0;
     this.isOver = false;
     this.process = spawn(command[0], command.slice(1), { stdio: ["pipe", "pipe", "inherit"] });
     this.process.stdout.on("data", (piece) => this.read(piece));
@@ -60,19 +61,36 @@ class Connection {
     }
   }
 
+  // Gathers pieces until a message may be whole: a long one comes in many.
   read(piece) {
-    this.received = Buffer.concat([this.received, piece]);
+    this.pieces.push(piece);
+    this.wanted -= piece.length;
+    if (this.wanted > 0) return;
+    let received = Buffer.concat(this.pieces);
     for (;;) {
-      const end = this.received.indexOf("\r\n\r\n");
-      if (end < 0) return;
-      const length = /content-length: *(\d+)/i.exec(this.received.toString("latin1", 0, end));
+      const end = received.indexOf("\r\n\r\n");
+      const length = end < 0 ? null : /content-length: *(\d+)/i.exec(received.toString("latin1", 0, end));
       const begin = end + 4;
       const next = begin + (length ? Number(length[1]) : 0);
-      if (this.received.length < next) return;
-      const body = this.received.toString("utf8", begin, next);
-      this.received = this.received.subarray(next);
-      if (length) this.take(JSON.parse(body));
+      if (end < 0 || received.length < next) {
+        this.pieces = [received];
+        this.wanted = end < 0 ? 0 : next - received.length;
+        return;
+      }
+      const body = received.toString("utf8", begin, next);
+      received = received.subarray(next);
+      if (length) this.takeJson(body);
     }
+  }
+
+  takeJson(body) {
+    let message;
+    try {
+      message = JSON.parse(body);
+    } catch {
+      return;
+    }
+    this.take(message);
   }
 
   take(message) {
