@@ -100,13 +100,13 @@ class Serving(Asking):
         self.assertIn(f'data-most="{MOST}"', body.decode())
         self.assertEqual((page.tags.count("script"), page.tags.count("style")), (2, 0))
         self.assertEqual([it for it in page.attributes if it.startswith("on") or it == "style"], [])
-        for path, kind in (("/page.js", "text/javascript"), ("/page.css", "text/css"), ("/icon.svg", "image/svg+xml")):
+        for path, kind in (("/page.js", "text/javascript"), ("/sing.js", "text/javascript"), ("/page.css", "text/css"), ("/icon.svg", "image/svg+xml")):
             self.assertIn(path, page.links)
             status, body, headers = self.ask("GET", path)
             self.assertEqual((status, headers.get_content_type()), (200, kind))
             self.assertEqual(set(re.findall(rb"https?://[^\"' ]*", body)) - {b"http://www.w3.org/2000/svg"}, set())
             self.assertNotRegex(body, rb"url\(|@import|eval\(")
-        self.assertEqual(set(page.links), {"/page.js", "/page.css", "/icon.svg"})
+        self.assertEqual(set(page.links), {"/page.js", "/sing.js", "/page.css", "/icon.svg"})
 
     def test_policy(self) -> None:
         """Each answer forbids a browser all but the page's own parts, also one that refuses."""
