@@ -19,8 +19,7 @@ picture is a view of what was read, and no typesetting. {OUTSIDE}"""
 _EXAMPLES = examples((
     "gregorio-chant show -o page.html score.gabc",
     "gregorio-chant show -o pages/ scores",
-    "gregorio-chant show --svg score.gabc >score.svg",
-    "gregorio-chant show --svg --no-messages score.gabc | rsvg-convert -f pdf -o score.pdf",
+    "gregorio-chant show --svg --no-messages score.gabc >score.svg",
 ))
 
 
@@ -34,7 +33,7 @@ def add(commands: argparse._SubParsersAction[Parser]) -> Parser:
     it.add_argument("--svg", action="store_true", help="write the picture of one score alone, as SVG")
     it.add_argument("--width", type=positive, default=int(USUAL_WIDTH), metavar="N", help="how wide a picture is, in pixels (default %(default)s)")
     it.add_argument("--face", choices=("square", "plain"), default="square", help="draw square notes as chant books have them, or in plain shapes (default %(default)s)")
-    it.add_argument("--neumes", choices=NAMES, default=AUTO, help="the hand in which NABC is drawn, or text; auto looks which one the score needs (default)")
+    it.add_argument("--neumes", choices=NAMES, default=AUTO, metavar="HAND", help=f"the hand of NABC: {', '.join(NAMES)}; auto looks which one the score needs (default)")
     it.add_argument("--font", metavar="FILE", help="draw neumes with the outlines of this font, which has the glyph names of GregorioTeX, as greciliae.ttf")
     it.add_argument("--no-initial", action="store_true", help="leave the first letter in the text, and not before the first line, whatever initial-style says")
     it.add_argument("--no-messages", action="store_true", help="leave out the messages, and the line that says what is not drawn")
