@@ -23,6 +23,9 @@ _AFTER = ("(?:/.*)?$", "/.*$", "$")
 _STAR = "[^/]*"
 # How it marks the `/` after a folder.
 _MARKED = "(?P<ps_d>/)"
+# A class of all characters but some, which in git has no `/`, and any class.
+_OTHERS = re.compile(r"(?<!\[)\[\^(?!/\])")
+_CLASS = re.compile(r"\[\^?[^\]]+\]")
 
 
 class NoPattern(ValueError):
@@ -49,7 +52,7 @@ def _parsed(line: str) -> tuple[str, bool] | None:
         found, include = GitWildMatchPattern.pattern_to_regex(line)
     except ValueError:
         raise NoPattern("this is no pattern") from None
-    return None if found is None or include is None else (found.replace(_MARKED, "/"), include)
+    return None if found is None or include is None else (_OTHERS.sub("[^/", found.replace(_MARKED, "/")), include)
 
 
 class Patterns:
@@ -104,6 +107,6 @@ def _without_trying_again(spelled: str) -> str:
     head, *parts = spelled.split(_STAR)
     made = head
     for at, part in enumerate(parts):
-        is_followed = len(parts) > at + 2 and not any(it in "/[(" for it in part + parts[at + 1])
+        is_followed = len(parts) > at + 2 and not any(it in "/(" for it in _CLASS.sub("", part + parts[at + 1]))
         made += f"(?>{_STAR}?{part})" if is_followed and part else _STAR + part
     return made
