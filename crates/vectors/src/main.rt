@@ -3,40 +3,29 @@
 //! of several lengths, again by one engine that begins again in mid-input and after its end, and
 //! again saved and restored after each piece. What is wanted was computed or written apart from
 //! this project, but for the dumps of the scores: the program wrote these, and they were read by
-//! hand. Makes the calls of the crates below by rows of a call, its input and its answer, which
-//! were worked by hand. Prints the rows and scores that differ, and how many agree.
+//! hand. Prints the rows and scores that differ, and how many agree.
 #![tactic(auto)]
 
-mod call;
-mod driven;
 mod ends;
 mod filled;
 mod flipped;
 mod interrupted;
 mod mutated;
-mod nabc;
-mod neumes;
-mod notes;
 mod pieces;
 mod prefixes;
-mod printed;
 mod restarted;
 mod row;
 mod run;
-mod scores;
-mod show;
 mod state_row;
 mod states;
-mod texts;
+mod steps;
 mod wholes;
-mod writes;
 
-use call::is_answered;
 use ends::{Known, fills_sinks};
 use filled::{RUNS, count_agreed};
 use flipped::is_safe_turned;
 use gabc_places::Limits;
-use gregorio::Format;
+use gregorio::{Format, laws};
 use interrupted::agrees_interrupted;
 use pieces::{Wanted, agrees_in_pieces};
 use prefixes::has_prefixes_alike;
@@ -46,6 +35,7 @@ use run::{Request, request_of, run};
 use states::{buffer_of, is_answered_so, is_saved};
 use std::alloc::{AllocError, Global};
 use std::{fs, io};
+use steps::has_steps;
 
 /// The example scores: each is a file `NAME.gabc`, with its canonical form, its dump and the
 /// messages under `-W` beside it.
@@ -301,14 +291,14 @@ enum Lines {
     Sinks,
     /// Runs over each prefix of an input, in pieces and by the whole forms.
     Prefixes,
+    /// Runs, with the bytes that make known what each writes.
+    Steps,
     /// Runs that are saved, and go on where they are restored.
     Saved,
     /// Saved runs, of whose states a bit is turned.
     Turned,
     /// States of which each is refused, or goes on.
     States,
-    /// Calls of the crates below.
-    Calls,
 }
 
 impl Lines {
@@ -318,10 +308,10 @@ impl Lines {
             Lines::Runs => "runs",
             Lines::Sinks => "runs into sinks that fail",
             Lines::Prefixes => "inputs with their prefixes",
+            Lines::Steps => "runs by their steps",
             Lines::Saved => "saved runs",
             Lines::Turned => "states with a bit turned",
             Lines::States => "states",
-            Lines::Calls => "calls",
         }
     }
 
@@ -333,10 +323,10 @@ impl Lines {
             Lines::Runs => return row_agrees(rt, path, number, line),
             Lines::Sinks => row_fills_sinks(alloc, line)?,
             Lines::Prefixes => has_prefixes_alike(alloc, line)?,
+            Lines::Steps => has_steps(alloc, line)?,
             Lines::Saved => is_saved(alloc, line)?,
             Lines::Turned => is_safe_turned(alloc, line)?,
             Lines::States => is_answered_so(alloc, line)?,
-            Lines::Calls => is_answered(alloc, line)?,
         };
         if !agrees {
             println!(rt; "{path}: line {number} differs")?;
@@ -346,7 +336,7 @@ impl Lines {
 }
 
 /// The files of lines.
-const FILES: [(&str, Lines); 19] = [
+const FILES: [(&str, Lines); 15] = [
     ("rows.tsv", Lines::Runs),
     ("canonical.tsv", Lines::Runs),
     ("canonical_w12.tsv", Lines::Runs),
@@ -356,16 +346,12 @@ const FILES: [(&str, Lines); 19] = [
     ("sources.tsv", Lines::Runs),
     ("sinks.tsv", Lines::Sinks),
     ("sinks.tsv", Lines::Prefixes),
+    ("steps.tsv", Lines::Runs),
+    ("steps.tsv", Lines::Steps),
     ("states.tsv", Lines::Saved),
     ("states.tsv", Lines::Turned),
     ("damaged.tsv", Lines::States),
     ("bent.tsv", Lines::States),
-    ("texts.tsv", Lines::Calls),
-    ("notes.tsv", Lines::Calls),
-    ("neumes.tsv", Lines::Calls),
-    ("nabc.tsv", Lines::Calls),
-    ("scores.tsv", Lines::Calls),
-    ("writes.tsv", Lines::Calls),
 ];
 
 /// Looks at the lines of a file after the first one, which is its head, and reports how many agree.
@@ -374,7 +360,7 @@ fn check_file(rt: &HostRuntime, path: &str, lines: Lines) -> io::Result<()> {
     let mut count = 0u32;
     let mut agreed = 0u32;
     for (number, line) in text.as_str().lines().enumerate() {
-        if number == 0 {
+        if number == 0 || line.starts_with("#") {
             continue;
         }
         count = count.saturating_add(1);
@@ -385,7 +371,15 @@ fn check_file(rt: &HostRuntime, path: &str, lines: Lines) -> io::Result<()> {
     println!(rt; "{path}: {agreed} of {count} {} agree", lines.name())
 }
 
+/// Calls the laws of runs.
+fn call_laws() {
+    laws::canonical_again();
+    laws::a_run_over_an_output_repeats_it();
+    laws::a_stopped_run_writes_what_its_prefix_writes();
+}
+
 fn main(rt: HostRuntime) -> io::Result<()> {
+    call_laws();
     for (path, lines) in FILES {
         check_file(&rt, path, lines)?;
     }
