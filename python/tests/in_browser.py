@@ -326,8 +326,10 @@ class Written(Browsing):
         self.assert_quiet()
 
     def test_too_long(self) -> None:
-        """A score that is too long is not sent, and a line says so."""
+        """A long score is read at the button; one that is too long is not sent, and a line says so."""
         self.browser.execute_script("const it = document.querySelector('#score'); it.value = ' '.repeat(1000001); it.dispatchEvent(new Event('input'))")
+        self.await_seen("A score above 100,000 bytes is read at the button.", "#state")
+        self.find("#read").click()
         self.await_seen("A score has 1,000,000 bytes at most here.", "#state")
         self.assert_quiet()
 
