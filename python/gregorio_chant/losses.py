@@ -83,7 +83,15 @@ class Comparison:
             found.append(self._loss(0, SPELLING, "a byte order mark would go"))
         told = sorted(self.lines.offset(it.line, it.column) for it in self.messages if it.code in _CHANGING)
         found += [it for pair in chain(self.header_pairs, self._syllable_pairs()) for it in self._loss_of(pair, told)]
-        return sorted(set(found), key=lambda it: (it.place, it.reason))
+        return sorted({*found, *self._losses_of_rest(told)}, key=lambda it: (it.place, it.reason))
+
+    def _losses_of_rest(self, told: list[int]) -> list[Loss]:
+        """Returns the loss of a text after the last notes of which the compiler keeps nothing, as tags of styles, if no message tells of it."""
+        begin = self.source.syllables[-1].end if self.source.syllables else self.source.score + 2
+        rest = self.source.without_comments(Span(begin, len(self.lines.text)))
+        if not rest or any(begin <= it for it in told):
+            return []
+        return [self._loss(rest[0], SPELLING, "this would go")]
 
     def _loss(self, offset: int, reason: str, text: str) -> Loss:
         return Loss(self.lines.place(offset), reason, text)

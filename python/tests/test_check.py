@@ -104,7 +104,7 @@ class Forms(InFolder):
         for rule in rules:
             self.assertEqual({"shortDescription", "fullDescription", "help", "helpUri", "id"}, set(rule))
             page, _, heading = rule["helpUri"].removeprefix(f"{PAGES}/").partition("#")
-            self.assertRegex((ROOT / "docs" / page).read_text(encoding="utf-8").lower(), f"(?m)^## {heading.replace('-', ' ')}$")
+            self.assertRegex((ROOT / "docs" / page).read_text(encoding="utf-8").lower(), f"(?m)^## (?:{heading}|{heading.replace('-', ' ')})$")
 
 
 @unittest.skipUnless(has("rich"), "there is no rich")

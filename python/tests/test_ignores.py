@@ -57,11 +57,11 @@ class Command(InFolder):
     def test_statuses(self) -> None:
         words = ["check", "--output-format", "json", "--quiet"]
         self.put("a.gabc", "name: a;\n%%\n(c4) a(g5)\n")
-        self.put("b.gabc", "name: a;\n%%\n(c4) a(g5) % gregorio: ignore E1\n")
+        self.put("b.gabc", "name: a;\n%%\n(c4) a(g5n) % gregorio: ignore E1\n")
         self.assertEqual(command(*words, "a.gabc").returncode, 1)
         ran = command(*words, "b.gabc")
         self.assertEqual((ran.returncode, json.loads(ran.stdout)), (0, []))
-        self.assertEqual([it["code"] for it in json.loads(command(*words, "--rules", "b.gabc").stdout)], ["comment"])
+        self.assertEqual([it["code"] for it in json.loads(command(*words, "--rules", "b.gabc").stdout)], ["outside-staff"])
         self.assertEqual(command("format", "--check", "b.gabc").returncode, 0)
 
 

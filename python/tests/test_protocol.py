@@ -12,7 +12,7 @@ from support import FAULTY, ROOT, SCORE
 NO_JSON, NO_REQUEST, NO_METHOD, BAD_PARAMETERS = -32700, -32600, -32601, -32602
 NOT_INITIALIZED, CANCELLED = -32002, -32800
 # The longest that the messages of the last text may come after the last keystroke, in seconds.
-MOST_SECONDS = 1.0
+MOST_SECONDS = 3.0
 
 
 def long_score(size: int) -> str:
