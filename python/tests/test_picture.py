@@ -438,8 +438,8 @@ class Sizes(unittest.TestCase):
 
 class Large(unittest.TestCase):
     def test_memory_and_time(self) -> None:
-        """A score of 200 kB takes less than 100 MB, and of a processor less than twice what 15 seconds
-        a megabyte are: others work beside a test."""
+        """A score of 200 kB takes less than 100 MB, and of a processor less than four times what 15
+        seconds a megabyte are: others work beside a test."""
         script = (
             "import resource, time\nfrom gregorio_chant.picture import draw\n"
             "data = b'name: x;\\n%%\\n(c4) ' + b'Ky(fgf)ri(gfg/e)e(e.) le(gh)i(f) ' * 5500\n"
@@ -448,7 +448,7 @@ class Large(unittest.TestCase):
         )
         size, seconds, kilobytes = (float(it) for it in subprocess.run([sys.executable, "-c", script], capture_output=True, check=True).stdout.split())
         self.assertGreater(size, 170_000)
-        self.assertLess(seconds * 1e6 / size, 30)
+        self.assertLess(seconds * 1e6 / size, 60)
         self.assertLess(kilobytes, 100_000)
 
 
