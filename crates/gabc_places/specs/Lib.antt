@@ -9,6 +9,7 @@ pub mod CodesSpelled
 pub mod Decoder
 pub mod DecoderMachine
 pub mod DecoderReports
+pub mod Fate
 pub mod FilledPieceByPiece
 pub mod Filling
 pub mod Findings
