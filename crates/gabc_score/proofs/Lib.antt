@@ -1,15 +1,8 @@
 pub mod PlacesByBytes
 pub mod building
-pub mod holding
 pub mod keeping
-pub mod order
 pub mod regular_syllables
 pub mod runs
 pub mod resuming
 pub mod score_events
-pub mod snippets_of_body
-pub mod stopped_scores
-pub mod syllables_of_units
 pub mod texts_of_body
-pub mod units
-pub mod within_limits

@@ -1,12 +1,6 @@
 pub mod CountsOfParts
 pub mod EventsAreHeld
-pub mod EndOfBody
-pub mod EventsOfOnePoint
 pub mod EventsOfSnippets
-pub mod EventsOfSyllableParts
-pub mod BuilderHoldsDefinition
-pub mod FirstKinds
-pub mod OneListEachCharacter
 pub mod PartsEndLines
 pub mod PartsKeepOn
 pub mod PartsMakeSyllables
@@ -16,9 +10,6 @@ pub mod PartsOfKeptNotes
 pub mod PartsOfKeptText
 pub mod PartsOpenOn
 pub mod PartsStandOn
-pub mod SnippetsAsKept
 pub mod SnippetsTakeCharacters
-pub mod SnippetsWithBars
 pub mod SpansOfParts
-pub mod StopIsFirst
 pub mod SyllableEndsLast

@@ -1,4 +1,3 @@
-mod KeptAgainExamples
 pub mod AnyTextIsRead
 pub mod EndsOfParts
 pub mod KeptAgainIsReported
@@ -8,3 +7,5 @@ pub mod PartsKeepOne
 pub mod PartsTakeCharacters
 pub mod ReadByDefinition
 pub mod ReadByItself
+pub mod KeptAgainExamples
+pub mod KeptOfCharacters

@@ -13,7 +13,6 @@ pub mod StatesStand
 pub mod CharactersGathered
 pub mod ReadOneByOne
 pub mod MadeOfEvents
-pub mod OpenSpans
 pub mod HeldIsRead
 pub mod NothingIsRead
 pub mod HeldIsHeld

@@ -4,11 +4,11 @@ use Rattle.std.specs.Prelude.{ℕ, ◌+◌, ◌-◌, ◌^◌, ◌==◌, ◌||◌
 use Rattle.std.specs.List.{list_any}
 use Rattle.gabc_notes.specs.FirstNoteOrClef.{first_note_or_clef}
 use Rattle.gabc_notes.specs.Items.{items_of}
-use Rattle.gabc_score.specs.declared.before.Before.{Before}
-use Rattle.gabc_score.specs.declared.before.Preceding.{Preceding}
-use Rattle.gabc_score.specs.declared.snippets.Snippet.{Snippet}
-use Rattle.gabc_score.specs.Canonical.{canonical}
-use Rattle.gabc_score.specs.Syllable.{UnplacedSyllable, PlacedSyllable, text_at}
+use Rattle.gabc_body.specs.declared.before.Before.{Before}
+use Rattle.gabc_score.specs.declared.preceding.Preceding.{Preceding}
+use Rattle.gabc_body.specs.declared.snippets.Snippet.{Snippet}
+use Rattle.gabc_body.specs.Canonical.{canonical}
+use Rattle.gabc_body.specs.Syllable.{UnplacedSyllable, PlacedSyllable, text_at}
 
 -- what is reported of them beside what the headers gave
 abbrev pub preceding_of : Before → Preceding

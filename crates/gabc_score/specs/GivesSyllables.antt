@@ -9,10 +9,10 @@ use Rattle.gabc_headers.specs.declared.head_event.HeadEvent.{HeadEvent}
 use Rattle.gabc_headers.specs.declared.head_event.HeadEvent.TheVariants as head_event
 use Rattle.gabc_score.specs.declared.score_machine.ScorePart.TheVariants as score_part
 use Rattle.gabc_score.specs.Before.{with_placed}
-use Rattle.gabc_score.specs.Canonical.{canonical_in_place}
-use Rattle.gabc_score.specs.ScoreEvents.{ScoreOutput, Syllable}
+use Rattle.gabc_body.specs.Canonical.{canonical_in_place}
+use Rattle.gabc_body.specs.ScoreEvents.{ScoreOutput, Syllable}
 use Rattle.gabc_score.specs.ScoreStage.{Counts, IsWithin, IsInLine}
-use Rattle.gabc_score.specs.Syllable.{PlacedSyllable}
+use Rattle.gabc_body.specs.Syllable.{PlacedSyllable}
 use Rattle.gabc_score.specs.ReportedWithin.{HoldsIfAny, ReportsText, whole_syllables}
 use Rattle.gabc_score.specs.witness.ScoreStage.{ScoreStageState, left_of}
 

@@ -5,26 +5,16 @@ use Rattle.gabc_places.specs.declared.limits.Limits.{Limits}
 use Rattle.gabc_places.specs.declared.place.Place.{Place}
 use Rattle.gabc_places.specs.Place.{placed_characters_from}
 use Rattle.gabc_notes.specs.ReadAgain.{IsWarning}
-use Rattle.gabc_score.specs.declared.before.Before.{Before}
-use Rattle.gabc_score.specs.declared.before.Spans.{Spans}
-use Rattle.gabc_score.specs.declared.events.BodyEvent.{BodyEvent}
-use Rattle.gabc_score.specs.Body.{events_onto, findings_of}
+use Rattle.gabc_body.specs.declared.before.Before.{Before}
+use Rattle.gabc_body.specs.declared.before.Spans.{Spans}
+use Rattle.gabc_body.specs.declared.events.BodyEvent.{BodyEvent}
+use Rattle.gabc_body.specs.Body.{events_onto, findings_of}
 use Rattle.gabc_score.specs.Before.{preceding_of}
-use Rattle.gabc_score.specs.ScoreEvents.{first_place}
-use Rattle.gabc_score.specs.Syllable.{UnplacedSyllable, since_close, kept_of, all_syllables, is_eu, is_nlba}
+use Rattle.gabc_body.specs.ScoreEvents.{first_place}
+use Rattle.gabc_body.specs.Syllable.{UnplacedSyllable, since_close, kept_of, all_syllables, is_eu, is_nlba}
 use Rattle.gabc_score.specs.ReportedWithin.{written_after}
-use Rattle.gabc_score.specs.UnitRead.{first_events}
-
--- after these events, the nearest first, nothing is read, and these spans are open
-pub record LeavesOpen (spans : Spans) (before : List BodyEvent) : Type 0 where
-  pub nothing : since_close before ≡ []
-  pub eu : is_eu before ≡ spans.eu
-  pub nlba : is_nlba before ≡ spans.nlba
-
--- some events leave these spans open
-pub record CanBeOpen (spans : Spans) : Type 0 where
-  pub before : List BodyEvent
-  pub leaves : LeavesOpen spans before
+use Rattle.gabc_body.specs.UnitRead.{first_events}
+use Rattle.gabc_body.specs.OpenSpans.{LeavesOpen}
 
 module _ (lines macros : ℕ) (at : Place) (text : List ℕ) where
   -- what the first n characters of a text emit, which begins at this place

@@ -2,9 +2,9 @@
 -- of another.
 use Rattle.std.specs.Prelude.{◌≡◌, ◌⊎◌, ◌||◌, List, [], ◌∷◌, Bool, Option, Some, None}
 use Rattle.gabc_score.specs.Before.{sounds}
-use Rattle.gabc_score.specs.Canonical.{canonical}
-use Rattle.gabc_score.specs.ScoreEvents.{ScoreOutput, Found, Stop, Syllable, End}
-use Rattle.gabc_score.specs.Syllable.{UnplacedSyllable}
+use Rattle.gabc_body.specs.Canonical.{canonical}
+use Rattle.gabc_body.specs.ScoreEvents.{ScoreOutput, Found, Stop, Syllable, End}
+use Rattle.gabc_body.specs.Syllable.{UnplacedSyllable}
 
 -- A held syllable may be equivalent to another: they begin a word alike, have one canonical text,
 -- leave the same spans open, and sound alike. `first` says whether no syllable stands before them.

@@ -9,12 +9,12 @@ use Rattle.gabc_places.specs.StageLaw.{concat_of}
 use Rattle.gabc_text.specs.declared.text_event.TextEnd.TheVariants.{Notes}
 use Rattle.gabc_text.specs.declared.text_event.TextEvent.TheVariants as text
 use Rattle.gabc_score.specs.declared.body_tells.Openers.{Openers}
-use Rattle.gabc_score.specs.declared.events.BodyEvent.{BodyEvent}
-use Rattle.gabc_score.specs.declared.events.BodyEvent.TheVariants as event
-use Rattle.gabc_score.specs.Body.{cut_of, events_onto}
-use Rattle.gabc_score.specs.Events.{events_from, text_from, texts_by_definition}
-use Rattle.gabc_score.specs.ScoreEvents.{first_place}
-use Rattle.gabc_score.specs.Syllable.{all_syllables, kept_of}
+use Rattle.gabc_body.specs.declared.events.BodyEvent.{BodyEvent}
+use Rattle.gabc_body.specs.declared.events.BodyEvent.TheVariants as event
+use Rattle.gabc_body.specs.Body.{cut_of, events_onto}
+use Rattle.gabc_body.specs.Events.{events_from, text_from, texts_by_definition}
+use Rattle.gabc_body.specs.ScoreEvents.{first_place}
+use Rattle.gabc_body.specs.Syllable.{all_syllables, kept_of}
 
 -- the `(` that ends a text
 abbrev pub opens : BodyEvent → Bool

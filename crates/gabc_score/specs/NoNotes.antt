@@ -1,8 +1,8 @@
 -- Syllables without notes. The last text of a body is one.
 use Rattle.std.specs.Prelude.{◌≡◌, List, [], ◌∷◌, Bool, true, false, ◌==◌, ◌&&◌}
 use Rattle.std.specs.List.{All}
-use Rattle.gabc_score.specs.declared.snippets.Snippet.{Snippet}
-use Rattle.gabc_score.specs.Syllable.{UnplacedSyllable, PlacedSyllable}
+use Rattle.gabc_body.specs.declared.snippets.Snippet.{Snippet}
+use Rattle.gabc_body.specs.Syllable.{UnplacedSyllable, PlacedSyllable}
 
 -- one snippet of GABC, which is empty
 abbrev pub are_no_notes : List Snippet → Bool

@@ -8,14 +8,14 @@ use Rattle.gabc_text.specs.Canonical.{canonical_text}
 use Rattle.gabc_text.specs.RegularText.{IsRegularText, is_gap, text_part, translation_part}
 use Rattle.gabc_notes.specs.Regular as notes
 use Rattle.gabc_nabc.specs.Regular as nabc
-use Rattle.gabc_score.specs.declared.events.BodyEvent.{BodyEvent}
-use Rattle.gabc_score.specs.Body.{events_onto, findings_of}
-use Rattle.gabc_score.specs.Canonical.{canonical, translation_text}
-use Rattle.gabc_score.specs.Syllable.{UnplacedSyllable, text_at}
-use Rattle.gabc_score.specs.declared.snippets.Snippet.{Snippet}
-use Rattle.gabc_score.specs.Events.{texts_by_definition, text_from, next_line, after_mark, events_from}
-use Rattle.gabc_score.specs.UnitRead.{GivesOneSyllable, emitted_through}
-use Rattle.gabc_score.specs.Units.{EndedPart, BodyUnit}
+use Rattle.gabc_body.specs.declared.events.BodyEvent.{BodyEvent}
+use Rattle.gabc_body.specs.Body.{events_onto, findings_of}
+use Rattle.gabc_body.specs.Canonical.{canonical, translation_text}
+use Rattle.gabc_body.specs.Syllable.{UnplacedSyllable, text_at}
+use Rattle.gabc_body.specs.declared.snippets.Snippet.{Snippet}
+use Rattle.gabc_body.specs.Events.{texts_by_definition, text_from, next_line, after_mark, events_from}
+use Rattle.gabc_body.specs.UnitRead.{GivesOneSyllable, emitted_through}
+use Rattle.gabc_body.specs.Units.{EndedPart, BodyUnit}
 
 -- blanks with comments among them, a text and snippets, of which each of the first ends at a `|`,
 -- and the last at the `)`

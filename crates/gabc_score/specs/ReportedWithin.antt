@@ -5,14 +5,14 @@ use Rattle.gabc_places.specs.declared.limits.Limits.{Limits}
 use Rattle.gabc_places.specs.PlacesInOrder.{LiesBefore, AreInOrder}
 use Rattle.gabc_places.specs.TextOfAnInput.{IsText}
 use Rattle.gabc_places.specs.declared.place.Place.{Place}
-use Rattle.gabc_score.specs.declared.before.Preceding.{Preceding}
+use Rattle.gabc_score.specs.declared.preceding.Preceding.{Preceding}
 use Rattle.gabc_score.specs.declared.body_stage.BodyPart.{BodyPart}
 use Rattle.gabc_score.specs.declared.body_tells.Openers.{Openers}
 use Rattle.gabc_score.specs.declared.score_machine.ScorePart.TheVariants as score_part
 use Rattle.gabc_score.specs.Before.{no_syllable}
-use Rattle.gabc_score.specs.Canonical.{canonical}
+use Rattle.gabc_body.specs.Canonical.{canonical}
 use Rattle.gabc_score.specs.ScoreReports.{held_of, reading_of, openers_of, is_in_comment}
-use Rattle.gabc_score.specs.Syllable.{UnplacedSyllable}
+use Rattle.gabc_body.specs.Syllable.{UnplacedSyllable}
 use Rattle.gabc_score.specs.witness.ScoreStage.{ScoreStageState}
 
 -- the canonical text of a syllable after these: the first one begins a word

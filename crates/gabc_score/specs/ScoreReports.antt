@@ -6,14 +6,14 @@ use Rattle.gabc_text.specs.StageReports as text
 use Rattle.gabc_text.specs.witness.StageReports as text_reports
 use Rattle.gabc_notes.specs.StageReports as notes
 use Rattle.gabc_nabc.specs.witness.Keeps as nabc
-use Rattle.gabc_score.specs.declared.before.Before.{Before}
-use Rattle.gabc_score.specs.declared.before.Preceding.{Preceding}
+use Rattle.gabc_body.specs.declared.before.Before.{Before}
+use Rattle.gabc_score.specs.declared.preceding.Preceding.{Preceding}
 use Rattle.gabc_score.specs.declared.body_stage.BodyPart.{BodyPart}
 use Rattle.gabc_score.specs.declared.body_stage.BodyPart.TheVariants as part
 use Rattle.gabc_score.specs.declared.body_tells.Openers.{Openers}
 use Rattle.gabc_score.specs.declared.score_machine.ScorePart.{ScorePart}
 use Rattle.gabc_score.specs.declared.score_machine.ScorePart.TheVariants as score_part
-use Rattle.gabc_score.specs.Syllable.{UnplacedSyllable}
+use Rattle.gabc_body.specs.Syllable.{UnplacedSyllable}
 use Rattle.gabc_score.specs.witness.BodyStage.{BodyStageState}
 use Rattle.gabc_score.specs.witness.ScoreStage.{ScoreStageState}
 

@@ -5,10 +5,10 @@ use Rattle.gabc_text.specs.RegularText.{text_part, translation_part}
 use Rattle.gabc_score.specs.declared.spelled.SpelledSyllable.{SpelledSyllable}
 use Rattle.gabc_score.specs.declared.spelled.SpelledSnippets.{SpelledSnippets}
 use Rattle.gabc_score.specs.declared.spelled.SpelledSnippet.{SpelledSnippet}
-use Rattle.gabc_score.specs.Canonical.{canonical_in_place, starts_word}
+use Rattle.gabc_body.specs.Canonical.{canonical_in_place, starts_word}
 use Rattle.gabc_score.specs.GivesSyllables.{spelled_canonical}
 use Rattle.gabc_score.specs.RegularSyllable.{SaysText, SyllableParts, AreRegularFrom, IsRegularSyllable, canonical_spelled, kept_spelled, notes_spelled, snippet_texts, with_lines}
-use Rattle.gabc_score.specs.Syllable.{PlacedSyllable}
+use Rattle.gabc_body.specs.Syllable.{PlacedSyllable}
 
 -- The slices are the bytes of a regular syllable, and its text ends where they say.
 pub record IsSpelling (r : SpelledSyllable) : Type 0 where

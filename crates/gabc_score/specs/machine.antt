@@ -1,8 +1,6 @@
 pub mod Between
-pub mod BodyBuilder
 pub mod Collected
 pub mod FirstSound
-pub mod Gatherer
 pub mod HoldsEvents
 pub mod HeldAside
 pub mod HeldWithin
@@ -27,5 +25,3 @@ pub mod ScoreStage
 pub mod Slot
 pub mod SlotPair
 pub mod StageLaws
-pub mod SyllableBuilder
-pub mod SyllableText

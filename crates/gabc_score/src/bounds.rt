@@ -3,8 +3,9 @@
 ghost use Rattle.std.specs.Prelude.{◌≡◌};
 ghost use Rattle.gabc_score.specs.machine.Preceded.{after_headers, past_point};
 
-use crate::before::{Preceding, Spans};
+use crate::preceding::Preceding;
 use crate::slot_pair::SlotPair;
+use gabc_body::Spans;
 
 /// What stands before the syllable that is held, and what after it. Where none is held, the same
 /// stands there.

@@ -2,21 +2,20 @@
 
 ghost use Rattle.std.specs.Prelude.{◌≡◌, ◌+◌, ◌<◌, ◌^◌, [], length, IfOk};
 ghost use Rattle.std.specs.Str.{chars};
-ghost use Rattle.gabc_score.specs.Body.{body_of};
-ghost use Rattle.gabc_score.specs.NoteBeforeClef.{with_first_each};
+ghost use Rattle.gabc_body.specs.Body.{body_of};
+ghost use Rattle.gabc_body.specs.NoteBeforeClef.{with_first_each};
 ghost use Rattle.gabc_score.specs.witness.BodyStage.{running_events_left};
 ghost use Rattle.gabc_places.specs.BoundedList.{Fits};
 ghost use Rattle.gabc_places.specs.Place.{place_past, placed_characters_from};
 ghost use Rattle.gabc_score.specs.machine.Collected.{EndsAs};
 ghost use Rattle.gabc_score.specs.machine.ScoreMachine.{shown, IsScore};
 
-use crate::body_result::BodyResult;
 use crate::body_stage::{BodyPart, BodyStage};
+use crate::collecting::add_all;
 use crate::context::BodyContext;
-use crate::ending::InputEnding;
 use crate::score_event::ScoreEvent;
 use crate::score_machine::ScoreMachine;
-use crate::syllables::Syllables;
+use gabc_body::{BodyResult, InputEnding, Syllables};
 use gabc_headers::HeadEvent;
 use gabc_places::{Char, Limits, Memory, Room};
 use std::alloc::AllocError;
@@ -50,11 +49,11 @@ pub(crate) fn build_body(
     let mut place = at;
     for c in body.chars() {
         machine.push(HeadEvent::Body(Char { c, place }), &mut out);
-        result.add_all(memory, &machine.pair, &mut out)?;
+        add_all(&mut result, memory, &machine.pair, &mut out)?;
         place = place.after(c);
     }
     end_machine(&mut machine, ending, &mut out);
-    result.add_all(memory, &machine.pair, &mut out)?;
+    add_all(&mut result, memory, &machine.pair, &mut out)?;
     Ok(result)
 }
 

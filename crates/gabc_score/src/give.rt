@@ -1,13 +1,13 @@
 //! What takes the syllables of a run.
 
 ghost use Rattle.std.specs.Prelude.{◌≡◌, ◌+◌, ◌<◌, ◌≤◌, ℕ, List, [], ◌∷◌, ◌++◌, length, true, false};
-ghost use Rattle.gabc_score.specs.Canonical.{canonical_in_place, StandsFrom};
+ghost use Rattle.gabc_body.specs.Canonical.{canonical_in_place, StandsFrom};
 ghost use Rattle.gabc_score.specs.GivesSyllables.{AreJoined};
 ghost use Rattle.gabc_score.specs.SpelledSyllable.{IsSpelling, Spells};
-ghost use Rattle.gabc_score.specs.Syllable.{PlacedSyllable, placed_of, unplaced_of};
+ghost use Rattle.gabc_body.specs.Syllable.{PlacedSyllable, placed_of, unplaced_of};
 
-use crate::kept_text::LentSyllable;
 use crate::spelled::SpelledSyllable;
+use gabc_body::LentSyllable;
 use gabc_places::Place;
 
 /// Takes whole syllables, in their order.

@@ -2,9 +2,9 @@
 
 ghost use Rattle.std.specs.Prelude.{◌≡◌, ◌≢◌, ◌≤◌, ◌||◌, [], ◌∷◌, ◌++◌, map, length, cond, None};
 ghost use Rattle.gabc_places.specs.BoundedList.{Fits, extended_by};
-ghost use Rattle.gabc_score.specs.NoteBeforeClef.{found_first};
-ghost use Rattle.gabc_score.specs.ScoreEvents.{outputs_of, Stop, End};
-ghost use Rattle.gabc_score.specs.machine.BodyBuilder.{end_findings};
+ghost use Rattle.gabc_body.specs.NoteBeforeClef.{found_first};
+ghost use Rattle.gabc_body.specs.ScoreEvents.{outputs_of, Stop, End};
+ghost use Rattle.gabc_body.specs.witness.BodyBuilder.{end_findings};
 ghost use Rattle.gabc_score.specs.machine.FirstSound.{kind_of};
 ghost use Rattle.gabc_score.specs.machine.ReadsChar.{GivesAsLast, GivesPoint};
 ghost use Rattle.gabc_score.specs.machine.ScoreStage.{placed_after};

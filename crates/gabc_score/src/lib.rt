@@ -15,63 +15,47 @@
 //! ```
 #![tactic(auto)]
 
-mod before;
-mod body_result;
 mod body_stage;
 mod body_tells;
 mod bounds;
 mod build_body;
-mod canonical;
+mod collecting;
 mod context;
-mod ending;
-mod events;
 mod first_sound;
 mod give;
 mod giving;
 pub mod kept_laws;
-mod kept_text;
-pub mod laws;
 mod machine_laws;
 mod moving;
 mod part_ends;
 mod part_events;
 mod part_pushes;
+mod preceding;
 mod reading_again;
 mod regular;
 pub mod regular_laws;
 mod resumed;
 mod run;
-mod score;
 mod score_event;
 mod score_machine;
 mod score_stage;
-mod slice;
 mod slot;
 mod slot_pair;
 mod slot_tells;
-mod snippets;
 mod spelled;
 pub mod stage_laws;
-mod syllable;
-mod syllables;
 mod text_places;
-pub mod unit_laws;
 mod waiting;
 mod whole;
 
-pub use before::{Before, Spans};
 pub use body_stage::BodyStage;
 pub use body_tells::Openers;
-pub use canonical::{canon_len, canon_lent, canon_starting, canon_syllable};
-pub use ending::InputEnding;
-pub use events::BodyEvent;
+pub use gabc_body::{
+    Before, BodyEvent, InputEnding, LentSyllable, Position, Score, Snippet, Snippets, Spans,
+    Syllable, Syllables, canon_len, canon_lent, canon_starting, canon_syllable, laws, unit_laws,
+};
 pub use give::{Give, Run};
-pub use kept_text::LentSyllable;
-pub use score::Score;
 pub use score_event::{BorrowedSyllable, ScoreEvent};
 pub use score_stage::ScoreStage;
-pub use snippets::{Snippet, Snippets};
 pub use spelled::{SpelledSnippet, SpelledSnippets, SpelledSyllable};
-pub use syllable::{Position, Syllable};
-pub use syllables::Syllables;
 pub use whole::{score_whole, score_whole_with_hasher};

@@ -5,7 +5,7 @@ ghost use Rattle.std.specs.Prelude.{◌≡◌, ◌+◌, ◌≤◌, List, [], len
 ghost use Rattle.gabc_headers.specs.declared.head_event.HeadEvent.{HeadEvent};
 ghost use Rattle.gabc_places.specs.declared.place.Place.{Place};
 ghost use Rattle.gabc_places.specs.StageLaw.{concat_of};
-ghost use Rattle.gabc_score.specs.ScoreEvents.{syllables_in};
+ghost use Rattle.gabc_body.specs.ScoreEvents.{syllables_in};
 ghost use Rattle.gabc_score.specs.ScoreReports.{before_of, held_of, moved_to, IsInFront};
 ghost use Rattle.gabc_score.specs.ReportedWithin.{whole_syllables};
 ghost use Rattle.gabc_score.specs.witness.IsReachable.{IsReachable};

@@ -2,7 +2,7 @@
 
 ghost use Rattle.std.specs.Prelude.{◌≡◌};
 ghost use Rattle.std.specs.List.{list_any};
-ghost use Rattle.gabc_score.specs.Events.{is_text_end as text_end, is_next as note_next, is_close as note_close};
+ghost use Rattle.gabc_body.specs.Events.{is_text_end as text_end, is_next as note_next, is_close as note_close};
 ghost use Rattle.gabc_score.specs.machine.PartPushes.{EndsLast};
 
 use gabc_notes::{NoteEnd, NoteEvent};

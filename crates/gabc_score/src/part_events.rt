@@ -2,12 +2,12 @@
 
 ghost use Rattle.std.specs.Prelude.{◌≡◌, [], ◌∷◌, map, length};
 ghost use Rattle.gabc_places.specs.BoundedList.{Fits, extended_by};
-ghost use Rattle.gabc_score.specs.Events.{innermost as with_innermost, note_event as event_of_notes};
-ghost use Rattle.gabc_score.specs.declared.events.BodyEvent.TheVariants.{Text as of_text};
+ghost use Rattle.gabc_body.specs.Events.{innermost as with_innermost, note_event as event_of_notes};
+ghost use Rattle.gabc_body.specs.declared.events.BodyEvent.TheVariants.{Text as of_text};
 ghost use Rattle.gabc_score.specs.machine.HoldsEvents.{CanHold, HoldsEvents};
 
-use crate::events::BodyEvent;
 use crate::slot_pair::SlotPair;
+use gabc_body::BodyEvent;
 use gabc_notes::{NoteEnd, NoteEvent};
 use gabc_places::{Finding, Place, Room};
 use gabc_text::TextEvent;

@@ -4,7 +4,7 @@ ghost use Rattle.std.specs.Prelude.{◌≡◌, ◌≤◌};
 ghost use Rattle.gabc_text.specs.witness.Steps as text;
 ghost use Rattle.gabc_notes.specs.witness.Keeps as gabc;
 ghost use Rattle.gabc_nabc.specs.witness.Keeps as nabc;
-ghost use Rattle.gabc_score.specs.Events.{is_text_end as text_end, is_next as note_next};
+ghost use Rattle.gabc_body.specs.Events.{is_text_end as text_end, is_next as note_next};
 ghost use Rattle.gabc_score.specs.machine.PartPushes.{EmitsLast, EndsLast};
 ghost use Rattle.gabc_score.specs.machine.PartSteps.{TextBounds, NoteBounds};
 

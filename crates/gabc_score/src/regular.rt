@@ -9,8 +9,8 @@ ghost use Rattle.gabc_text.specs.Token.{is_blank};
 ghost use Rattle.gabc_score.specs.RegularSyllable.{IsRegularOn};
 ghost use Rattle.gabc_score.specs.machine.RegularLen.{past_mark, BeginsWithSnippets, BeginsRegularly, IsPlainByte, IsPlainGap, is_printable};
 
-use crate::before::Spans;
 use crate::body_stage::next_line;
+use gabc_body::Spans;
 use gabc_nabc::regular_nabc;
 use gabc_notes::regular_notes;
 use gabc_text::{SpanMark, regular_text};

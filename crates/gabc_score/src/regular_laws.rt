@@ -6,14 +6,14 @@ ghost use Rattle.gabc_places.specs.declared.place.Char.{Char};
 ghost use Rattle.gabc_places.specs.declared.place.Place.{Place};
 ghost use Rattle.gabc_places.specs.Place.{placed_characters_from};
 ghost use Rattle.gabc_text.specs.Events.{CountsFit};
-ghost use Rattle.gabc_score.specs.Events.{texts_by_definition, text_from, after_mark, events_from};
+ghost use Rattle.gabc_body.specs.Events.{texts_by_definition, text_from, after_mark, events_from};
 ghost use Rattle.gabc_score.specs.witness.BodyStage.{texts_by_stage};
 ghost use Rattle.gabc_score.specs.RegularSyllable.{SyllableParts, IsRegularSyllable, IsReadAsItStands, MakesItsSpelling, spelled, unit_at};
-ghost use Rattle.gabc_score.specs.Syllable.{UnplacedSyllable, since_close};
-ghost use Rattle.gabc_score.specs.declared.before.Spans.{Spans};
-ghost use Rattle.gabc_score.specs.declared.events.BodyEvent.{BodyEvent};
+ghost use Rattle.gabc_body.specs.Syllable.{UnplacedSyllable, since_close};
+ghost use Rattle.gabc_body.specs.declared.before.Spans.{Spans};
+ghost use Rattle.gabc_body.specs.declared.events.BodyEvent.{BodyEvent};
 ghost use Rattle.gabc_score.specs.machine.Between.{Makes};
-ghost use Rattle.gabc_score.specs.SyllablesOfUnits.{characters_in};
+ghost use Rattle.gabc_body.specs.SyllablesOfUnits.{characters_in};
 
 /// Law: a regular syllable is read as it stands, wherever it begins, whatever macros are defined
 /// and whatever follows: each of its characters has its list of events, nothing is found in it, and

@@ -8,42 +8,29 @@ ghost use Rattle.gabc_score.specs.Before.{preceding_of};
 ghost use Rattle.gabc_score.specs.HeldAgain.{MayBeHeld};
 ghost use Rattle.gabc_score.specs.Resumed.{BeginsText, HoldsAgain, IsAfterSyllables};
 ghost use Rattle.gabc_score.specs.ScoreReports.{before_of, before_with, held_of};
-ghost use Rattle.gabc_score.specs.Syllable.{UnplacedSyllable};
+ghost use Rattle.gabc_body.specs.Syllable.{UnplacedSyllable};
 ghost use Rattle.gabc_places.specs.TextOfAnInput.{IsText};
 ghost use Rattle.gabc_score.specs.ReportedWithin.{IsAtOutset, ReportsText};
 ghost use Rattle.gabc_score.specs.machine.PartCounts.{CountsHold};
 ghost use Rattle.gabc_score.specs.machine.PartKeeps.{in_text, PartKeeps};
-ghost use Rattle.gabc_score.specs.machine.SyllableBuilder.{nothing_open};
+ghost use Rattle.gabc_body.specs.witness.SyllableBuilder.{nothing_open};
 ghost use Rattle.gabc_score.specs.machine.ReadAlone.{is_error_event, BeginsAlone, HasRoomFor, HoldsAlone, IsFree, ReadsAll, ReadsAlone, StandsAlone};
 ghost use Rattle.gabc_score.specs.machine.Resumed.{gathered_after};
 ghost use Rattle.gabc_score.specs.machine.ScoreMachine.{shown, IsInBody, IsScore};
 
-use crate::before::{Before, Preceding};
 use crate::body_stage::{BodyPart, BodyStage};
 use crate::bounds::Bounds;
 use crate::first_sound::FirstSound;
+use crate::preceding::Preceding;
 use crate::score_event::ScoreEvent;
 use crate::score_machine::{ScoreMachine, ScorePart};
 use crate::score_stage::ScoreStage;
 use crate::slot_pair::SlotPair;
 use crate::{machine_laws, stage_laws};
+use gabc_body::Before;
 use gabc_places::{Char, Limits, Memory, Place, Room, Severity};
 use gabc_text::TextStage;
 use std::alloc::AllocError;
-
-impl Before {
-    /// Returns what the syllables before come to.
-    fn preceding(self) -> Preceding
-        ensures { result ≡ preceding_of self }
-    {
-        Preceding {
-            syllables: self.syllables,
-            canonical: self.canonical,
-            spans: self.spans,
-            sounded: self.sounded,
-        }
-    }
-}
 
 impl SlotPair {
     /// Says what stands before the syllable that is read.
@@ -89,7 +76,7 @@ impl ScoreMachine {
         let mut pair = SlotPair::with_limit(memory, limits.syllable as usize)?;
         pair.follow(before);
         let found = Room::in_memory(memory, 9)?;
-        let preceding = before.preceding();
+        let preceding = Preceding::of(before);
         Ok(ScoreMachine {
             limits,
             part: ScorePart::Body,

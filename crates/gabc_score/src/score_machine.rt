@@ -5,22 +5,21 @@ ghost use Rattle.gabc_headers.specs.declared.head_event.HeadEvent.{HeadEvent as 
 ghost use Rattle.gabc_score.specs.declared.body_stage.BodyPart.{BodyPart};
 ghost use Rattle.gabc_score.specs.witness.BodyStage.{running_events_left};
 ghost use Rattle.gabc_places.specs.BoundedList.{Fits};
-ghost use Rattle.gabc_score.specs.ScoreEvents.{outputs_of, Stop, characters_in};
+ghost use Rattle.gabc_body.specs.ScoreEvents.{outputs_of, Stop, characters_in};
 ghost use Rattle.gabc_score.specs.ScoreStage.{GivesOutputs, GivesAt, GivesLast};
 ghost use Rattle.gabc_score.specs.ScoreReports.{before_with, held_of, reading_of};
-ghost use Rattle.gabc_score.specs.Syllable.{unplaced_of};
+ghost use Rattle.gabc_body.specs.Syllable.{unplaced_of};
 ghost use Rattle.gabc_score.specs.witness.ScoreStage.{left_of};
 ghost use Rattle.gabc_score.specs.machine.ScoreStage.{placed_after, begun_score, body_left};
 ghost use Rattle.gabc_score.specs.machine.ScoreMachine.{shown, IsInBody, IsBeforeBody, IsScore, KeepsMemory};
 ghost use Rattle.gabc_score.specs.machine.ReadsChar.{EndsInputs, Gathers, ReadsChar, StandsInBody, StopsWith, TakesInput};
 
-use crate::before::Before;
 use crate::body_stage::{BodyPart, BodyStage};
 use crate::bounds::Bounds;
 use crate::giving::{find_first, give_broken, give_end, give_point, give_stop};
 use crate::score_event::ScoreEvent;
 use crate::slot_pair::{SlotPair, SlotUse};
-use crate::syllable::Syllable;
+use gabc_body::{Before, Syllable};
 use gabc_headers::HeadEvent;
 use gabc_places::{Char, Fault, Finding, Limits, Memory, Place, Room};
 use std::alloc::AllocError;

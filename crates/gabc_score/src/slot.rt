@@ -1,9 +1,7 @@
 //! A syllable that is read in room reserved for it.
 
 use crate::first_sound::{FirstSound, first_sound};
-use crate::slice::slice_of;
-use crate::snippets::{Snippet, Snippets};
-use crate::syllable::{Position, Syllable};
+use gabc_body::{Position, Snippet, Snippets, Syllable};
 use gabc_places::{Memory, Span};
 use gabc_text::{TextPart, TextView};
 use std::alloc::AllocError;
@@ -35,12 +33,12 @@ impl Slot {
     ghost use Rattle.gabc_notes.specs.FirstNoteOrClef.{first_note_or_clef};
     ghost use Rattle.gabc_notes.specs.Items.{items_of};
     ghost use Rattle.gabc_text.specs.BuiltText.{with_part};
-    ghost use Rattle.gabc_score.specs.Body.{empty_snippet};
-    ghost use Rattle.gabc_score.specs.Syllable.{slice, text_at, placed_of, unplaced_of};
+    ghost use Rattle.gabc_body.specs.Body.{empty_snippet};
+    ghost use Rattle.gabc_body.specs.Syllable.{slice, text_at, placed_of, unplaced_of};
     ghost use Rattle.gabc_score.specs.machine.FirstSound.{kind_of};
-    ghost use Rattle.gabc_score.specs.machine.Gatherer.{span_of};
+    ghost use Rattle.gabc_body.specs.witness.Gatherer.{span_of};
     ghost use Rattle.gabc_score.specs.machine.Slot.{placed_in, made_in, FitsKept, FitsPiece, FitsSnippet};
-    ghost use Rattle.gabc_score.specs.machine.SyllableBuilder.{nothing_open, with_kept, past_mark, past_text, past_snippet};
+    ghost use Rattle.gabc_body.specs.witness.SyllableBuilder.{nothing_open, with_kept, past_mark, past_text, past_snippet};
 
     /// Returns a slot in which nothing was read, and reserves room for a syllable of `limit` bytes.
     /// Its kept text lies in `memory`.
@@ -167,7 +165,7 @@ impl Slot {
     pub(crate) fn slice(&self, span: Span) -> &[u8]
         ensures { result.now ≡ slice span self.now.reading.kept }
     {
-        slice_of(self.syllable.kept.as_str(), span)
+        self.syllable.slice(span)
     }
 
     /// Returns which comes first in the snippet of this span, a note or a clef.
@@ -202,7 +200,7 @@ impl Slot {
 
 ghost use Rattle.std.specs.Prelude.{◌≡◌, string_bytes};
 ghost use Rattle.std.specs.String.{string_capacity};
-ghost use Rattle.gabc_score.specs.Syllable.{prefix_of};
+ghost use Rattle.gabc_body.specs.Syllable.{prefix_of};
 
 /// Cuts a text to its first bytes, if a character ends there.
 fn cut_text(kept: &mut String<Memory>, to: usize)

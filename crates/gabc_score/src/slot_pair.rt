@@ -2,13 +2,11 @@
 
 ghost use Rattle.std.specs.Prelude.{◌<◌, ◌^◌};
 ghost use Rattle.std.specs.Prelude.{IfOk};
-ghost use Rattle.gabc_score.specs.machine.SyllableBuilder.{nothing_open};
+ghost use Rattle.gabc_body.specs.witness.SyllableBuilder.{nothing_open};
 
-use crate::canonical::canonical_len;
 use crate::first_sound::FirstSound;
-use crate::kept_text::LentSyllable;
 use crate::slot::Slot;
-use crate::syllables::position_by;
+use gabc_body::{LentSyllable, canonical_len, position_by};
 use gabc_notes::{NoteEnd, NoteEvent};
 use gabc_places::{Code, Fault, Limits, Memory, Place, Span};
 use gabc_text::{Piece, PieceKind, TextEnd, TextEvent, TextPart, TextView};
@@ -103,9 +101,9 @@ impl Model for SlotPair {
 
 impl SlotPair {
     ghost use Rattle.std.specs.Prelude.{◌≡◌, ◌≢◌, ◌||◌, ◌-◌, ◌<◌, ◌≤◌, ◌^◌, nat_lt, take, length, true, false, IfOk};
-    ghost use Rattle.gabc_score.specs.Body.{has_text, is_none};
-    ghost use Rattle.gabc_score.specs.machine.BodyBuilder.{code_in, end_fault};
-    ghost use Rattle.gabc_score.specs.machine.Gatherer.{nothing_gathered, with_mark, with_mark_of, with_text_end, with_text, with_syllable, with_note_end, with_note, with_last, awaits, first_past};
+    ghost use Rattle.gabc_body.specs.Body.{has_text, is_none};
+    ghost use Rattle.gabc_body.specs.witness.BodyBuilder.{code_in, end_fault};
+    ghost use Rattle.gabc_body.specs.witness.Gatherer.{nothing_gathered, with_mark, with_mark_of, with_text_end, with_text, with_syllable, with_note_end, with_note, with_last, awaits, first_past};
     ghost use Rattle.gabc_score.specs.machine.ScoreStage.{placed_after, with_held};
     ghost use Rattle.gabc_score.specs.machine.Slot.{FitsText, FitsNote, FitsKept, FitsSnippet};
     ghost use Rattle.gabc_score.specs.machine.SlotPair.{HasGathered, LendsLast, is_made, used_past, lent_syllables};
@@ -458,8 +456,8 @@ impl SlotPair {
 }
 
 ghost use Rattle.std.specs.Prelude.{◌≡◌};
-ghost use Rattle.gabc_score.specs.Syllable.{is_open_after};
-ghost use Rattle.gabc_score.specs.Body.{has_text};
+ghost use Rattle.gabc_body.specs.Syllable.{is_open_after};
+ghost use Rattle.gabc_body.specs.Body.{has_text};
 ghost use Rattle.gabc_text.specs.TextView.{content_of};
 
 /// Whether a last text is a syllable.

@@ -1,16 +1,14 @@
 //! What two slots report of what was gathered.
 
-use crate::before::Spans;
 use crate::first_sound::FirstSound;
-use crate::kept_text::LentSyllable;
 use crate::slot_pair::{SlotPair, SlotUse};
-use crate::syllable::Syllable;
+use gabc_body::{LentSyllable, Spans, Syllable};
 
 impl SlotPair {
     ghost use Rattle.std.specs.Prelude.{◌≡◌, ◌||◌, not, nat_lt, [], ◌∷◌, length, is_some, false, MatchOption};
-    ghost use Rattle.gabc_score.specs.Canonical.{StandsFrom};
-    ghost use Rattle.gabc_score.specs.Syllable.{placed_of, unplaced_of};
-    ghost use Rattle.gabc_score.specs.Body.{is_none};
+    ghost use Rattle.gabc_body.specs.Canonical.{StandsFrom};
+    ghost use Rattle.gabc_body.specs.Syllable.{placed_of, unplaced_of};
+    ghost use Rattle.gabc_body.specs.Body.{is_none};
     ghost use Rattle.gabc_score.specs.machine.FirstSound.{kind_of};
     ghost use Rattle.gabc_score.specs.machine.Preceded.{spans_of};
     ghost use Rattle.gabc_score.specs.machine.SlotPair.{is_made};

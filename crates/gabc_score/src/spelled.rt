@@ -5,10 +5,9 @@ ghost use Rattle.gabc_score.specs.RegularSyllable.{with_lines};
 ghost use Rattle.gabc_score.specs.SpelledSyllable.{AreToCome, GivesNext, IsSpelling, ToCome, AreTextsOf, first_of};
 ghost use Rattle.gabc_score.specs.machine.Run.{sounds_among, sounds_on_line};
 
-use crate::before::Spans;
 use crate::body_stage::next_line;
 use crate::regular::snippet_len;
-use crate::syllable::Position;
+use gabc_body::{Position, Spans};
 use gabc_notes::first_note_or_clef;
 use gabc_text::translation_from;
 

@@ -3,7 +3,7 @@
 ghost use Rattle.std.specs.Prelude.{◌≡◌, ◌+◌, ◌-◌, ◌<◌, ◌≤◌, ℕ, List, drop, length, nat_lt};
 ghost use Rattle.std.specs.String.Boundary.{IsSplitPoint};
 ghost use Rattle.gabc_score.specs.GivesSyllables.{AreJoined};
-ghost use Rattle.gabc_score.specs.Syllable.{PlacedSyllable};
+ghost use Rattle.gabc_body.specs.Syllable.{PlacedSyllable};
 ghost use Rattle.gabc_score.specs.machine.Run.{HasFront};
 
 use crate::give::Give;

@@ -3,16 +3,13 @@
 ghost use Rattle.std.specs.Prelude.{◌≡◌, ◌+◌, ◌<◌, ◌≤◌, ◌^◌, [], length, IfOk};
 ghost use Rattle.std.specs.Str.{chars};
 ghost use Rattle.gabc_headers.specs.Heads.{body_byte};
-ghost use Rattle.gabc_score.specs.Score.{body_in, with_body, head_fault_by, score_of};
+ghost use Rattle.gabc_body.specs.Score.{body_in, with_body, head_fault_by, score_of};
 
-use crate::body_result::BodyResult;
 use crate::body_stage::BodyStage;
 use crate::build_body::build_body;
 use crate::context::BodyContext;
-use crate::ending::InputEnding;
-use crate::score::Score;
-use crate::syllables::Syllables;
 use crate::text_places::place_past;
+use gabc_body::{BodyResult, InputEnding, Score, Syllables};
 use gabc_headers::{HeadFault, Heads, headers_whole_with_hasher};
 use gabc_places::{Fault, Limits, Memory, Place, Text};
 use std::alloc::{AllocError, Global};

@@ -9,9 +9,9 @@ use Rattle.gabc_notes.specs.Items.{bytes_of, items_of}
 use Rattle.gabc_neumes.specs.InForce.{InForce, ScoreStep, AnItem, clef_of, passed, step_of}
 use Rattle.gabc_neumes.specs.declared.sound.Clef.{Clef}
 use Rattle.gabc_score.specs.Before.{sounds, sounds_in}
-use Rattle.gabc_score.specs.Syllable.{PlacedSyllable, text_at}
-use Rattle.gabc_score.specs.declared.snippets.Snippet.{Snippet}
-use Rattle.gabc_score.specs.declared.syllable.Position.{Position}
+use Rattle.gabc_body.specs.Syllable.{PlacedSyllable, text_at}
+use Rattle.gabc_body.specs.declared.snippets.Snippet.{Snippet}
+use Rattle.gabc_body.specs.declared.syllable.Position.{Position}
 use Rattle.gabc_write.specs.DumpOfSyllables.{first_steps, steps_of_snippet, steps_of_snippets, steps_of_syllable}
 
 -- none of these is a clef

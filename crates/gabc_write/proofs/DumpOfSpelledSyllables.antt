@@ -6,12 +6,12 @@ use Rattle.std.proofs.lemmas.Str.{chars_from_encodes, scalars-chars}
 use lib.Utf8.{scalars, encodes}
 use Rattle.gabc_places.specs.declared.place.Span.{Span}
 use Rattle.gabc_neumes.specs.InForce.{InForce, ScoreStep, passed}
-use Rattle.gabc_score.specs.declared.snippets.Snippet.{Snippet}
+use Rattle.gabc_body.specs.declared.snippets.Snippet.{Snippet}
 use Rattle.gabc_score.specs.declared.spelled.SpelledSyllable.{SpelledSyllable}
-use Rattle.gabc_score.specs.Canonical.{translation_text}
+use Rattle.gabc_body.specs.Canonical.{translation_text}
 use Rattle.gabc_score.specs.RegularSyllable.{canonical_spelled, gap_kept, line_and_text, notes_spelled, with_lines}
 use Rattle.gabc_score.specs.SpelledSyllable.{AreTextsOf, Spells}
-use Rattle.gabc_score.specs.Syllable.{PlacedSyllable}
+use Rattle.gabc_body.specs.Syllable.{PlacedSyllable}
 use Rattle.gabc_write.specs.DumpOfNotes.{last_text}
 use Rattle.gabc_write.specs.DumpOfSyllables.{first_line, first_line_by, first_steps, line_of_text, line_of_translation, lines_of_snippets, lines_of_syllable, lines_on, steps_of_snippet, steps_of_snippets, steps_of_syllable}
 use Rattle.gabc_write.specs.machine.DumpOfTexts.{IsOnLine, line_of_bracketed, lines_of_texts, steps_of_texts}

@@ -6,10 +6,10 @@ use Rattle.std.specs.Fmt.{decimal}
 use Rattle.std.proofs.lemmas.List.Elements.{All-head, All-tail}
 use Rattle.gabc_places.specs.declared.place.Span.{Span}
 use Rattle.gabc_neumes.specs.InForce.{InForce, ScoreStep, steps_of, passed}
-use Rattle.gabc_score.specs.Holding.{HasWholeSnippets}
-use Rattle.gabc_score.specs.Syllable.{UnplacedSyllable, PlacedSyllable, slice, text_at}
-use Rattle.gabc_score.specs.declared.snippets.Snippet.{Snippet}
-use Rattle.gabc_score.specs.declared.syllable.Position.{Position}
+use Rattle.gabc_body.specs.Holding.{HasWholeSnippets}
+use Rattle.gabc_body.specs.Syllable.{UnplacedSyllable, PlacedSyllable, slice, text_at}
+use Rattle.gabc_body.specs.declared.snippets.Snippet.{Snippet}
+use Rattle.gabc_body.specs.declared.syllable.Position.{Position}
 use Rattle.gabc_write.specs.DumpOfNotes.{last_text, lines_of_notes}
 use Rattle.gabc_write.specs.DumpOfNabc.{lines_of_nabc}
 use Rattle.gabc_write.specs.DumpOfSyllables.{position_word, line_of_text, line_of_translation, first_steps, steps_of_snippet, steps_of_snippets, steps_of_syllable, lines_of_snippet, lines_of_snippets, lines_of_syllable, lines_of_syllables, HaveOneDump}

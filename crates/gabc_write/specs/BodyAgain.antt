@@ -5,12 +5,12 @@ use Rattle.gabc_places.specs.declared.place.Char.{Char}
 use Rattle.gabc_places.specs.Place.{placed_characters_from}
 use Rattle.gabc_text.specs.Events.{codes_of}
 use Rattle.gabc_text.specs.ViewFacts.{ViewFacts, view_facts}
-use Rattle.gabc_score.specs.Events.{texts_by_definition}
-use Rattle.gabc_score.specs.Units.{BodyUnit, LastUnit, JustText, IsCut}
-use Rattle.gabc_score.specs.SyllablesOfUnits.{ScoreUnit, characters_from, last_units}
-use Rattle.gabc_score.specs.declared.snippets.Snippet.{Snippet}
-use Rattle.gabc_score.specs.Syllable.{PlacedSyllable, slice}
-use Rattle.gabc_score.specs.Canonical.{canonical_in_place}
+use Rattle.gabc_body.specs.Events.{texts_by_definition}
+use Rattle.gabc_body.specs.Units.{BodyUnit, LastUnit, JustText, IsCut}
+use Rattle.gabc_body.specs.SyllablesOfUnits.{ScoreUnit, characters_from, last_units}
+use Rattle.gabc_body.specs.declared.snippets.Snippet.{Snippet}
+use Rattle.gabc_body.specs.Syllable.{PlacedSyllable, slice}
+use Rattle.gabc_body.specs.Canonical.{canonical_in_place}
 use Rattle.gabc_write.specs.CanonicalFile.{canonical_text_of}
 use Rattle.gabc_write.specs.PlainText.{IsText, AreUnitTexts}
 use Rattle.gabc_write.specs.SyllableAgain.{printed_syllable, kept_snippets, AreSnippets, SaysAgain}

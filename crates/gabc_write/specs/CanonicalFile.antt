@@ -2,8 +2,8 @@
 use Rattle.std.specs.Prelude.{ℕ, List, ◌++◌, codes, encode_utf8_all}
 use Rattle.std.specs.List.{flat_map}
 use Rattle.gabc_headers.specs.Canonical.{canonical_heads}
-use Rattle.gabc_score.specs.Syllable.{PlacedSyllable}
-use Rattle.gabc_score.specs.Canonical.{canonical_in_place}
+use Rattle.gabc_body.specs.Syllable.{PlacedSyllable}
+use Rattle.gabc_body.specs.Canonical.{canonical_in_place}
 
 -- the canonical texts of the syllables
 abbrev pub canonical_text_of : List PlacedSyllable → List ℕ

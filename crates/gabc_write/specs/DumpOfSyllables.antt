@@ -5,11 +5,11 @@ use Rattle.std.specs.Fmt.{decimal}
 use Rattle.gabc_places.specs.declared.place.Span.{Span}
 use Rattle.gabc_neumes.specs.InForce.{InForce, ScoreStep, WordStart, nothing_in_force, steps_of, passed}
 use Rattle.gabc_text.specs.Canonical.{canonical_text}
-use Rattle.gabc_score.specs.Canonical.{starts_word}
-use Rattle.gabc_score.specs.Syllable.{PlacedSyllable, slice, text_at}
-use Rattle.gabc_score.specs.declared.snippets.Snippet.{Snippet}
-use Rattle.gabc_score.specs.declared.syllable.Position.{Position}
-use Rattle.gabc_score.specs.declared.syllable.Position.TheVariants.{One, Beginning, Middle, End}
+use Rattle.gabc_body.specs.Canonical.{starts_word}
+use Rattle.gabc_body.specs.Syllable.{PlacedSyllable, slice, text_at}
+use Rattle.gabc_body.specs.declared.snippets.Snippet.{Snippet}
+use Rattle.gabc_body.specs.declared.syllable.Position.{Position}
+use Rattle.gabc_body.specs.declared.syllable.Position.TheVariants.{One, Beginning, Middle, End}
 use Rattle.gabc_write.specs.DumpLines.{dump_heads, end_line}
 use Rattle.gabc_write.specs.DumpOfNotes.{last_text, lines_of_notes}
 use Rattle.gabc_write.specs.DumpOfNabc.{lines_of_nabc}

@@ -6,8 +6,8 @@ use Rattle.gabc_headers.specs.Canonical.{canonical_heads}
 use Rattle.gabc_headers.specs.Heads.{heads_of}
 use Rattle.gabc_headers.specs.HeadsAgain.{heads_again}
 use Rattle.gabc_text.specs.Events.{codes_of}
-use Rattle.gabc_score.specs.Units.{BodyUnit, JustText}
-use Rattle.gabc_score.specs.SyllablesOfUnits.{last_units, IsBodyCut}
+use Rattle.gabc_body.specs.Units.{BodyUnit, JustText}
+use Rattle.gabc_body.specs.SyllablesOfUnits.{last_units, IsBodyCut}
 use Rattle.gabc_places.specs.declared.place.Char.{Char}
 use Rattle.gabc_write.specs.BodyAgain.{SyllableFacts, printed_body, SayAgain}
 

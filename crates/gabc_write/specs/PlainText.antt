@@ -2,7 +2,7 @@
 use Rattle.std.specs.Prelude.{◌≢◌, ℕ, List, [], ◌∷◌}
 use Rattle.std.specs.Char.{IsScalar}
 use Rattle.std.specs.List.{All}
-use Rattle.gabc_score.specs.SyllablesOfUnits.{ScoreUnit}
+use Rattle.gabc_body.specs.SyllablesOfUnits.{ScoreUnit}
 
 -- each character is a Unicode scalar value, and none is a CR or a U+FEFF
 pub record IsText (t : List ℕ) : Type 0 where

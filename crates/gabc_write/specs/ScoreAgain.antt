@@ -5,11 +5,11 @@ use Rattle.gabc_places.specs.Text.{decoded_of}
 use Rattle.std.specs.List.{All}
 use Rattle.gabc_notes.specs.ReadAgain.{IsWarning}
 use Rattle.gabc_headers.specs.Book.{nabc_lines_of}
-use Rattle.gabc_score.specs.declared.ending.InputEnding.TheVariants.{Whole}
-use Rattle.gabc_score.specs.declared.score.Score.{Score}
-use Rattle.gabc_score.specs.Score.{score_of}
-use Rattle.gabc_score.specs.Syllable.{PlacedSyllable}
-use Rattle.gabc_score.specs.SyllablesOfUnits.{ScoreUnit, AreSyllablesOf}
+use Rattle.gabc_body.specs.declared.ending.InputEnding.TheVariants.{Whole}
+use Rattle.gabc_body.specs.declared.score.Score.{Score}
+use Rattle.gabc_body.specs.Score.{score_of}
+use Rattle.gabc_body.specs.Syllable.{PlacedSyllable}
+use Rattle.gabc_body.specs.SyllablesOfUnits.{ScoreUnit, AreSyllablesOf}
 use Rattle.gabc_write.specs.BodyAgain.{SyllableFacts, AreSyllables, FirstBeginsWord, AreFactsOf, ArePrintedTexts}
 use Rattle.gabc_write.specs.CanonicalFile.{score_text}
 use Rattle.gabc_write.specs.FileAgain.{printed_file, IsFileAgain}

@@ -11,14 +11,14 @@ use Rattle.gabc_text.specs.Printed.{print, text_tokens, translation_tokens, text
 use Rattle.gabc_text.specs.Events.{codes_of}
 use Rattle.gabc_notes.specs.SnippetRead.{findings_of}
 use Rattle.gabc_notes.specs.ReadAgain.{IsWarning}
-use Rattle.gabc_score.specs.declared.snippets.Snippet.{Snippet}
-use Rattle.gabc_score.specs.Syllable.{UnplacedSyllable, slice}
-use Rattle.gabc_score.specs.Canonical.{canonical}
-use Rattle.gabc_score.specs.Events.{texts_by_definition, text_from, next_line, after_mark}
-use Rattle.gabc_score.specs.Units.{EndedPart, BodyUnit, LastUnit, last_characters, units_pieces, Cuts}
-use Rattle.gabc_score.specs.FoundInParts.{snippet_events}
-use Rattle.gabc_score.specs.Holding.{IsSnippetOf, kept_on_line}
-use Rattle.gabc_score.specs.SyllablesOfUnits.{ScoreUnit, with_ends, snippets_in, characters_in, characters_from, score_unit}
+use Rattle.gabc_body.specs.declared.snippets.Snippet.{Snippet}
+use Rattle.gabc_body.specs.Syllable.{UnplacedSyllable, slice}
+use Rattle.gabc_body.specs.Canonical.{canonical}
+use Rattle.gabc_body.specs.Events.{texts_by_definition, text_from, next_line, after_mark}
+use Rattle.gabc_body.specs.Units.{EndedPart, BodyUnit, LastUnit, last_characters, units_pieces, Cuts}
+use Rattle.gabc_body.specs.FoundInParts.{snippet_events}
+use Rattle.gabc_body.specs.Holding.{IsSnippetOf, kept_on_line}
+use Rattle.gabc_body.specs.SyllablesOfUnits.{ScoreUnit, with_ends, snippets_in, characters_in, characters_from, score_unit}
 use Rattle.gabc_write.specs.PlainText.{IsText}
 
 -- ---- what is printed

@@ -6,9 +6,9 @@ use Rattle.gabc_text.specs.declared.styles.Style.{Style}
 use Rattle.gabc_text.specs.declared.view.Piece.{Piece}
 use Rattle.gabc_text.specs.declared.view.PieceKind.{PieceKind}
 use Rattle.gabc_text.specs.Canonical.{listed_styles, canonical_text}
-use Rattle.gabc_score.specs.declared.snippets.Snippet.{Snippet}
-use Rattle.gabc_score.specs.declared.syllable.Position.{Position}
-use Rattle.gabc_score.specs.Syllable.{PlacedSyllable, slice}
+use Rattle.gabc_body.specs.declared.snippets.Snippet.{Snippet}
+use Rattle.gabc_body.specs.declared.syllable.Position.{Position}
+use Rattle.gabc_body.specs.Syllable.{PlacedSyllable, slice}
 
 -- a piece of its text, in bytes
 pub record PieceMeaning : Type 0 where

@@ -2,9 +2,9 @@
 
 ghost use Rattle.std.specs.Prelude.{◌≡◌, ◌≤◌, ◌<◌, ◌+◌, ◌*◌, ◌^◌, ℕ, length, true};
 ghost use Rattle.gabc_neumes.specs.InForce.{InForce};
-ghost use Rattle.gabc_score.specs.Canonical.{canonical, starts_word};
+ghost use Rattle.gabc_body.specs.Canonical.{canonical, starts_word};
 ghost use Rattle.gabc_score.specs.NoNotes.{has_no_notes};
-ghost use Rattle.gabc_score.specs.Syllable.{PlacedSyllable};
+ghost use Rattle.gabc_body.specs.Syllable.{PlacedSyllable};
 ghost use Rattle.gabc_write.specs.DumpOfSyllables.{lines_of_syllable};
 
 /// Law: the lines of a syllable in a dump whose notes are one empty snippet of GABC are at most 2

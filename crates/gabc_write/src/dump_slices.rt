@@ -3,9 +3,9 @@
 ghost use Rattle.std.specs.Prelude.{◌≡◌, ◌≤◌, ◌+◌, ◌*◌, ◌<◌, ℕ, List, length};
 ghost use Rattle.std.specs.List.{All};
 ghost use Rattle.gabc_neumes.specs.InForce.{passed};
-ghost use Rattle.gabc_score.specs.Canonical.{canonical_in_place};
+ghost use Rattle.gabc_body.specs.Canonical.{canonical_in_place};
 ghost use Rattle.gabc_score.specs.SpelledSyllable.{IsSpelling, Spells, ToCome, AreTextsOf};
-ghost use Rattle.gabc_score.specs.Syllable.{PlacedSyllable};
+ghost use Rattle.gabc_body.specs.Syllable.{PlacedSyllable};
 ghost use Rattle.gabc_write.specs.DumpOfSyllables.{line_of_text, lines_of_syllable, steps_of_syllable};
 ghost use Rattle.gabc_write.specs.machine.DumpOfTexts.{line_of_bracketed, lines_of_texts, steps_of_texts, IsOnLine};
 

@@ -4,8 +4,8 @@ ghost use Rattle.std.specs.Prelude.{◌≡◌, ◌≤◌, ◌<◌, ◌+◌, ◌-
 ghost use Rattle.gabc_neumes.specs.InForce.{passed};
 ghost use Rattle.gabc_text.specs.Canonical.{canonical_text};
 ghost use Rattle.gabc_text.specs.TextView.{content_of};
-ghost use Rattle.gabc_score.specs.Syllable.{placed_of, unplaced_of};
-ghost use Rattle.gabc_score.specs.Canonical.{canonical, starts_word};
+ghost use Rattle.gabc_body.specs.Syllable.{placed_of, unplaced_of};
+ghost use Rattle.gabc_body.specs.Canonical.{canonical, starts_word};
 ghost use Rattle.gabc_write.specs.DumpOfSyllables.{position_word, first_line_by, line_of_text, line_of_translation, first_steps, steps_on, steps_of_snippets, steps_of_syllable, lines_on, lines_of_snippets, lines_of_syllable};
 ghost use Rattle.gabc_write.specs.machine.FirstLine.{words_of_spans};
 

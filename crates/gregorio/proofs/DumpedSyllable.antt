@@ -3,10 +3,10 @@ use Rattle.std.proofs.Common.{◌≡◌, ℕ, ◌+◌, ◌*◌, ◌-◌, ◌≤�
 use Rattle.gabc_places.specs.BoundedList.{BoundedList, Fits, extended_by}
 use Rattle.gabc_places.specs.Put.{filled_with}
 use Rattle.gabc_neumes.specs.InForce.{InForce, passed}
-use Rattle.gabc_score.specs.Canonical.{canonical_in_place}
+use Rattle.gabc_body.specs.Canonical.{canonical_in_place}
 use Rattle.gabc_score.specs.NoNotes.{has_no_notes}
-use Rattle.gabc_score.specs.ScoreEvents.{Syllable}
-use Rattle.gabc_score.specs.Syllable.{PlacedSyllable}
+use Rattle.gabc_body.specs.ScoreEvents.{Syllable}
+use Rattle.gabc_body.specs.Syllable.{PlacedSyllable}
 use Rattle.gabc_write.specs.DumpOfSyllables.{lines_of_syllable, steps_of_syllable}
 use Rattle.gregorio_jobs.specs.declared.job.Format.{Format}
 use Rattle.gregorio_jobs.specs.declared.job.Format.TheVariants.{Dump}

@@ -19,12 +19,12 @@ use Rattle.gabc_headers.specs.Heads.{heads_of}
 use Rattle.gabc_headers.specs.HeadEvents.{emitted_by, inputs_after}
 use Rattle.gabc_headers.specs.witness.HeadEvents.{events_left, fresh_stage, reading, stage_past}
 use Rattle.gabc_score.specs.witness.BodyStage.{texts_by_stage}
-use Rattle.gabc_score.specs.Events.{texts_by_definition}
-use Rattle.gabc_score.specs.declared.ending.InputEnding.{InputEnding}
-use Rattle.gabc_score.specs.declared.ending.InputEnding.TheVariants as score_ending
-use Rattle.gabc_score.specs.declared.score.Score.{Score}
-use Rattle.gabc_score.specs.Score.{score_of, score_by}
-use Rattle.gabc_score.specs.ScoreEvents.{ScoreOutput, findings_in, syllables_in, fault_in, has_end, head_events, outputs_of_text, score_outputs, is_whole as is_whole_score}
+use Rattle.gabc_body.specs.Events.{texts_by_definition}
+use Rattle.gabc_body.specs.declared.ending.InputEnding.{InputEnding}
+use Rattle.gabc_body.specs.declared.ending.InputEnding.TheVariants as score_ending
+use Rattle.gabc_body.specs.declared.score.Score.{Score}
+use Rattle.gabc_body.specs.Score.{score_of, score_by}
+use Rattle.gabc_body.specs.ScoreEvents.{ScoreOutput, findings_in, syllables_in, fault_in, has_end, head_events, outputs_of_text, score_outputs, is_whole as is_whole_score}
 use Rattle.gabc_score.specs.ScoreStage.{AreCountsBelow}
 use Rattle.gabc_score.specs.witness.ScoreStage.{ScoreStageState, left_of}
 use Rattle.gregorio_jobs.specs.declared.job.Job.{Job}

@@ -10,10 +10,10 @@ use Rattle.gabc_headers.specs.declared.heads.HeadFault.{HeadFault}
 use Rattle.gabc_headers.specs.declared.head_event.HeadEvent.{HeadEvent}
 use Rattle.gabc_headers.specs.declared.head_event.HeadEvent.TheVariants as head_event
 use Rattle.gabc_headers.specs.HeadEvents.{event_of_book}
-use Rattle.gabc_score.specs.Events.{Texts}
-use Rattle.gabc_score.specs.declared.ending.InputEnding.{InputEnding}
-use Rattle.gabc_score.specs.Score.{score_by}
-use Rattle.gabc_score.specs.ScoreEvents.{ScoreOutput, Found, Stop, Syllable, End, score_outputs, stop_events, head_events_by, is_last}
+use Rattle.gabc_body.specs.Events.{Texts}
+use Rattle.gabc_body.specs.declared.ending.InputEnding.{InputEnding}
+use Rattle.gabc_body.specs.Score.{score_by}
+use Rattle.gabc_body.specs.ScoreEvents.{ScoreOutput, Found, Stop, Syllable, End, score_outputs, stop_events, head_events_by, is_last}
 use Rattle.gregorio.specs.Outcome.{shown_line, is_error_finding}
 use Rattle.gregorio.specs.Streams.{Streams, after_bytes, heads_text}
 use Rattle.gregorio.specs.witness.Engine.{Written, is_heads, streams_from, streams_in, text_of_heads}

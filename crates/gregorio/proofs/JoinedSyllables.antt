@@ -1,10 +1,10 @@
 -- Syllables that are written joined, in canonical form.
 use Rattle.std.proofs.Common.{◌≡◌, ℕ, suc, ◌-◌, ◌^◌, ◌≤◌, Bool, true, List, [], ◌∷◌, ◌++◌, length, map, arith, sym, ap, ◌∙◌, append_assoc, append-nil}
 use Rattle.gabc_places.specs.StageLaw.{concat_of}
-use Rattle.gabc_score.specs.Canonical.{canonical_in_place}
+use Rattle.gabc_body.specs.Canonical.{canonical_in_place}
 use Rattle.gabc_score.specs.GivesSyllables.{AreJoined, spelled_canonical}
-use Rattle.gabc_score.specs.ScoreEvents.{Syllable}
-use Rattle.gabc_score.specs.Syllable.{PlacedSyllable}
+use Rattle.gabc_body.specs.ScoreEvents.{Syllable}
+use Rattle.gabc_body.specs.Syllable.{PlacedSyllable}
 use Rattle.gregorio_jobs.specs.declared.job.Format.TheVariants.{Gabc}
 use Rattle.gregorio.specs.machine.OutputsOfARun.{one_then, past_none}
 use Rattle.gregorio.specs.machine.RunWriter.{RunWriterState, outputs_of_syllables, past_output, past_syllables, with_joined}

@@ -8,8 +8,8 @@ use Rattle.gabc_places.specs.LargerLimits.{AreNoLess}
 use Rattle.gabc_places.specs.Place.{place_after}
 use Rattle.gabc_places.specs.Text.{decoded_of, stop_code_of, tail_of, text_of_bytes}
 use Rattle.gabc_headers.specs.TooLong.{is_stopped_too_long}
-use Rattle.gabc_score.specs.declared.ending.InputEnding as score
-use Rattle.gabc_score.specs.Score.{score_of}
+use Rattle.gabc_body.specs.declared.ending.InputEnding as score
+use Rattle.gabc_body.specs.Score.{score_of}
 use Rattle.gregorio.specs.declared.source_ending.SourceEnding.{SourceEnding}
 use Rattle.gregorio.specs.Outcome.{is_whole, outcome_of}
 

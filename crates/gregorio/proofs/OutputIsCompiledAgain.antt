@@ -12,11 +12,11 @@ use Rattle.gabc_places.specs.declared.decoded.Decoded.{Decoded}
 use Rattle.gabc_places.specs.Code.{severity_of}
 use Rattle.gabc_places.specs.Text.{text_of_bytes, decoded_of}
 use Rattle.gabc_places.specs.declared.severity.Severity.TheVariants.{Warning}
-use Rattle.gabc_score.specs.declared.ending.InputEnding as score
-use Rattle.gabc_score.specs.declared.ending.InputEnding.TheVariants.{Whole as WholeInput}
-use Rattle.gabc_score.specs.Holding.{HasWholeSnippets}
-use Rattle.gabc_score.specs.Score.{score_of}
-use Rattle.gabc_score.specs.Syllable.{PlacedSyllable}
+use Rattle.gabc_body.specs.declared.ending.InputEnding as score
+use Rattle.gabc_body.specs.declared.ending.InputEnding.TheVariants.{Whole as WholeInput}
+use Rattle.gabc_body.specs.Holding.{HasWholeSnippets}
+use Rattle.gabc_body.specs.Score.{score_of}
+use Rattle.gabc_body.specs.Syllable.{PlacedSyllable}
 use Rattle.gabc_write.specs.CanonicalFile.{score_text}
 use Rattle.gabc_neumes.specs.InForce.{InForce, nothing_in_force}
 use Rattle.gabc_write.specs.DumpOfSyllables.{lines_of_syllables, dump_text}

@@ -7,10 +7,10 @@ use Rattle.gabc_score.specs.declared.score_event.BorrowedSyllable.{BorrowedSylla
 use Rattle.gabc_score.specs.declared.score_event.BorrowedSyllable.TheVariants.{Second}
 use Rattle.gabc_score.specs.declared.score_event.ScoreEvent.{ScoreEvent}
 use Rattle.gabc_score.specs.declared.score_event.ScoreEvent.TheVariants as event
-use Rattle.gabc_score.specs.ScoreEvents.{ScoreOutput, Found, Stop, Syllable, End, syllables_in}
+use Rattle.gabc_body.specs.ScoreEvents.{ScoreOutput, Found, Stop, Syllable, End, syllables_in}
 use Rattle.gabc_score.specs.ScoreStage.{events_borrowed, events_of, is_last_event, events_left}
 use Rattle.gabc_score.specs.witness.ScoreStage.{ScoreStageState, left_of}
-use Rattle.gabc_score.specs.Syllable.{PlacedSyllable}
+use Rattle.gabc_body.specs.Syllable.{PlacedSyllable}
 use Rattle.gregorio.specs.machine.ScoreWriter.{outputs_of_events}
 use Rattle.gregorio.proofs.StreamsOfOutputs.{EndsAtLast, no_item}
 

@@ -2,7 +2,7 @@
 use Rattle.std.proofs.Common.{◌≡◌, List, [], ◌∷◌, arith}
 use Rattle.gabc_headers.specs.declared.head_event.HeadEvent.{HeadEvent}
 use Rattle.gabc_score.specs.declared.score_machine.ScorePart.TheVariants as score_part
-use Rattle.gabc_score.specs.ScoreEvents.{ScoreOutput}
+use Rattle.gabc_body.specs.ScoreEvents.{ScoreOutput}
 use Rattle.gabc_score.specs.witness.ScoreStage.{ScoreStageState, left_of}
 use Rattle.gregorio.specs.machine.InStep.{given_in_heads}
 

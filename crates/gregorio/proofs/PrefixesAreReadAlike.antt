@@ -6,14 +6,14 @@ use Rattle.gabc_places.specs.declared.decoded.Decoded.{Decoded}
 use Rattle.gabc_places.specs.declared.limits.Limits.{Limits}
 use Rattle.gabc_places.specs.declared.place.Char.{Char}
 use Rattle.gabc_places.specs.Text.{decoded_of, text_of_bytes}
-use Rattle.gabc_score.specs.declared.ending.InputEnding.{InputEnding}
-use Rattle.gabc_score.specs.declared.ending.InputEnding.TheVariants.{Whole as WholeInput}
+use Rattle.gabc_body.specs.declared.ending.InputEnding.{InputEnding}
+use Rattle.gabc_body.specs.declared.ending.InputEnding.TheVariants.{Whole as WholeInput}
 use Rattle.gabc_headers.specs.Book.{nabc_lines_of, macros_of}
-use Rattle.gabc_score.specs.Events.{Texts, texts_by_definition}
-use Rattle.gabc_score.specs.Score.{score_of}
-use Rattle.gabc_score.specs.SyllablesOfUnits.{body_characters, whole_prefix, IsBodyCut, AreBeforeBodyStop}
-use Rattle.gabc_score.specs.Syllable.{PlacedSyllable}
-use Rattle.gabc_score.specs.Units.{BodyCutting, IsCut}
+use Rattle.gabc_body.specs.Events.{Texts, texts_by_definition}
+use Rattle.gabc_body.specs.Score.{score_of}
+use Rattle.gabc_body.specs.SyllablesOfUnits.{body_characters, whole_prefix, IsBodyCut, AreBeforeBodyStop}
+use Rattle.gabc_body.specs.Syllable.{PlacedSyllable}
+use Rattle.gabc_body.specs.Units.{BodyCutting, IsCut}
 use Rattle.gabc_write.specs.DumpLines.{end_line}
 use Rattle.gregorio_jobs.specs.declared.job.Format.TheVariants.{Gabc, Dump}
 use Rattle.gregorio.specs.declared.outcome.Outcome.{Outcome}

@@ -8,11 +8,11 @@ use Rattle.gabc_places.specs.declared.limits.Limits.{Limits}
 use Rattle.gabc_headers.specs.declared.head_event.HeadEvent.{HeadEvent}
 use Rattle.gabc_headers.specs.declared.head_event.HeadEvent.TheVariants as head_event
 use Rattle.gabc_score.specs.NoNotes.{OnlyFirstHasNotes, has_no_notes}
-use Rattle.gabc_score.specs.Syllable.{PlacedSyllable}
+use Rattle.gabc_body.specs.Syllable.{PlacedSyllable}
 use Rattle.gabc_score.specs.declared.score_machine.ScorePart.{ScorePart}
 use Rattle.gabc_score.specs.declared.score_machine.ScorePart.TheVariants as score_part
 use Rattle.gabc_score.specs.witness.ScoreStage.{ScoreStageState, left_of}
-use Rattle.gabc_score.specs.ScoreEvents.{ScoreOutput, Found, Stop, Syllable, End, is_last, syllables_in}
+use Rattle.gabc_body.specs.ScoreEvents.{ScoreOutput, Found, Stop, Syllable, End, is_last, syllables_in}
 use Rattle.gregorio_jobs.specs.declared.job.Format.{Format}
 use Rattle.gabc_score.specs.ScoreStage.{Lends, is_final, most_borrowed, part_past}
 use Rattle.gregorio.specs.witness.Engine.{first_list}

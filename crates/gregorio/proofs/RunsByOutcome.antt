@@ -7,9 +7,9 @@ use Rattle.gabc_places.specs.declared.limits.Limits.{Limits}
 use Rattle.gabc_places.specs.declared.code.Fault.{Fault}
 use Rattle.gabc_places.specs.declared.decoded.Decoded.{Decoded}
 use Rattle.gabc_places.specs.Text.{decoded_of}
-use Rattle.gabc_score.specs.declared.ending.InputEnding as score
-use Rattle.gabc_score.specs.declared.score.Score.{Score}
-use Rattle.gabc_score.specs.Score.{score_of}
+use Rattle.gabc_body.specs.declared.ending.InputEnding as score
+use Rattle.gabc_body.specs.declared.score.Score.{Score}
+use Rattle.gabc_body.specs.Score.{score_of}
 use Rattle.gregorio.specs.declared.source_ending.SourceEnding.{SourceEnding}
 use Rattle.gregorio.specs.declared.source_ending.SourceEnding.TheVariants.{Whole as Ended, Broken}
 use Rattle.gregorio_jobs.specs.declared.job.Job.{Job}

@@ -6,8 +6,8 @@ use Rattle.gabc_places.specs.declared.place.Place.{Place}
 use Rattle.gabc_places.specs.TextOfAnInput.{IsText}
 use Rattle.gabc_score.proofs.runs.RunGoesOn.{few_characters}
 use Rattle.gabc_score.specs.HeldAgain.{IsOneSyllable}
-use Rattle.gabc_score.specs.Syllable.{UnplacedSyllable}
-use Rattle.gabc_score.specs.declared.before.Spans.{Spans}
+use Rattle.gabc_body.specs.Syllable.{UnplacedSyllable}
+use Rattle.gabc_body.specs.declared.before.Spans.{Spans}
 use Rattle.gregorio_state.specs.Conditions.{ArePhaseFields, AreScoreFields}
 use Rattle.gregorio_state.specs.Fields.{InScore, ScoreFields, StateFields}
 use Rattle.gregorio.specs.SavedState.{IsHeldRead, IsKeptRead, IsScoreRead, ReportsLimits}

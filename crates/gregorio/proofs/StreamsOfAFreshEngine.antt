@@ -8,17 +8,17 @@ use Rattle.gabc_places.specs.declared.limits.Limits.{Limits}
 use Rattle.gabc_headers.specs.declared.heads.Heads.{Heads}
 use Rattle.gabc_headers.specs.declared.heads.HeadFault.{HeadFault}
 use Rattle.gabc_neumes.specs.InForce.{InForce, nothing_in_force}
-use Rattle.gabc_score.specs.Canonical.{canonical_in_place}
-use Rattle.gabc_score.specs.declared.ending.InputEnding.{InputEnding}
-use Rattle.gabc_score.specs.declared.ending.InputEnding.TheVariants as score_ending
-use Rattle.gabc_score.specs.declared.score.Score.{Score}
+use Rattle.gabc_body.specs.Canonical.{canonical_in_place}
+use Rattle.gabc_body.specs.declared.ending.InputEnding.{InputEnding}
+use Rattle.gabc_body.specs.declared.ending.InputEnding.TheVariants as score_ending
+use Rattle.gabc_body.specs.declared.score.Score.{Score}
 use Rattle.gabc_places.specs.declared.place.Char.{Char}
-use Rattle.gabc_score.specs.Score.{score_by}
-use Rattle.gabc_score.specs.Body.{body_of}
-use Rattle.gabc_score.specs.declared.events.BodyEvent.{BodyEvent}
+use Rattle.gabc_body.specs.Score.{score_by}
+use Rattle.gabc_body.specs.Body.{body_of}
+use Rattle.gabc_body.specs.declared.events.BodyEvent.{BodyEvent}
 use Rattle.gabc_places.specs.declared.place.Place.{Place}
-use Rattle.gabc_score.specs.ScoreEvents.{ScoreOutput, findings_in, syllables_in, fault_in, has_end, is_whole as is_whole_score}
-use Rattle.gabc_score.specs.Syllable.{PlacedSyllable}
+use Rattle.gabc_body.specs.ScoreEvents.{ScoreOutput, findings_in, syllables_in, fault_in, has_end, is_whole as is_whole_score}
+use Rattle.gabc_body.specs.Syllable.{PlacedSyllable}
 use Rattle.gabc_write.specs.DumpOfSyllables.{lines_of_syllable, lines_of_syllables}
 use Rattle.gregorio_jobs.specs.declared.job.Format.{Format}
 use Rattle.gregorio_jobs.specs.declared.job.Format.TheVariants.{Gabc, Dump}

@@ -3,10 +3,10 @@ use Rattle.std.proofs.Common.{◌≡◌, ℕ, ◌≤◌, List, [], ◌∷◌, le
 use Rattle.std.specs.List.{All}
 use Rattle.std.proofs.lemmas.List.Elements.{All-cons, All-head, All-nil, All-tail}
 use Rattle.gabc_places.specs.declared.limits.Limits.{Limits}
-use Rattle.gabc_score.specs.Canonical.{canonical_in_place}
+use Rattle.gabc_body.specs.Canonical.{canonical_in_place}
 use Rattle.gabc_score.specs.NoNotes.{has_no_notes}
-use Rattle.gabc_score.specs.ScoreEvents.{ScoreOutput, Syllable, syllables_in}
-use Rattle.gabc_score.specs.Syllable.{PlacedSyllable}
+use Rattle.gabc_body.specs.ScoreEvents.{ScoreOutput, Syllable, syllables_in}
+use Rattle.gabc_body.specs.Syllable.{PlacedSyllable}
 use Rattle.gregorio_jobs.specs.declared.job.Format.{Format}
 use Rattle.gabc_score.specs.ScoreStage.{IsWithin}
 use Rattle.gregorio.specs.witness.Engine.{Written, lines_of_output, text_of_output}

@@ -2,7 +2,7 @@
 use Rattle.std.specs.Prelude.{◌≡◌, ◌<◌, ◌≤◌, ◌⊎◌, ℕ, List, [], ◌++◌, length, take, Bool, true, false, Option, is_none}
 use Rattle.gabc_neumes.specs.InForce.{InForce}
 use Rattle.std.specs.List.{All}
-use Rattle.gabc_score.specs.Syllable.{PlacedSyllable}
+use Rattle.gabc_body.specs.Syllable.{PlacedSyllable}
 use Rattle.gabc_write.specs.SyllableRead.{IsWrittenAsOne}
 use Rattle.gabc_places.specs.declared.code.Fault.{Fault}
 use Rattle.gabc_places.specs.declared.limits.Limits.{Limits}

@@ -3,8 +3,8 @@
 use Rattle.std.specs.Prelude.{◌≡◌, ℕ, List, ◌++◌, length, take, true, None}
 use Rattle.gabc_places.specs.declared.limits.Limits.{Limits}
 use Rattle.gabc_places.specs.Text.{decoded_of, text_of_bytes}
-use Rattle.gabc_score.specs.SyllablesOfUnits.{whole_prefix, IsBodyCut, AreBeforeBodyStop}
-use Rattle.gabc_score.specs.Units.{BodyCutting}
+use Rattle.gabc_body.specs.SyllablesOfUnits.{whole_prefix, IsBodyCut, AreBeforeBodyStop}
+use Rattle.gabc_body.specs.Units.{BodyCutting}
 use Rattle.gabc_write.specs.DumpLines.{end_line}
 use Rattle.gregorio_jobs.specs.declared.job.Format.TheVariants.{Gabc, Dump}
 use Rattle.gregorio.specs.declared.outcome.Outcome.{Outcome}

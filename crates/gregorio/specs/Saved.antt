@@ -8,10 +8,10 @@ use Rattle.gabc_places.specs.DecoderReports.{is_after_cr}
 use Rattle.gabc_places.specs.Place.{place_after}
 use Rattle.gabc_places.specs.declared.limits.Limits.{Limits}
 use Rattle.gabc_places.specs.declared.place.Place.{Place}
-use Rattle.gabc_score.specs.Canonical.{canonical}
+use Rattle.gabc_body.specs.Canonical.{canonical}
 use Rattle.gabc_score.specs.ScoreReports.{held_of, is_in_comment, openers_of, reading_of}
-use Rattle.gabc_score.specs.Syllable.{UnplacedSyllable}
-use Rattle.gabc_score.specs.declared.before.Preceding.{Preceding}
+use Rattle.gabc_body.specs.Syllable.{UnplacedSyllable}
+use Rattle.gabc_score.specs.declared.preceding.Preceding.{Preceding}
 use Rattle.gabc_score.specs.witness.ScoreStage.{ScoreStageState}
 use Rattle.gregorio_state.specs.Fields.{PhaseFields, ScoreFields, StateFields, InHeaders, InScore}
 use Rattle.gregorio.specs.Outcome.{is_error_finding}

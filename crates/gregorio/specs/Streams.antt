@@ -6,8 +6,8 @@ use Rattle.gabc_places.specs.declared.code.Fault.{Fault}
 use Rattle.gabc_places.specs.StageLaw.{concat_of}
 use Rattle.gabc_headers.specs.Canonical.{canonical_heads}
 use Rattle.gabc_neumes.specs.InForce.{InForce, passed}
-use Rattle.gabc_score.specs.Canonical.{canonical_in_place}
-use Rattle.gabc_score.specs.Syllable.{PlacedSyllable}
+use Rattle.gabc_body.specs.Canonical.{canonical_in_place}
+use Rattle.gabc_body.specs.Syllable.{PlacedSyllable}
 use Rattle.gabc_write.specs.DumpLines.{dump_heads, end_line}
 use Rattle.gabc_write.specs.DumpOfSyllables.{lines_of_syllable, steps_of_syllable}
 use Rattle.gregorio.specs.declared.outcome.Outcome.{Outcome}

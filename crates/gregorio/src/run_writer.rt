@@ -2,14 +2,14 @@
 
 ghost use Rattle.std.specs.Prelude.{◌≡◌, ◌+◌, ◌*◌, ◌^◌, ◌<◌, ◌≤◌, ℕ, [], IfOk, Some, true, length, string_bytes, encode_utf8_all};
 ghost use Rattle.gabc_headers.specs.Canonical.{canonical_heads};
-ghost use Rattle.gabc_score.specs.Canonical.{canonical_in_place, StandsFrom};
+ghost use Rattle.gabc_body.specs.Canonical.{canonical_in_place, StandsFrom};
 ghost use Rattle.gabc_write.specs.Message.{line_of};
 ghost use Rattle.gabc_places.specs.BoundedList.{Fits};
 ghost use Rattle.gabc_score.specs.GivesSyllables.{spelled_canonical};
-ghost use Rattle.gabc_score.specs.ScoreEvents.{Found, Stop, Syllable as SyllableGiven, End};
+ghost use Rattle.gabc_body.specs.ScoreEvents.{Found, Stop, Syllable as SyllableGiven, End};
 ghost use Rattle.gabc_score.specs.NoNotes.{has_no_notes};
 ghost use Rattle.gabc_score.specs.SpelledSyllable.{AreTextsOf, IsSpelling, Spells};
-ghost use Rattle.gabc_score.specs.Syllable.{PlacedSyllable, placed_of, unplaced_of};
+ghost use Rattle.gabc_body.specs.Syllable.{PlacedSyllable, placed_of, unplaced_of};
 ghost use Rattle.gregorio_jobs.specs.declared.job.Format.TheVariants.{Gabc, Dump};
 ghost use Rattle.gregorio.specs.Streams.{last_text};
 ghost use Rattle.gregorio.specs.Outcome.{shown_line};

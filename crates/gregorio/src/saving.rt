@@ -4,8 +4,8 @@ ghost use Rattle.std.specs.Prelude.{◌≡◌, ◌++◌, ◌+◌, ◌-◌, ◌*�
 ghost use Rattle.std.specs.Option.{option_map, unwrap_or};
 ghost use Rattle.std.specs.Str.{chars};
 ghost use Rattle.gabc_headers.specs.witness.HeadEvents.{IsInHeaders};
-ghost use Rattle.gabc_score.specs.Canonical.{canonical};
-ghost use Rattle.gabc_score.specs.Syllable.{unplaced_of};
+ghost use Rattle.gabc_body.specs.Canonical.{canonical};
+ghost use Rattle.gabc_body.specs.Syllable.{unplaced_of};
 ghost use Rattle.gabc_score.specs.ScoreReports.{held_of};
 ghost use Rattle.gabc_score.specs.declared.score_machine.ScorePart.TheVariants.{Body};
 ghost use Rattle.gregorio_state.specs.Conditions.{AreStateFields};

@@ -8,7 +8,7 @@ ghost use Rattle.gabc_places.specs.Place.{place_past};
 ghost use Rattle.gabc_places.specs.TextOfAnInput.{IsPlain};
 ghost use Rattle.gabc_headers.specs.declared.head_event.HeadEvent.{HeadEvent as HeadItem};
 ghost use Rattle.gabc_score.specs.witness.BodyStage.{texts_by_stage};
-ghost use Rattle.gabc_score.specs.ScoreEvents.{ScoreOutput, score_outputs};
+ghost use Rattle.gabc_body.specs.ScoreEvents.{ScoreOutput, score_outputs};
 ghost use Rattle.gabc_score.specs.ScoreStage.{AreCountsBelow};
 ghost use Rattle.gabc_score.specs.witness.ScoreStage.{left_of};
 ghost use Rattle.gabc_score.specs.declared.score_machine.ScorePart.{ScorePart};

@@ -4,7 +4,7 @@ use Rattle.std.proofs.lemmas.List.{append-nil, map-append}
 use Rattle.std.specs.List.{flat_map}
 use Rattle.gabc_places.specs.declared.code.Fault.{Fault}
 use Rattle.gabc_places.specs.declared.code.Finding.{Finding}
-use Rattle.gabc_score.specs.declared.score.Score.{Score}
+use Rattle.gabc_body.specs.declared.score.Score.{Score}
 use Rattle.gregorio.specs.Outcome.{is_shown, shown_line, fault_line, lines_of}
 use Rattle.gregorio_c.specs.Answers.{stdin_name}
 use Rattle.gregorio_c.specs.Messages.{message_at, shown_message, fault_message, messages_by}

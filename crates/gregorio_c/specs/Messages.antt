@@ -9,7 +9,7 @@ use Rattle.gabc_places.specs.declared.code.Finding.{Finding}
 use Rattle.gabc_places.specs.declared.place.Place.{Place}
 use Rattle.gabc_places.specs.declared.severity.Severity.{Severity}
 use Rattle.gabc_places.specs.declared.severity.Severity.TheVariants.{Warning, Error, Fatal}
-use Rattle.gabc_score.specs.declared.score.Score.{Score}
+use Rattle.gabc_body.specs.declared.score.Score.{Score}
 use Rattle.gregorio.specs.Outcome.{is_shown}
 use Rattle.gregorio_c.specs.declared.message.Message.{Message}
 

@@ -2,6 +2,7 @@
 
 use crate::digest::digest_of;
 use crate::trial::{Trial, try_call};
+use gabc_body::Syllables;
 use gabc_places::{Sequence, Text};
 use gabc_text::{Piece, TextPart, TextView};
 use gregorio::Words;
@@ -112,6 +113,7 @@ fn view_of(alloc: Global, pieces: u8) -> Result<TextView, AllocError> {
 #[derive(Clone, Copy)]
 enum Empty {
     List,
+    Syllables,
     Text,
     View,
     Words,
@@ -121,6 +123,7 @@ impl Trial for Empty {
     fn call(&mut self, alloc: Global) -> Result<u64, AllocError> {
         Ok(match self {
             Empty::List => digest_of(&Sequence::<u64>::new(alloc)),
+            Empty::Syllables => digest_of(&Syllables::new(alloc)),
             Empty::Text => digest_of(&Text::new(alloc)),
             Empty::View => digest_of(&TextView::new(alloc)),
             Empty::Words => digest_of(&Words::new(alloc)),
@@ -135,6 +138,7 @@ impl Trial for Empty {
 /// Tries a call that makes something empty. Returns whether there is such a call.
 fn is_empty_tried(rt: &HostRuntime, name: &str) -> io::Result<bool> {
     let mut empty = match name {
+        "gabc_body::Syllables::new" => Empty::Syllables,
         "gabc_places::Sequence::new" => Empty::List,
         "gabc_places::Text::new" => Empty::Text,
         "gabc_text::TextView::new" => Empty::View,

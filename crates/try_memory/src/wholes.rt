@@ -2,8 +2,9 @@
 
 use crate::digest::digest_of;
 use crate::trial::{Trial, try_call};
+use gabc_body::Syllables;
 use gabc_headers::{headers_whole, headers_whole_with_hasher};
-use gabc_places::{Limits, Text, text_of};
+use gabc_places::{Limits, Memory, Text, text_of};
 use gabc_score::{InputEnding, score_whole, score_whole_with_hasher};
 use gregorio::{Outcome, SourceEnding};
 use std::alloc::{AllocError, Global};
@@ -18,6 +19,7 @@ enum Whole {
     HashedHeaders,
     Score,
     HashedScore,
+    Syllables,
     Outcome,
     HashedOutcome,
 }
@@ -30,6 +32,7 @@ fn named(name: &str) -> Option<Whole> {
         "gabc_headers::headers_whole_with_hasher" => Whole::HashedHeaders,
         "gabc_score::score_whole" => Whole::Score,
         "gabc_score::score_whole_with_hasher" => Whole::HashedScore,
+        "gabc_body::Syllable::copy" | "gabc_body::Syllables::push" => Whole::Syllables,
         "gregorio::Outcome::of" => Whole::Outcome,
         "gregorio::Outcome::of_with_hasher" => Whole::HashedOutcome,
         _ => return None,
@@ -67,6 +70,20 @@ fn hashed_score(alloc: Global, text: &Text) -> Result<u64, AllocError> {
     let hasher = DefaultHasher::new();
     let score = score_whole_with_hasher(alloc, text, InputEnding::Whole, Limits::DEFAULT, hasher)?;
     let digest = digest_of(&score);
+    drop(score);
+    Ok(digest)
+}
+
+/// Returns a digest of the syllables of a text, each of which was copied and added to a list.
+fn syllables(alloc: Global, text: &Text) -> Result<u64, AllocError> {
+    let score = score_whole(alloc, text, InputEnding::Whole, Limits::DEFAULT)?;
+    let memory = Memory::with_capacity(alloc, 0)?;
+    let mut copies = Syllables::new(alloc);
+    for syllable in &score.syllables {
+        copies.push(syllable.copy(&memory)?)?;
+    }
+    let digest = digest_of(&copies);
+    drop(copies);
     drop(score);
     Ok(digest)
 }
@@ -114,6 +131,7 @@ impl Trial for OfScore {
             Whole::HashedHeaders => hashed_headers(alloc, &self.text),
             Whole::Score => score(alloc, &self.text),
             Whole::HashedScore => hashed_score(alloc, &self.text),
+            Whole::Syllables => syllables(alloc, &self.text),
             Whole::Outcome => outcome(alloc, bytes),
             Whole::HashedOutcome => hashed_outcome(alloc, bytes),
         }

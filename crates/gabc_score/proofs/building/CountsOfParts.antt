@@ -11,18 +11,18 @@ use Rattle.gabc_text.specs.PiecesOwed.{pieces_in, PiecesArePaid}
 use Rattle.gabc_notes.specs.declared.stage.NoteEnd.TheVariants as note_end
 use Rattle.gabc_notes.specs.declared.stage.NoteEvent.{NoteEvent}
 use Rattle.gabc_notes.specs.declared.stage.NoteEvent.TheVariants as note
-use Rattle.gabc_score.specs.declared.events.BodyEvent.{BodyEvent}
-use Rattle.gabc_score.specs.declared.events.BodyEvent.TheVariants as event
+use Rattle.gabc_body.specs.declared.events.BodyEvent.{BodyEvent}
+use Rattle.gabc_body.specs.declared.events.BodyEvent.TheVariants as event
 use Rattle.gabc_score.specs.declared.body_stage.BodyPart.{BodyPart}
 use Rattle.gabc_score.specs.declared.body_stage.BodyPart.TheVariants as part
-use Rattle.gabc_score.specs.Events.{after_mark, is_close, note_event}
-use Rattle.gabc_score.specs.Syllable.{prefix_of}
-use Rattle.gabc_score.specs.machine.BodyBuilder.{with_all}
-use Rattle.gabc_score.specs.machine.Gatherer.{Gathered, with_text, with_event, with_snippet}
+use Rattle.gabc_body.specs.Events.{after_mark, is_close, note_event}
+use Rattle.gabc_body.specs.Syllable.{prefix_of}
+use Rattle.gabc_body.specs.witness.BodyBuilder.{with_all}
+use Rattle.gabc_body.specs.witness.Gatherer.{Gathered, with_text, with_event, with_snippet}
 use Rattle.gabc_score.specs.machine.PartCounts.{CountsInNotes, CountsHold, PartGoesOn}
 use Rattle.gabc_score.specs.machine.PartPushes.{EndsLast}
 use Rattle.gabc_score.specs.machine.Slot.{FitsEvent, FitsText, FitEach}
-use Rattle.gabc_score.specs.machine.SyllableBuilder.{OpenSyllable, nothing_open}
+use Rattle.gabc_body.specs.witness.SyllableBuilder.{OpenSyllable, nothing_open}
 use Rattle.gabc_places.specs.declared.place.Char.{Char}
 use Rattle.gabc_text.specs.TextStage.{fresh_stage}
 use Rattle.gabc_score.specs.machine.PartSteps.{IsBounded, PartSteps, SnippetSteps}

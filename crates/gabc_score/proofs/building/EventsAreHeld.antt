@@ -4,12 +4,12 @@ use Rattle.std.proofs.lemmas.List.{drop_more, length-map, map-append, take_more}
 use Rattle.std.proofs.lemmas.List.Folds.{list_any-append}
 use Rattle.gabc_places.specs.BoundedList.{BoundedList}
 use Rattle.gabc_places.specs.declared.code.Finding.{Finding}
-use Rattle.gabc_score.specs.declared.events.BodyEvent.{BodyEvent}
+use Rattle.gabc_body.specs.declared.events.BodyEvent.{BodyEvent}
 use Rattle.gabc_score.specs.declared.slot_pair.SlotUse.{SlotUse}
 use Rattle.gabc_score.specs.declared.slot_pair.SlotUse.TheVariants.{Filling, Lent}
 use Rattle.gabc_score.specs.machine.HoldsEvents.{CanHold, HoldsEvents}
 use Rattle.gabc_score.specs.machine.SlotPair.{SlotPairState, used_by}
-use Rattle.gabc_score.proofs.building.EventsOfOnePoint.{found_then, with_all_append}
+use Rattle.gabc_body.proofs.gathering.EventsOfOnePoint.{found_then, with_all_append}
 use Rattle.gabc_score.proofs.score_events.EventsStayWithinBounds.{found_few}
 
 -- ---- the first of them

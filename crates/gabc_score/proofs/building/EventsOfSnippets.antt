@@ -11,11 +11,11 @@ use Rattle.gabc_text.specs.TextStage.{fresh_stage}
 use Rattle.gabc_notes.specs.declared.stage.NoteEvent.{NoteEvent}
 use Rattle.gabc_score.specs.declared.body_stage.BodyPart.{BodyPart}
 use Rattle.gabc_score.specs.declared.body_stage.BodyPart.TheVariants as part
-use Rattle.gabc_score.specs.declared.events.BodyEvent.{BodyEvent}
-use Rattle.gabc_score.specs.declared.events.BodyEvent.TheVariants as event
+use Rattle.gabc_body.specs.declared.events.BodyEvent.{BodyEvent}
+use Rattle.gabc_body.specs.declared.events.BodyEvent.TheVariants as event
 use Rattle.gabc_score.specs.witness.BodyStage.{BodyStageState, part_with, running_events_left, texts_by_stage}
-use Rattle.gabc_score.specs.Events.{PartAhead, InComment, events_from, events_in, after_mark, is_next, is_close, is_text_end, note_event, next_line, part_after_character, snippet_from, text_from}
-use Rattle.gabc_score.specs.machine.PartKeeps.{text_events}
+use Rattle.gabc_body.specs.Events.{PartAhead, InComment, events_from, events_in, after_mark, is_next, is_close, is_text_end, note_event, next_line, part_after_character, snippet_from, text_from}
+use Rattle.gabc_body.specs.witness.TextEvents.{text_events}
 use Rattle.gabc_score.specs.machine.PartPushes.{Emits}
 use Rattle.gabc_score.specs.machine.PartSteps.{IsBounded, PartSteps, SnippetSteps, TakesChar}
 use Rattle.gabc_score.specs.machine.PartSteps as step

@@ -7,12 +7,12 @@ use Rattle.gabc_text.specs.declared.text_event.TextEvent.{TextEvent}
 use Rattle.gabc_text.specs.witness.Keeps as text
 use Rattle.gabc_score.specs.declared.body_stage.BodyPart.{BodyPart}
 use Rattle.gabc_score.specs.declared.body_stage.BodyPart.TheVariants as part
-use Rattle.gabc_score.specs.Events.{after_mark, is_text_end}
+use Rattle.gabc_body.specs.Events.{after_mark, is_text_end}
 use Rattle.gabc_score.specs.machine.PartKeeps.{in_text}
 use Rattle.gabc_score.specs.machine.PartOpens.{PartEndsLine}
 use Rattle.gabc_score.proofs.building.SnippetsTakeCharacters.{going}
 use Rattle.gabc_score.proofs.building.PartsOfKeptText.{text_goes_on}
-use Rattle.gabc_score.specs.declared.events.BodyEvent.{BodyEvent}
+use Rattle.gabc_body.specs.declared.events.BodyEvent.{BodyEvent}
 use Rattle.gabc_text.proofs.resuming.StagesKeep.{fresh_keeps}
 use Rattle.gabc_text.proofs.resuming.ToldByEvents.{comment_fresh}
 use Rattle.gabc_score.specs.machine.PartSteps.{PartSteps}

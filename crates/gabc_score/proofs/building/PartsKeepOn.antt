@@ -6,8 +6,8 @@ use Rattle.gabc_text.specs.TextStage.{fresh_stage}
 use Rattle.gabc_text.proofs.resuming.StagesKeep.{fresh_keeps}
 use Rattle.gabc_score.specs.declared.body_stage.BodyPart.{BodyPart}
 use Rattle.gabc_score.specs.declared.body_stage.BodyPart.TheVariants as part
-use Rattle.gabc_score.specs.declared.events.BodyEvent.{BodyEvent}
-use Rattle.gabc_score.specs.Events.{after_mark}
+use Rattle.gabc_body.specs.declared.events.BodyEvent.{BodyEvent}
+use Rattle.gabc_body.specs.Events.{after_mark}
 use Rattle.gabc_score.specs.machine.PartKeeps.{PartKeepsOn}
 use Rattle.gabc_score.specs.machine.PartMakes.{PartMakes}
 use Rattle.gabc_score.specs.machine.PartSteps.{PartSteps}

@@ -13,11 +13,12 @@ use Rattle.gabc_notes.specs.SnippetRead.{kept_of}
 use Rattle.gabc_notes.specs.declared.stage.NoteEvent.{NoteEvent}
 use Rattle.gabc_notes.specs.declared.stage.NoteEvent.TheVariants as note
 use Rattle.gabc_score.specs.declared.body_stage.BodyPart.TheVariants as part
-use Rattle.gabc_score.specs.Events.{note_event}
-use Rattle.gabc_score.specs.machine.PartKeeps.{in_text, in_notes, text_events}
+use Rattle.gabc_body.specs.Events.{note_event}
+use Rattle.gabc_score.specs.machine.PartKeeps.{in_text, in_notes}
+use Rattle.gabc_body.specs.witness.TextEvents.{text_events}
 use Rattle.gabc_score.specs.machine.PartOnly.{IsKeptOf, PartKeepsOnly, kept_codes}
 use Rattle.gabc_score.specs.declared.body_stage.BodyPart.{BodyPart}
-use Rattle.gabc_score.specs.declared.events.BodyEvent.{BodyEvent}
+use Rattle.gabc_body.specs.declared.events.BodyEvent.{BodyEvent}
 use Rattle.gabc_text.proofs.resuming.StagesKeep.{fresh_keeps}
 use Rattle.gabc_score.specs.machine.PartSteps.{PartSteps, SnippetSteps}
 use Rattle.gabc_score.specs.machine.PartSteps as step

@@ -18,31 +18,32 @@ use Rattle.gabc_text.specs.witness.SaidInFull.{IsSaidInFull}
 use Rattle.gabc_notes.specs.declared.stage.NoteEnd.TheVariants as note_end
 use Rattle.gabc_notes.specs.declared.stage.NoteEvent.{NoteEvent}
 use Rattle.gabc_notes.specs.declared.stage.NoteEvent.TheVariants as note
-use Rattle.gabc_score.specs.declared.before.Preceding.{Preceding}
-use Rattle.gabc_score.specs.declared.before.Spans.{Spans}
+use Rattle.gabc_score.specs.declared.preceding.Preceding.{Preceding}
+use Rattle.gabc_body.specs.declared.before.Spans.{Spans}
 use Rattle.gabc_score.specs.declared.body_stage.BodyPart.{BodyPart}
 use Rattle.gabc_score.specs.declared.body_stage.BodyPart.TheVariants as part
-use Rattle.gabc_score.specs.declared.events.BodyEvent.{BodyEvent}
-use Rattle.gabc_score.specs.declared.events.BodyEvent.TheVariants as event
+use Rattle.gabc_body.specs.declared.events.BodyEvent.{BodyEvent}
+use Rattle.gabc_body.specs.declared.events.BodyEvent.TheVariants as event
 use Rattle.gabc_score.specs.Before.{with_one, with_each}
-use Rattle.gabc_score.specs.Events.{is_close, is_next}
-use Rattle.gabc_score.specs.SpansPast.{open_past, FollowsSpans}
-use Rattle.gabc_score.specs.Syllable.{UnplacedSyllable, closes}
+use Rattle.gabc_body.specs.Events.{is_close, is_next}
+use Rattle.gabc_body.specs.SpansPast.{open_past, FollowsSpans}
+use Rattle.gabc_body.specs.Syllable.{UnplacedSyllable, closes}
 use Rattle.gabc_text.specs.ViewFacts.{span_tags}
-use Rattle.gabc_score.specs.UnitRead.{HoldsSomeUnit}
-use Rattle.gabc_score.specs.machine.BodyBuilder.{with_all}
-use Rattle.gabc_score.specs.machine.Gatherer.{Gathered, with_event}
-use Rattle.gabc_score.specs.machine.PartKeeps.{KeptParts, barred, joined, line_after, text_events, snippet_events, earlier_events, events_before, said_by, AreEnded, begun, IsReading}
+use Rattle.gabc_body.specs.UnitRead.{HoldsSomeUnit}
+use Rattle.gabc_body.specs.witness.BodyBuilder.{with_all}
+use Rattle.gabc_body.specs.witness.Gatherer.{Gathered, with_event}
+use Rattle.gabc_score.specs.machine.PartKeeps.{KeptParts, barred, joined, line_after, snippet_events, earlier_events, events_before, said_by, AreEnded, begun, IsReading}
+use Rattle.gabc_body.specs.witness.TextEvents.{text_events}
 use Rattle.gabc_score.specs.machine.PartMakes.{FollowEach, AreHeld, HoldUnits, PartMakes}
 use Rattle.gabc_score.specs.machine.PartSteps.{SnippetSteps}
-use Rattle.gabc_score.specs.machine.SyllableBuilder.{OpenSyllable, made_from, past_snippet}
-use Rattle.gabc_score.proofs.building.EventsOfOnePoint.{with_all_append}
+use Rattle.gabc_body.specs.witness.SyllableBuilder.{OpenSyllable, made_from, past_snippet}
+use Rattle.gabc_body.proofs.gathering.EventsOfOnePoint.{with_all_append}
 use Rattle.gabc_score.proofs.building.PartsMakeUnits.{HasRead, with_more, text_read, earlier_read, close_holds, close_opens}
 use Rattle.gabc_score.proofs.building.SnippetsTakeCharacters.{Ending, InSnippet, close_ends, ending_close, ending_next, next_alone}
 use Rattle.gabc_score.proofs.building.PartsOfKeptText.{of_notes, notes_ended, snippet_is}
 use Rattle.gabc_score.proofs.building.SpansOfParts.{eu_open, nlba_open}
-use Rattle.gabc_score.proofs.syllables_of_units.LastTagOpensTheSpan.{after_tags}
-use Rattle.gabc_score.proofs.texts_of_body.SeamsOfCharacters.{size, size_append}
+use Rattle.gabc_body.proofs.syllables_of_units.LastTagOpensTheSpan.{after_tags}
+use Rattle.gabc_body.proofs.texts_of_body.SeamsOfCharacters.{size, size_append}
 
 -- ---- no syllable is made
 

@@ -17,26 +17,27 @@ use Rattle.gabc_text.specs.witness.Keeps.{said_of, said_at_end}
 use Rattle.gabc_text.specs.witness.SaidInFull.{IsSaidInFull}
 use Rattle.gabc_notes.specs.declared.stage.NoteEnd.TheVariants as note_end
 use Rattle.gabc_notes.specs.declared.stage.NoteEvent.TheVariants as note
-use Rattle.gabc_score.specs.declared.events.BodyEvent.TheVariants as event
-use Rattle.gabc_score.specs.declared.snippets.Snippet.{Snippet}
-use Rattle.gabc_score.specs.Events.{next_line}
-use Rattle.gabc_score.specs.Holding.{ReadSnippet, IsSnippetOf, bracket_with, in_brackets, HoldsNotes}
-use Rattle.gabc_score.specs.SpansPast.{open_past}
-use Rattle.gabc_score.specs.UnitRead.{HoldsSomeUnit}
-use Rattle.gabc_score.specs.machine.BodyBuilder.{with_all}
-use Rattle.gabc_score.specs.machine.Gatherer.{Gathered, with_event}
-use Rattle.gabc_score.specs.machine.PartKeeps.{line_after, text_events, snippet_events, ended_events, earlier_events, IsEndedOn, AreEnded}
+use Rattle.gabc_body.specs.declared.events.BodyEvent.TheVariants as event
+use Rattle.gabc_body.specs.declared.snippets.Snippet.{Snippet}
+use Rattle.gabc_body.specs.Events.{next_line}
+use Rattle.gabc_body.specs.Holding.{ReadSnippet, IsSnippetOf, bracket_with, in_brackets, HoldsNotes}
+use Rattle.gabc_body.specs.SpansPast.{open_past}
+use Rattle.gabc_body.specs.UnitRead.{HoldsSomeUnit}
+use Rattle.gabc_body.specs.witness.BodyBuilder.{with_all}
+use Rattle.gabc_body.specs.witness.Gatherer.{Gathered, with_event}
+use Rattle.gabc_score.specs.machine.PartKeeps.{line_after, snippet_events, ended_events, earlier_events, IsEndedOn, AreEnded}
+use Rattle.gabc_body.specs.witness.TextEvents.{text_events}
 use Rattle.gabc_score.specs.machine.PartMakes.{PartLaws, characters_of}
-use Rattle.gabc_score.specs.machine.SyllableBuilder.{OpenSyllable, nothing_open, made_from, past_snippet}
-use Rattle.gabc_score.proofs.building.EventsOfOnePoint.{with_all_append}
+use Rattle.gabc_body.specs.witness.SyllableBuilder.{OpenSyllable, nothing_open, made_from, past_snippet}
+use Rattle.gabc_body.proofs.gathering.EventsOfOnePoint.{with_all_append}
 use Rattle.gabc_score.proofs.building.PartsOfKeptText.{cut_is, snippet_is}
-use Rattle.gabc_score.proofs.holding.PartsAreAUnit.{notes_are_unit}
-use Rattle.gabc_score.proofs.holding.SyllableHoldsPartByPart.{first_turn}
-use Rattle.gabc_score.proofs.holding.SnippetsAreHeld.{Placed, PlacedFrom, placed_push, all_held, next_turn, whole_of, span_after, bracket_more}
-use Rattle.gabc_score.proofs.syllables_of_units.LastTagOpensTheSpan.{after_tags}
-use Rattle.gabc_score.proofs.syllables_of_units.UnitGivesOneSyllable.{view_past}
-use Rattle.gabc_score.proofs.texts_of_body.SeamsOfCharacters.{size}
-use Rattle.gabc_score.proofs.texts_of_body.ViewStandsInLongerText.{view_more}
+use Rattle.gabc_body.proofs.holding.PartsAreAUnit.{notes_are_unit}
+use Rattle.gabc_body.proofs.holding.SyllableHoldsPartByPart.{first_turn}
+use Rattle.gabc_body.proofs.holding.SnippetsAreHeld.{Placed, PlacedFrom, placed_push, all_held, next_turn, whole_of, span_after, bracket_more}
+use Rattle.gabc_body.proofs.syllables_of_units.LastTagOpensTheSpan.{after_tags}
+use Rattle.gabc_body.proofs.syllables_of_units.UnitGivesOneSyllable.{view_past}
+use Rattle.gabc_body.proofs.texts_of_body.SeamsOfCharacters.{size}
+use Rattle.gabc_body.proofs.texts_of_body.ViewStandsInLongerText.{view_more}
 
 abbrev kept_text : ReadSnippet → List ℕ
 kept_text s = s.kept

@@ -12,19 +12,20 @@ use Rattle.gabc_notes.specs.declared.stage.NoteEnd.TheVariants as note_end
 use Rattle.gabc_notes.specs.declared.stage.NoteEvent.{NoteEvent}
 use Rattle.gabc_notes.specs.declared.stage.NoteEvent.TheVariants as note
 use Rattle.gabc_score.specs.declared.body_stage.BodyPart.{BodyPart}
-use Rattle.gabc_score.specs.declared.events.BodyEvent.{BodyEvent}
-use Rattle.gabc_score.specs.declared.events.BodyEvent.TheVariants as event
-use Rattle.gabc_score.specs.Events.{is_close, is_next, next_line, note_event}
-use Rattle.gabc_score.specs.Syllable.{prefix_of}
-use Rattle.gabc_score.specs.machine.BodyBuilder.{with_all}
-use Rattle.gabc_score.specs.machine.Gatherer.{Gathered, with_event, with_snippet}
-use Rattle.gabc_score.specs.machine.PartKeeps.{KeptParts, in_text, in_notes, barred, text_before, joined, line_after, kept_char, text_events, snippet_events, ended_events, earlier_events, events_before, said_by, IsEndedOn, AreEnded, BeginsSnippet, PartKeeps, begun, ReadAlike, IsReading, spans_past, PartKeepsOn}
+use Rattle.gabc_body.specs.declared.events.BodyEvent.{BodyEvent}
+use Rattle.gabc_body.specs.declared.events.BodyEvent.TheVariants as event
+use Rattle.gabc_body.specs.Events.{is_close, is_next, next_line, note_event}
+use Rattle.gabc_body.specs.Syllable.{prefix_of}
+use Rattle.gabc_body.specs.witness.BodyBuilder.{with_all}
+use Rattle.gabc_body.specs.witness.Gatherer.{Gathered, with_event, with_snippet}
+use Rattle.gabc_score.specs.machine.PartKeeps.{KeptParts, in_text, in_notes, barred, text_before, joined, line_after, snippet_events, ended_events, earlier_events, events_before, said_by, IsEndedOn, AreEnded, BeginsSnippet, PartKeeps, begun, ReadAlike, IsReading, spans_past, PartKeepsOn}
+use Rattle.gabc_body.specs.witness.TextEvents.{kept_char, text_events}
 use Rattle.gabc_score.specs.machine.PartSteps.{SnippetSteps}
 use Rattle.gabc_score.specs.machine.Preceded.{spans_of}
-use Rattle.gabc_score.specs.machine.SyllableBuilder.{OpenSyllable, made_from, past_mark, past_snippet, snippet_from}
-use Rattle.gabc_score.proofs.building.EventsOfOnePoint.{with_all_append}
+use Rattle.gabc_body.specs.witness.SyllableBuilder.{OpenSyllable, made_from, past_mark, past_snippet, snippet_from}
+use Rattle.gabc_body.proofs.gathering.EventsOfOnePoint.{with_all_append}
 use Rattle.gabc_score.proofs.building.SnippetsTakeCharacters.{Ending, Going, InSnippet, close_ends, ending_close, ending_next, going, next_ends, next_mark}
-use Rattle.gabc_score.proofs.texts_of_body.SeamsOfCharacters.{size, size_append}
+use Rattle.gabc_body.proofs.texts_of_body.SeamsOfCharacters.{size, size_append}
 use Rattle.gabc_score.proofs.building.PartsOfKeptText.{Grows, all_alike, of_notes, notes_said, notes_ended, snippet_grows, snippet_is, cut_is, read_on}
 
 module _ (lines macros : ℕ) where

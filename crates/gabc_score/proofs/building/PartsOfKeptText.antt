@@ -21,18 +21,20 @@ use Rattle.gabc_notes.specs.declared.stage.NoteEnd.{NoteEnd}
 use Rattle.gabc_notes.specs.declared.stage.NoteEnd.TheVariants as note_end
 use Rattle.gabc_notes.specs.declared.stage.NoteEvent.{NoteEvent}
 use Rattle.gabc_notes.specs.declared.stage.NoteEvent.TheVariants as note
-use Rattle.gabc_score.specs.declared.before.Spans.{Spans}
+use Rattle.gabc_body.specs.declared.before.Spans.{Spans}
 use Rattle.gabc_score.specs.declared.body_stage.BodyPart.{BodyPart}
 use Rattle.gabc_score.specs.declared.body_stage.BodyPart.TheVariants as part
-use Rattle.gabc_score.specs.declared.events.BodyEvent.{BodyEvent}
-use Rattle.gabc_score.specs.declared.events.BodyEvent.TheVariants as event
-use Rattle.gabc_score.specs.Events.{is_text_end, note_event}
-use Rattle.gabc_score.specs.Syllable.{UnplacedSyllable, prefix_of}
-use Rattle.gabc_score.specs.machine.BodyBuilder.{with_all}
-use Rattle.gabc_score.specs.machine.Gatherer.{Gathered, with_event}
-use Rattle.gabc_score.specs.machine.PartKeeps.{KeptParts, in_text, in_notes, text_before, joined, kept_char, text_events, snippet_events, said_by, AreAfter, PartKeeps, begun, ReadAlike, IsReading, spans_past, PartKeepsOn}
-use Rattle.gabc_score.proofs.building.EventsOfOnePoint.{with_all_append}
-use Rattle.gabc_score.proofs.texts_of_body.SeamsOfCharacters.{size, cut_between}
+use Rattle.gabc_body.specs.declared.events.BodyEvent.{BodyEvent}
+use Rattle.gabc_body.specs.declared.events.BodyEvent.TheVariants as event
+use Rattle.gabc_body.specs.Events.{is_text_end, note_event}
+use Rattle.gabc_body.specs.Syllable.{UnplacedSyllable, prefix_of}
+use Rattle.gabc_body.specs.witness.BodyBuilder.{with_all}
+use Rattle.gabc_body.specs.witness.Gatherer.{Gathered, with_event}
+use Rattle.gabc_score.specs.machine.PartKeeps.{KeptParts, in_text, in_notes, text_before, joined, snippet_events, said_by, AreAfter, PartKeeps, begun, ReadAlike, IsReading, spans_past, PartKeepsOn}
+use Rattle.gabc_body.specs.witness.TextEvents.{kept_char, text_events}
+use Rattle.gabc_body.proofs.gathering.EventsOfOnePoint.{with_all_append}
+use Rattle.gabc_body.proofs.texts_of_body.SeamsOfCharacters.{size, cut_between}
+use Rattle.gabc_body.proofs.syllables_of_units.LastTagOpensTheSpan.{out_parts}
 
 -- ---- the same was gathered of the syllable that is read
 
@@ -79,9 +81,6 @@ text_grows (text_out.Found f ∷ es) g e = text_grows es g e
 text_grows (text_out.Ended how ∷ es) g e = absurd (true≢false e)
 
 -- parts keep nothing and end nothing
-abbrev pub out_parts : List TextPart → List TextEvent
-out_parts ps = map (λ (p : TextPart). text_out.Part p) ps
-
 parts_keep : (ps : List TextPart) → (kept_in (out_parts ps) ≡ []) × (list_any is_text_end (out_parts ps) ≡ false) × (text.end_text (out_parts ps) ≡ false)
 parts_keep [] = (refl, refl, refl)
 parts_keep (p ∷ ps) = parts_keep ps

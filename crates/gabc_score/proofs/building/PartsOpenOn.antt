@@ -10,13 +10,13 @@ use Rattle.gabc_text.specs.witness.Keeps as text
 use Rattle.gabc_score.specs.declared.body_stage.BodyPart.{BodyPart}
 use Rattle.gabc_score.specs.declared.body_stage.BodyPart.TheVariants as part
 use Rattle.gabc_score.specs.declared.body_tells.Openers.{Openers}
-use Rattle.gabc_score.specs.Events.{is_text_end}
+use Rattle.gabc_body.specs.Events.{is_text_end}
 use Rattle.gabc_score.specs.ScoreReports.{openers_of}
 use Rattle.gabc_score.specs.machine.PartKeeps.{in_text, in_notes}
 use Rattle.gabc_score.specs.machine.PartOpens.{OpensOn, PartOpensOn}
 use Rattle.gabc_score.proofs.building.SnippetsTakeCharacters.{going, stays_in_notes}
 use Rattle.gabc_score.proofs.building.PartsOfKeptText.{text_goes_on}
-use Rattle.gabc_score.specs.declared.events.BodyEvent.{BodyEvent}
+use Rattle.gabc_body.specs.declared.events.BodyEvent.{BodyEvent}
 use Rattle.gabc_text.proofs.resuming.StagesKeep.{fresh_keeps}
 use Rattle.gabc_text.proofs.resuming.ToldByEvents.{opener_fresh}
 use Rattle.gabc_score.specs.machine.PartSteps.{PartSteps, SnippetSteps}

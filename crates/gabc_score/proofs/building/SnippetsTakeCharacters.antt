@@ -27,14 +27,15 @@ use Rattle.gabc_nabc.specs.witness.Keeps as nabc
 use Rattle.gabc_nabc.specs.declared.stage.NabcStage.{NabcStage}
 use Rattle.gabc_score.specs.declared.body_stage.BodyPart.{BodyPart}
 use Rattle.gabc_score.specs.declared.body_stage.BodyPart.TheVariants as part
-use Rattle.gabc_score.specs.Events.{is_close, is_next}
-use Rattle.gabc_score.specs.Holding.{IsSnippetOf}
+use Rattle.gabc_body.specs.Events.{is_close, is_next}
+use Rattle.gabc_body.specs.Holding.{IsSnippetOf}
 use Rattle.gabc_score.specs.ScoreReports.{IsAt, is_in_comment, is_in_front, openers_of}
 use Rattle.gabc_score.specs.machine.PartKeeps.{KeptParts, in_text, in_notes, IsEndedOn, AreAfter, PartKeeps}
 use Rattle.gabc_score.specs.machine.PartSteps.{SnippetSteps}
 use Rattle.gabc_score.specs.machine.PartSteps as step
 use Rattle.gabc_score.specs.machine.ReadAgain.{place_in}
-use Rattle.gabc_score.proofs.texts_of_body.SeamsOfCharacters.{size, size_is_sum}
+use Rattle.gabc_body.proofs.texts_of_body.SeamsOfCharacters.{size, size_is_sum}
+use Rattle.gabc_body.proofs.emitted.EndsOfSnippets.{is_close_end, any_close, none_close}
 
 -- ---- how a snippet ended
 
@@ -42,27 +43,15 @@ abbrev is_next_end : NoteEnd → Bool
 is_next_end note_end.Next = true
 is_next_end how = false
 
-abbrev is_close_end : NoteEnd → Bool
-is_close_end note_end.Close = true
-is_close_end how = false
-
 any_next : (es : List NoteEvent) → list_any is_next es ≡ list_any (λ (e : NoteEnd × ℕ). is_next_end e.0) (ends_of es)
 any_next [] = refl
 any_next (note.Ended note_end.Next n ∷ es) = refl
 any_next (_ ∷ es) = any_next es
 
-any_close : (es : List NoteEvent) → list_any is_close es ≡ list_any (λ (e : NoteEnd × ℕ). is_close_end e.0) (ends_of es)
-any_close [] = refl
-any_close (note.Ended note_end.Close n ∷ es) = refl
-any_close (_ ∷ es) = any_close es
-
 -- none, or one by the mark at which the snippet ended
 module _ (es : List NoteEvent) (c n : ℕ) where
   pub none_next : ends_of es ≡ [] → list_any is_next es ≡ false
   none_next e = any_next es ∙ ap (list_any (λ (e : NoteEnd × ℕ). is_next_end e.0)) e
-
-  pub none_close : ends_of es ≡ [] → list_any is_close es ≡ false
-  none_close e = any_close es ∙ ap (list_any (λ (e : NoteEnd × ℕ). is_close_end e.0)) e
 
   next_is : ends_of es ≡ (end_by_mark c, n) ∷ [] → list_any is_next es ≡ (c == 124)
   next_is e = any_next es ∙ ap (list_any (λ (e : NoteEnd × ℕ). is_next_end e.0)) e ∙ grind arith
@@ -254,7 +243,7 @@ module _ (lines macros : ℕ) {x : Char} {line : ℕ} {opened : Place} {before a
   ending_next n = ending (λ none. true≢false (sym n ∙ none_next es x.c 0 none))
 
   pub ending_close : list_any is_close es ≡ true → Ending lines macros line x es p
-  ending_close c = ending (λ none. true≢false (sym c ∙ none_close es x.c 0 none))
+  ending_close c = ending (λ none. true≢false (sym c ∙ none_close es none))
 
   -- it closes at a `)` alone
   pub close_mark : list_any is_close es ≡ true → x.c ≡ 41

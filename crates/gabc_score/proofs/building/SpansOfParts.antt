@@ -9,20 +9,21 @@ use Rattle.gabc_text.specs.declared.text_event.TextPart.TheVariants as part
 use Rattle.gabc_text.specs.witness.Keeps.{said, said_of, said_at_end}
 use Rattle.gabc_text.specs.witness.SaidInFull.{IsSaidInFull}
 use Rattle.gabc_notes.specs.declared.stage.NoteEvent.TheVariants.{Kept}
-use Rattle.gabc_score.specs.declared.before.Spans.{Spans}
-use Rattle.gabc_score.specs.declared.events.BodyEvent.{BodyEvent}
-use Rattle.gabc_score.specs.declared.events.BodyEvent.TheVariants.{Text, Notes}
-use Rattle.gabc_score.specs.Body.{events_onto}
-use Rattle.gabc_score.specs.Events.{next_line}
-use Rattle.gabc_score.specs.Syllable.{all_syllables, since_close, part_of, ended_parts_of, slice, is_open, is_open_after}
+use Rattle.gabc_body.specs.declared.before.Spans.{Spans}
+use Rattle.gabc_body.specs.declared.events.BodyEvent.{BodyEvent}
+use Rattle.gabc_body.specs.declared.events.BodyEvent.TheVariants.{Text, Notes}
+use Rattle.gabc_body.specs.Body.{events_onto}
+use Rattle.gabc_body.specs.Events.{next_line}
+use Rattle.gabc_body.specs.Syllable.{all_syllables, since_close, part_of, ended_parts_of, slice, is_open, is_open_after}
 use Rattle.gabc_text.specs.ViewFacts.{span_tags}
-use Rattle.gabc_score.specs.machine.BodyBuilder.{with_all}
-use Rattle.gabc_score.specs.machine.PartKeeps.{in_notes, line_after, kept_char, text_events, snippet_events, ended_events, earlier_events, events_before, said_by, begun}
-use Rattle.gabc_score.proofs.building.BuilderHoldsDefinition.{gathered}
-use Rattle.gabc_score.proofs.building.EventsOfSyllableParts.{onto_append}
+use Rattle.gabc_body.specs.witness.BodyBuilder.{with_all}
+use Rattle.gabc_score.specs.machine.PartKeeps.{in_notes, line_after, snippet_events, ended_events, earlier_events, events_before, said_by, begun}
+use Rattle.gabc_body.specs.witness.TextEvents.{kept_char, text_events}
+use Rattle.gabc_body.proofs.gathering.BuilderHoldsDefinition.{gathered}
+use Rattle.gabc_body.proofs.emitted.EventsOfSyllableParts.{onto_append}
 use Rattle.gabc_score.proofs.resuming.MadeOfEvents.{MadeAlike, made_after}
-use Rattle.gabc_score.proofs.resuming.OpenSpans.{opened, leaves_open}
-use Rattle.gabc_score.proofs.syllables_of_units.LastTagOpensTheSpan.{after_tags, text_opens_span}
+use Rattle.gabc_body.proofs.syllables_of_units.OpenSpans.{opened, leaves_open}
+use Rattle.gabc_body.proofs.syllables_of_units.LastTagOpensTheSpan.{after_tags, text_opens_span}
 
 module _ (opening closing : List ℕ) where
   abbrev open_at : List BodyEvent → Bool

@@ -8,15 +8,15 @@ use Rattle.gabc_places.specs.BoundedList.{BoundedList, extended_by}
 use Rattle.gabc_places.specs.declared.place.Place.{Place}
 use Rattle.gabc_text.specs.declared.text_event.TextEvent.{TextEvent}
 use Rattle.gabc_notes.specs.declared.stage.NoteEvent.{NoteEvent}
-use Rattle.gabc_score.specs.declared.events.BodyEvent.TheVariants.{Text}
+use Rattle.gabc_body.specs.declared.events.BodyEvent.TheVariants.{Text}
 use Rattle.gabc_notes.specs.Ends.{is_ended}
 use Rattle.gabc_text.specs.End.{is_end}
-use Rattle.gabc_score.specs.Events.{is_text_end, is_close, is_next, note_event}
-use Rattle.gabc_score.specs.Syllable.{closes}
+use Rattle.gabc_body.specs.Events.{is_text_end, is_close, is_next, note_event}
+use Rattle.gabc_body.specs.Syllable.{closes}
 use Rattle.gabc_score.specs.machine.PartPushes.{EndsLast, ClosesLast}
 use Rattle.gabc_places.specs.declared.place.Char.{Char}
 use Rattle.gabc_score.specs.declared.body_stage.BodyPart.{BodyPart}
-use Rattle.gabc_score.specs.declared.events.BodyEvent.{BodyEvent}
+use Rattle.gabc_body.specs.declared.events.BodyEvent.{BodyEvent}
 use Rattle.gabc_score.specs.machine.PartSteps.{IsBounded, PartSteps}
 use Rattle.gabc_score.specs.machine.PartSteps as step
 

@@ -13,12 +13,13 @@ use Rattle.gabc_text.specs.witness.Keeps as text
 use Rattle.gabc_notes.specs.Events.{in_raw}
 use Rattle.gabc_score.specs.declared.body_stage.BodyPart.{BodyPart}
 use Rattle.gabc_score.specs.declared.body_stage.BodyPart.TheVariants as part
-use Rattle.gabc_score.specs.Body.{cut_of}
-use Rattle.gabc_score.specs.Events.{events_at_end, first_list}
+use Rattle.gabc_body.specs.Body.{cut_of}
+use Rattle.gabc_body.specs.Events.{events_at_end, first_list}
 use Rattle.gabc_score.specs.KeptAgain.{is_other}
 use Rattle.gabc_score.specs.ScoreReports.{is_in_front, openers_of}
 use Rattle.gabc_score.specs.ReportedWithin.{AreOpenersBefore}
-use Rattle.gabc_score.specs.machine.PartKeeps.{KeptParts, in_text, in_notes, line_after, text_events, PartKeeps}
+use Rattle.gabc_score.specs.machine.PartKeeps.{KeptParts, in_text, in_notes, line_after, PartKeeps}
+use Rattle.gabc_body.specs.witness.TextEvents.{text_events}
 use Rattle.gabc_score.specs.witness.BodyStage.{part_with}
 use Rattle.gabc_score.specs.machine.StageLaws.{Ends}
 

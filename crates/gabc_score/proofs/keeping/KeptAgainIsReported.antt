@@ -9,18 +9,18 @@ use Rattle.gabc_places.specs.declared.limits.Limits.{Limits}
 use Rattle.gabc_text.specs.BuiltText.{empty_view}
 use Rattle.gabc_score.specs.declared.body_stage.BodyPart.{BodyPart}
 use Rattle.gabc_score.specs.declared.body_tells.Openers.{Openers}
-use Rattle.gabc_score.specs.declared.events.BodyEvent.{BodyEvent}
+use Rattle.gabc_body.specs.declared.events.BodyEvent.{BodyEvent}
 use Rattle.gabc_score.specs.declared.score_machine.ScorePart.TheVariants as score_part
-use Rattle.gabc_score.specs.declared.syllable.Position.TheVariants as position
+use Rattle.gabc_body.specs.declared.syllable.Position.TheVariants as position
 use Rattle.gabc_score.specs.Before.{no_syllable}
-use Rattle.gabc_score.specs.Body.{events_onto}
+use Rattle.gabc_body.specs.Body.{events_onto}
 use Rattle.gabc_score.specs.KeptAgain.{IsKeptAgain}
 use Rattle.gabc_score.specs.ReadAgain.{IsReported}
-use Rattle.gabc_score.specs.ScoreEvents.{first_place}
+use Rattle.gabc_body.specs.ScoreEvents.{first_place}
 use Rattle.gabc_score.specs.ScoreReports.{is_in_comment, is_in_front, openers_of}
-use Rattle.gabc_score.specs.Syllable.{PlacedSyllable, all_syllables, kept_of}
-use Rattle.gabc_score.specs.machine.BodyBuilder.{with_all}
-use Rattle.gabc_score.specs.machine.Gatherer.{Gathered, nothing_gathered}
+use Rattle.gabc_body.specs.Syllable.{PlacedSyllable, all_syllables, kept_of}
+use Rattle.gabc_body.specs.witness.BodyBuilder.{with_all}
+use Rattle.gabc_body.specs.witness.Gatherer.{Gathered, nothing_gathered}
 use Rattle.gabc_score.specs.machine.PartKeeps.{KeptParts, joined, PartKeeps}
 use Rattle.gabc_score.specs.witness.ScoreStage.{ScoreStageState}
 use Rattle.gabc_score.proofs.keeping.AnyTextIsRead.{Reaches, all, one, reaches, reads_one}

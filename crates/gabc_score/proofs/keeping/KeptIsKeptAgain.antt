@@ -8,14 +8,14 @@ use Rattle.gabc_places.specs.declared.place.Place.{Place}
 use Rattle.gabc_text.specs.witness.Keeps as text
 use Rattle.gabc_score.specs.declared.body_stage.BodyPart.{BodyPart}
 use Rattle.gabc_score.specs.declared.body_tells.Openers.{Openers}
-use Rattle.gabc_score.specs.declared.events.BodyEvent.{BodyEvent}
-use Rattle.gabc_score.specs.Body.{cut_of, events_onto}
-use Rattle.gabc_score.specs.Events.{events_at_end}
+use Rattle.gabc_body.specs.declared.events.BodyEvent.{BodyEvent}
+use Rattle.gabc_body.specs.Body.{cut_of, events_onto}
+use Rattle.gabc_body.specs.Events.{events_at_end}
 use Rattle.gabc_score.specs.KeptAgain.{IsKeptAgain, emitted, is_other, lists, notes_at, placed}
 use Rattle.gabc_score.specs.ReadAgain.{ReportsReading}
-use Rattle.gabc_score.specs.ScoreEvents.{first_place}
+use Rattle.gabc_body.specs.ScoreEvents.{first_place}
 use Rattle.gabc_score.specs.ScoreReports.{is_in_comment, is_in_front, openers_of}
-use Rattle.gabc_score.specs.Syllable.{all_syllables, kept_of}
+use Rattle.gabc_body.specs.Syllable.{all_syllables, kept_of}
 use Rattle.gabc_score.specs.machine.PartKeeps.{KeptParts, in_text, joined, PartKeeps}
 use Rattle.gabc_score.specs.machine.ReadAgain.{BeginsComment, Reads}
 use Rattle.gabc_score.specs.witness.BodyStage.{part_with}

@@ -20,18 +20,19 @@ use Rattle.gabc_notes.specs.declared.stage.NoteEvent.{NoteEvent}
 use Rattle.gabc_notes.specs.declared.stage.NoteEvent.TheVariants as note
 use Rattle.gabc_score.specs.declared.body_stage.BodyPart.{BodyPart}
 use Rattle.gabc_score.specs.declared.body_stage.BodyPart.TheVariants as part
-use Rattle.gabc_score.specs.declared.events.BodyEvent.{BodyEvent}
-use Rattle.gabc_score.specs.declared.events.BodyEvent.TheVariants as event
-use Rattle.gabc_score.specs.Events.{is_close, is_next, is_text_end}
+use Rattle.gabc_body.specs.declared.events.BodyEvent.{BodyEvent}
+use Rattle.gabc_body.specs.declared.events.BodyEvent.TheVariants as event
+use Rattle.gabc_body.specs.Events.{is_close, is_next, is_text_end}
 use Rattle.gabc_score.specs.ScoreReports.{is_in_comment}
-use Rattle.gabc_score.specs.Syllable.{prefix_of}
-use Rattle.gabc_score.specs.machine.BodyBuilder.{with_all}
-use Rattle.gabc_score.specs.machine.Gatherer.{Gathered, with_event}
-use Rattle.gabc_score.specs.machine.PartKeeps.{KeptParts, text_events, PartKeeps}
+use Rattle.gabc_body.specs.Syllable.{prefix_of}
+use Rattle.gabc_body.specs.witness.BodyBuilder.{with_all}
+use Rattle.gabc_body.specs.witness.Gatherer.{Gathered, with_event}
+use Rattle.gabc_score.specs.machine.PartKeeps.{KeptParts, PartKeeps}
+use Rattle.gabc_body.specs.witness.TextEvents.{text_events}
 use Rattle.gabc_score.proofs.building.SnippetsTakeCharacters.{close_ends, ending_close, ending_next, going, next_ends}
 use Rattle.gabc_score.specs.machine.PartSteps.{SnippetSteps}
 use Rattle.gabc_score.proofs.building.PartsOfKeptText.{Grows, IsMarked, end_marks, ends_text, notes_ended, notes_said, of_notes, said_gathered, snippet_grows, text_goes_on, text_grows, text_of}
-use Rattle.gabc_score.proofs.within_limits.KeptSoFar.{prefix_few}
+use Rattle.gabc_body.proofs.within_limits.KeptSoFar.{prefix_few}
 
 -- What is kept with a character, after whatever was gathered.
 pub record KeepsOne (lines macros : ℕ) (x : Char) (before after : BodyPart) (now : List BodyEvent) : Type 0 where

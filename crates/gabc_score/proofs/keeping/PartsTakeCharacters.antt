@@ -26,12 +26,13 @@ use Rattle.gabc_nabc.specs.witness.Keeps as nabc
 use Rattle.gabc_score.specs.declared.body_stage.BodyPart.{BodyPart}
 use Rattle.gabc_score.specs.declared.body_stage.BodyPart.TheVariants as part
 use Rattle.gabc_score.specs.declared.body_tells.Openers.{Openers}
-use Rattle.gabc_score.specs.declared.events.BodyEvent.{BodyEvent}
-use Rattle.gabc_score.specs.declared.events.BodyEvent.TheVariants as event
-use Rattle.gabc_score.specs.Events.{InNotes, after_mark, events_from, is_close, is_next, is_text_end, next_line, note_event}
+use Rattle.gabc_body.specs.declared.events.BodyEvent.{BodyEvent}
+use Rattle.gabc_body.specs.declared.events.BodyEvent.TheVariants as event
+use Rattle.gabc_body.specs.Events.{InNotes, after_mark, events_from, is_close, is_next, is_text_end, next_line, note_event}
 use Rattle.gabc_score.specs.KeptAgain.{opens}
 use Rattle.gabc_score.specs.ScoreReports.{is_in_comment, is_in_front, openers_of}
-use Rattle.gabc_score.specs.machine.PartKeeps.{KeptParts, in_text, in_notes, text_events, PartKeeps, PartKeepsOn, PartStandsOn}
+use Rattle.gabc_score.specs.machine.PartKeeps.{KeptParts, in_text, in_notes, PartKeeps, PartKeepsOn, PartStandsOn}
+use Rattle.gabc_body.specs.witness.TextEvents.{text_events}
 use Rattle.gabc_score.specs.machine.PartOpens.{PartOpensOn}
 use Rattle.gabc_score.specs.machine.ReadAgain.{ReadsAgain}
 use Rattle.gabc_score.specs.witness.BodyStage.{part_with, texts_by_stage}
@@ -48,7 +49,7 @@ use Rattle.gabc_score.proofs.building.SnippetsTakeCharacters.{stays_in_notes}
 use Rattle.gabc_score.proofs.keeping.PartsKeepOne.{KeepsOne, close_one, goes_one, next_one, text_one, text_end_one}
 use Rattle.gabc_score.proofs.resuming.PartsReadAgain.{reads_again}
 use Rattle.gabc_score.proofs.score_events.FrontIsFirst.{leaves_front}
-use Rattle.gabc_score.proofs.stopped_scores.ClosedWithin.{close_count, count_one}
+use Rattle.gabc_body.proofs.stopped_scores.ClosedWithin.{close_count, count_one}
 
 -- ---- the `(` and the `)` among events
 

@@ -14,14 +14,14 @@ use Rattle.gabc_text.specs.Events.{CountsFit}
 use Rattle.gabc_text.specs.TextStage.{fresh_stage}
 use Rattle.gabc_score.specs.declared.body_stage.BodyPart.{BodyPart}
 use Rattle.gabc_score.specs.declared.body_stage.BodyPart.TheVariants as part
-use Rattle.gabc_score.specs.declared.events.BodyEvent.{BodyEvent}
-use Rattle.gabc_score.specs.Body.{events_onto}
-use Rattle.gabc_score.specs.Events.{events_at_end, events_from, text_from, texts_by_definition}
+use Rattle.gabc_body.specs.declared.events.BodyEvent.{BodyEvent}
+use Rattle.gabc_body.specs.Body.{events_onto}
+use Rattle.gabc_body.specs.Events.{events_at_end, events_from, text_from, texts_by_definition}
 use Rattle.gabc_score.specs.KeptAgain.{emitted, lists, notes_at, opens, placed}
-use Rattle.gabc_score.specs.ScoreEvents.{first_place}
-use Rattle.gabc_score.specs.Syllable.{UnplacedSyllable, all_syllables, closes, since_close, syllable_by, is_eu, is_nlba}
+use Rattle.gabc_body.specs.ScoreEvents.{first_place}
+use Rattle.gabc_body.specs.Syllable.{UnplacedSyllable, all_syllables, closes, since_close, syllable_by, is_eu, is_nlba}
 use Rattle.gabc_score.specs.witness.BodyStage.{BodyStageState, part_with, running_events_left, texts_by_stage}
-use Rattle.gabc_score.proofs.building.EventsOfSyllableParts.{onto_append}
+use Rattle.gabc_body.proofs.emitted.EventsOfSyllableParts.{onto_append}
 use Rattle.gabc_score.proofs.keeping.PartsTakeCharacters.{TakesOne}
 use Rattle.gabc_score.proofs.keeping.ReadByItself.{Emits}
 use Rattle.gabc_score.specs.machine.StageLaws.{Steps}

@@ -8,29 +8,29 @@ use Rattle.gabc_places.specs.PlacesInOrder.{IsEarlier}
 use Rattle.gabc_places.specs.StageLaw.{concat_of}
 use Rattle.gabc_places.specs.declared.place.Char.{Char}
 use Rattle.gabc_places.specs.declared.place.Place.{Place}
-use Rattle.gabc_score.specs.declared.before.Spans.{Spans}
+use Rattle.gabc_body.specs.declared.before.Spans.{Spans}
 use Rattle.gabc_score.specs.declared.body_stage.BodyPart.{BodyPart}
-use Rattle.gabc_score.specs.declared.events.BodyEvent.{BodyEvent}
-use Rattle.gabc_score.specs.Body.{events_onto}
-use Rattle.gabc_score.specs.Events.{events_from}
+use Rattle.gabc_body.specs.declared.events.BodyEvent.{BodyEvent}
+use Rattle.gabc_body.specs.Body.{events_onto}
+use Rattle.gabc_body.specs.Events.{events_from}
 use Rattle.gabc_score.specs.KeptAgain.{notes_at, opens}
 use Rattle.gabc_score.specs.ScoreReports.{IsAt, is_in_comment, is_in_front, openers_of}
-use Rattle.gabc_score.specs.Syllable.{all_syllables}
+use Rattle.gabc_body.specs.Syllable.{all_syllables}
 use Rattle.gabc_score.specs.ReportedWithin.{AreOpenersBefore, IsPlace}
-use Rattle.gabc_score.specs.machine.BodyBuilder.{with_all}
-use Rattle.gabc_score.specs.machine.Gatherer.{Gathered}
+use Rattle.gabc_body.specs.witness.BodyBuilder.{with_all}
+use Rattle.gabc_body.specs.witness.Gatherer.{Gathered}
 use Rattle.gabc_score.specs.machine.PartKeeps.{KeptParts, joined, IsReading, PartKeeps}
 use Rattle.gabc_score.specs.machine.ReadAgain.{Adds, IsNext, Reads}
 use Rattle.gabc_score.specs.witness.BodyStage.{part_with, texts_by_stage}
-use Rattle.gabc_score.proofs.building.BuilderHoldsDefinition.{gathered}
-use Rattle.gabc_score.proofs.building.EventsOfOnePoint.{gathered_all}
-use Rattle.gabc_score.proofs.building.EventsOfSyllableParts.{onto_append}
+use Rattle.gabc_body.proofs.gathering.BuilderHoldsDefinition.{gathered}
+use Rattle.gabc_body.proofs.gathering.EventsOfOnePoint.{gathered_all}
+use Rattle.gabc_body.proofs.emitted.EventsOfSyllableParts.{onto_append}
 use Rattle.gabc_score.proofs.building.PartsOfKeptText.{stays}
 use Rattle.gabc_score.proofs.keeping.PartsTakeCharacters.{TakesOne, takes_one}
 use Rattle.gabc_score.specs.machine.StageLaws.{Again, Steps}
 use Rattle.gabc_score.proofs.resuming.NextIsKept.{next_is}
 use Rattle.gabc_score.proofs.score_events.OpenersInOrder.{opens_in_order, place_after_input}
-use Rattle.gabc_score.proofs.stopped_scores.ClosedWithin.{close_count, made_count}
+use Rattle.gabc_body.proofs.stopped_scores.ClosedWithin.{close_count, made_count}
 
 -- ---- places
 

@@ -11,7 +11,7 @@ use lib.Utf8.{encode}
 use Rattle.gabc_places.specs.TextOfAnInput.{IsPlain, IsText}
 use Rattle.gabc_text.specs.RegularText.{IsRegularText, mark_at, tags_of}
 use Rattle.gabc_text.specs.ViewFacts.{span_tags}
-use Rattle.gabc_score.specs.Events.{next_line}
+use Rattle.gabc_body.specs.Events.{next_line}
 use Rattle.gabc_score.specs.RegularSyllable.{SyllableParts, IsRegularOn, AreRegularFrom, spelled, notes_spelled}
 use Rattle.gabc_score.specs.machine.RegularLen.{IsPlainByte, with_bars_after, SnippetsBefore, BeginsWithSnippets, BeginsRegularly, IsPlainGap}
 use Rattle.gabc_text.proofs.RegularRawParts.{mark_before_notes}

@@ -5,14 +5,14 @@ use lib.Utf8.{encode}
 use Rattle.gabc_text.specs.declared.span_mark.SpanMark.{SpanMark}
 use Rattle.gabc_text.specs.RegularText.{tags_of}
 use Rattle.gabc_text.specs.ViewFacts.{span_tags}
-use Rattle.gabc_score.specs.declared.before.Spans.{Spans}
-use Rattle.gabc_score.specs.Syllable.{UnplacedSyllable}
-use Rattle.gabc_score.specs.SpansPast.{eu_past, nlba_past}
-use Rattle.gabc_score.specs.SyllablesOfUnits.{HoldsUnit, ScoreUnit}
+use Rattle.gabc_body.specs.declared.before.Spans.{Spans}
+use Rattle.gabc_body.specs.Syllable.{UnplacedSyllable}
+use Rattle.gabc_body.specs.SpansPast.{eu_past, nlba_past}
+use Rattle.gabc_body.specs.SyllablesOfUnits.{HoldsUnit, ScoreUnit}
 use Rattle.gabc_score.specs.RegularSyllable.{SyllableParts, has_gap}
 use Rattle.gabc_score.specs.machine.RegularLen.{past_mark}
-use Rattle.gabc_score.proofs.syllables_of_units.LastTagOpensTheSpan.{after_tags}
-use Rattle.gabc_score.proofs.syllables_of_units.UnitGivesOneSyllable.{unit_past}
+use Rattle.gabc_body.proofs.syllables_of_units.LastTagOpensTheSpan.{after_tags}
+use Rattle.gabc_body.proofs.syllables_of_units.UnitGivesOneSyllable.{unit_past}
 
 after_mark : (o : Option SpanMark) (spans : Spans)
     → (after_tags (codes "<eu>") (codes "</eu>") spans.eu (tags_of o) ≡ (past_mark o spans).eu) × (after_tags (codes "<nlba>") (codes "</nlba>") spans.nlba (tags_of o) ≡ (past_mark o spans).nlba)

@@ -15,18 +15,18 @@ use Rattle.gabc_text.specs.declared.text_event.TextPart.TheVariants as part
 use Rattle.gabc_notes.specs.declared.item.ItemKind.{ItemKind}
 use Rattle.gabc_notes.specs.declared.stage.NoteEnd.TheVariants as note_end
 use Rattle.gabc_notes.specs.declared.stage.NoteEvent.TheVariants as note
-use Rattle.gabc_score.specs.declared.events.BodyEvent.{BodyEvent}
-use Rattle.gabc_score.specs.declared.events.BodyEvent.TheVariants as event
-use Rattle.gabc_score.specs.Canonical.{placed_syllables_by}
-use Rattle.gabc_score.specs.NoteBeforeClef.{found_first}
-use Rattle.gabc_score.specs.ScoreEvents.{ScoreOutput, Syllable, findings_now}
-use Rattle.gabc_score.specs.Syllable.{UnplacedSyllable, PlacedSyllable}
-use Rattle.gabc_score.specs.machine.BodyBuilder.{with_all, code_in}
-use Rattle.gabc_score.specs.machine.Gatherer.{Gathered, with_event, with_snippet}
+use Rattle.gabc_body.specs.declared.events.BodyEvent.{BodyEvent}
+use Rattle.gabc_body.specs.declared.events.BodyEvent.TheVariants as event
+use Rattle.gabc_body.specs.Canonical.{placed_syllables_by}
+use Rattle.gabc_body.specs.NoteBeforeClef.{found_first}
+use Rattle.gabc_body.specs.ScoreEvents.{ScoreOutput, Syllable, findings_now}
+use Rattle.gabc_body.specs.Syllable.{UnplacedSyllable, PlacedSyllable}
+use Rattle.gabc_body.specs.witness.BodyBuilder.{with_all, code_in}
+use Rattle.gabc_body.specs.witness.Gatherer.{Gathered, with_event, with_snippet}
 use Rattle.gabc_score.specs.machine.ScoreStage.{HeldScore, placed_after, point_outputs, score_past}
-use Rattle.gabc_score.specs.machine.SyllableBuilder.{made_from}
-use Rattle.gabc_score.proofs.building.EventsOfOnePoint.{with_all_append}
-use Rattle.gabc_score.proofs.order.FindingsOfParts.{found, found_append, found_onto}
+use Rattle.gabc_body.specs.witness.SyllableBuilder.{made_from}
+use Rattle.gabc_body.proofs.gathering.EventsOfOnePoint.{with_all_append}
+use Rattle.gabc_body.proofs.order.FindingsOfParts.{found, found_append, found_onto}
 use Rattle.gabc_score.proofs.regular_syllables.PointsPass.{score_through, points_through, NoneStops}
 use Rattle.gabc_score.proofs.score_events.EventsStayWithinBounds.{none_passed}
 use Rattle.gabc_score.proofs.resuming.SameButHeld.{all_stay}

@@ -5,7 +5,7 @@ use Rattle.gabc_places.specs.declared.place.Char.{Char}
 use Rattle.gabc_places.specs.Place.{next_place, place_past, placed_characters_from}
 use Rattle.gabc_places.proofs.PlacesOfAText.{place_append}
 use Rattle.gabc_text.specs.Events.{CountsFit}
-use Rattle.gabc_score.specs.Events.{after_mark}
+use Rattle.gabc_body.specs.Events.{after_mark}
 use Rattle.gabc_score.specs.RegularSyllable.{SyllableParts, notes_spelled, spelled, after_part, final_at, unit_at}
 use Rattle.gabc_score.proofs.keeping.ReadByItself.{HasRoom, same_place, room_after}
 use Rattle.gabc_score.proofs.regular_syllables.OneMore.{next_of}

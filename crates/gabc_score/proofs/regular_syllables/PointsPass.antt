@@ -4,9 +4,9 @@ use Rattle.gabc_places.specs.declared.limits.Limits.{Limits}
 use Rattle.gabc_places.specs.declared.place.Char.{Char}
 use Rattle.gabc_headers.specs.declared.head_event.HeadEvent.{HeadEvent}
 use Rattle.gabc_headers.specs.declared.head_event.HeadEvent.TheVariants as head_event
-use Rattle.gabc_score.specs.declared.events.BodyEvent.{BodyEvent}
-use Rattle.gabc_score.specs.ScoreEvents.{ScoreOutput, characters_in}
-use Rattle.gabc_score.specs.machine.BodyBuilder.{with_all, code_in}
+use Rattle.gabc_body.specs.declared.events.BodyEvent.{BodyEvent}
+use Rattle.gabc_body.specs.ScoreEvents.{ScoreOutput, characters_in}
+use Rattle.gabc_body.specs.witness.BodyBuilder.{with_all, code_in}
 use Rattle.gabc_score.specs.machine.ScoreStage.{HeldScore, point_outputs, score_past, body_left}
 
 -- these characters as inputs of the body

@@ -25,13 +25,13 @@ use Rattle.gabc_notes.specs.Events.{note_events}
 use Rattle.gabc_notes.specs.Regular.{each_kept}
 use Rattle.gabc_notes.specs.SnippetRead.{findings_of as notes_found}
 use Rattle.gabc_nabc.specs.Events.{nabc_events}
-use Rattle.gabc_score.specs.Events.{InText, InNotes, is_next, is_close, next_line, texts_by_definition, text_from, snippet_from}
-use Rattle.gabc_score.specs.FoundInParts.{snippet_events}
+use Rattle.gabc_body.specs.Events.{InText, InNotes, is_next, is_close, next_line, texts_by_definition, text_from, snippet_from}
+use Rattle.gabc_body.specs.FoundInParts.{snippet_events}
 use Rattle.gabc_score.specs.RegularSyllable.{IsRegularOn, ended_at}
-use Rattle.gabc_score.specs.Units.{Mark, Opens, Next, Closes, events_through, EndsAfter}
-use Rattle.gabc_score.proofs.order.FindingsOfParts.{found, text_through, snippet_through}
-use Rattle.gabc_score.proofs.stopped_scores.PrefixesAreReadAlike.{all_agree}
-use Rattle.gabc_score.proofs.texts_of_body.TextEmitsThroughEnd.{any_after, none_ends, ends_apart, length_of_codes, codes_append}
+use Rattle.gabc_body.specs.Units.{Mark, Opens, Next, Closes, events_through, EndsAfter}
+use Rattle.gabc_body.proofs.order.FindingsOfParts.{found, text_through, snippet_through}
+use Rattle.gabc_body.proofs.stopped_scores.PrefixesAreReadAlike.{all_agree}
+use Rattle.gabc_body.proofs.texts_of_body.TextEmitsThroughEnd.{any_after, none_ends, ends_apart, length_of_codes, codes_append}
 
 -- ---- texts
 

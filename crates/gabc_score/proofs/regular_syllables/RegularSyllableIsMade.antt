@@ -34,26 +34,26 @@ use Rattle.gabc_notes.specs.declared.stage.NoteEnd.TheVariants as note_end
 use Rattle.gabc_nabc.specs.Events as nabc_read
 use Rattle.gabc_nabc.specs.ReadAgain.{IsNabcReadAgain}
 use Rattle.gabc_nabc.specs.Table.{nabc}
-use Rattle.gabc_score.specs.declared.events.BodyEvent.{BodyEvent}
-use Rattle.gabc_score.specs.declared.snippets.Snippet.{Snippet}
-use Rattle.gabc_score.specs.Body.{findings_of}
-use Rattle.gabc_score.specs.Canonical.{canonical, translation_text, with_bars}
-use Rattle.gabc_score.specs.Events.{texts_by_definition, text_from, snippet_from, next_line}
-use Rattle.gabc_score.specs.Holding.{ReadSnippet, kept_on_line, in_brackets, IsHeld}
+use Rattle.gabc_body.specs.declared.events.BodyEvent.{BodyEvent}
+use Rattle.gabc_body.specs.declared.snippets.Snippet.{Snippet}
+use Rattle.gabc_body.specs.Body.{findings_of}
+use Rattle.gabc_body.specs.Canonical.{canonical, translation_text, with_bars}
+use Rattle.gabc_body.specs.Events.{texts_by_definition, text_from, snippet_from, next_line}
+use Rattle.gabc_body.specs.Holding.{ReadSnippet, kept_on_line, in_brackets, IsHeld}
 use Rattle.gabc_score.specs.RegularSyllable.{SaysText, SyllableParts, line_and_text, snippet_texts, with_lines, IsRegularOn, AreRegularFrom, IsRegularSyllable, has_gap, gap_kept, kept_spelled, canonical_spelled, notes_spelled, spelled, after_part, nexts_at, final_at, unit_at}
-use Rattle.gabc_score.specs.Syllable.{UnplacedSyllable, since_close, slice}
-use Rattle.gabc_score.specs.SyllablesOfUnits.{HoldsUnit, NotesAre, ScoreUnit, score_unit, characters_in, characters_from}
-use Rattle.gabc_score.specs.UnitRead.{GivesOneSyllable, first_events, emitted_through}
-use Rattle.gabc_score.specs.Units.{Closes, EndedPart, BodyUnit, JustText, CutPart, Cuts, cut_part, whole, snippets_with, units_pieces}
-use Rattle.gabc_score.proofs.holding.SnippetsAreHeld.{bytes_stand, next_turn}
-use Rattle.gabc_score.proofs.holding.SpansBetweenCharacters.{part_text}
-use Rattle.gabc_score.proofs.order.FindingsOfParts.{found, found_onto}
-use Rattle.gabc_score.proofs.holding.PartsAreAUnit.{none_left}
+use Rattle.gabc_body.specs.Syllable.{UnplacedSyllable, since_close, slice}
+use Rattle.gabc_body.specs.SyllablesOfUnits.{HoldsUnit, NotesAre, ScoreUnit, score_unit, characters_in, characters_from}
+use Rattle.gabc_body.specs.UnitRead.{GivesOneSyllable, first_events, emitted_through}
+use Rattle.gabc_body.specs.Units.{Closes, EndedPart, BodyUnit, JustText, CutPart, Cuts, cut_part, whole, snippets_with, units_pieces}
+use Rattle.gabc_body.proofs.holding.SnippetsAreHeld.{bytes_stand, next_turn}
+use Rattle.gabc_body.proofs.holding.SpansBetweenCharacters.{part_text}
+use Rattle.gabc_body.proofs.order.FindingsOfParts.{found, found_onto}
+use Rattle.gabc_body.proofs.holding.PartsAreAUnit.{none_left}
 use Rattle.gabc_score.proofs.resuming.PartsAreOne.{nothing_marked}
 use Rattle.gabc_score.proofs.regular_syllables.RegularPartsEnd.{head_same, tail_same, next_ends, close_ends}
 use Rattle.gabc_score.proofs.regular_syllables.RegularSyllableIsRead.{notes_at, unit_placed, syllable_passes, text_there, split_of, splits}
-use Rattle.gabc_score.proofs.syllables_of_units.UnitGivesOneSyllable.{one_syllable}
-use Rattle.gabc_score.proofs.syllables_of_units.UnitsGiveSyllables.{units_whole}
+use Rattle.gabc_body.proofs.syllables_of_units.UnitGivesOneSyllable.{one_syllable}
+use Rattle.gabc_body.proofs.syllables_of_units.UnitsGiveSyllables.{units_whole}
 
 -- ---- lists
 

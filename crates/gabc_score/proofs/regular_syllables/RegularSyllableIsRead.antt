@@ -15,16 +15,16 @@ use Rattle.gabc_text.specs.Events.{codes_of, events_by_point, after_tokens}
 use Rattle.gabc_text.specs.View.{findings}
 use Rattle.gabc_notes.specs.Events.{note_events}
 use Rattle.gabc_nabc.specs.Events.{nabc_events}
-use Rattle.gabc_score.specs.declared.events.BodyEvent.{BodyEvent}
-use Rattle.gabc_score.specs.Events.{PartAhead, texts_by_definition, text_from, snippet_from, next_line, after_mark, events_from}
+use Rattle.gabc_body.specs.declared.events.BodyEvent.{BodyEvent}
+use Rattle.gabc_body.specs.Events.{PartAhead, texts_by_definition, text_from, snippet_from, next_line, after_mark, events_from}
 use Rattle.gabc_score.specs.RegularSyllable.{SyllableParts, IsRegularSyllable, AreRegularFrom, IsReadAsItStands, notes_spelled, spelled, ended_at, after_part, nexts_at, final_at, unit_at}
-use Rattle.gabc_score.specs.SyllablesOfUnits.{with_ends, characters_in}
-use Rattle.gabc_score.specs.Units.{Opens, Next, Closes, EndedPart, events_through, EndsAfter}
-use Rattle.gabc_score.proofs.order.FindingsOfParts.{found, found_append, found_onto}
+use Rattle.gabc_body.specs.SyllablesOfUnits.{with_ends, characters_in}
+use Rattle.gabc_body.specs.Units.{Opens, Next, Closes, EndedPart, events_through, EndsAfter}
+use Rattle.gabc_body.proofs.order.FindingsOfParts.{found, found_append, found_onto}
 use Rattle.gabc_score.proofs.regular_syllables.RegularPartsEnd.{text_ends, text_none, next_ends, close_ends}
-use Rattle.gabc_score.proofs.stopped_scores.PrefixesAreReadAlike.{through_length}
-use Rattle.gabc_score.proofs.texts_of_body.TextEmitsThroughEnd.{codes_append}
-use Rattle.gabc_score.proofs.units.BodyHasOneCutting.{ends_emitted}
+use Rattle.gabc_body.proofs.stopped_scores.PrefixesAreReadAlike.{through_length}
+use Rattle.gabc_body.proofs.texts_of_body.TextEmitsThroughEnd.{codes_append}
+use Rattle.gabc_body.proofs.units.BodyHasOneCutting.{ends_emitted}
 
 -- ---- the characters
 

@@ -15,36 +15,36 @@ use Rattle.gabc_text.specs.RegularText.{IsRegularText, is_gap}
 use Rattle.gabc_text.specs.View.{kept}
 use Rattle.gabc_text.specs.ViewFacts.{view_facts, span_tags}
 use Rattle.gabc_text.proofs.KeptCharacters.{codes_placed}
-use Rattle.gabc_score.specs.declared.before.Spans.{Spans}
-use Rattle.gabc_score.specs.declared.events.BodyEvent.{BodyEvent}
+use Rattle.gabc_body.specs.declared.before.Spans.{Spans}
+use Rattle.gabc_body.specs.declared.events.BodyEvent.{BodyEvent}
 use Rattle.gabc_score.specs.Before.{sounds}
-use Rattle.gabc_score.specs.Body.{findings_of, is_none}
-use Rattle.gabc_score.specs.Events.{Texts, texts_by_definition, text_from, after_mark, events_from}
+use Rattle.gabc_body.specs.Body.{findings_of, is_none}
+use Rattle.gabc_body.specs.Events.{Texts, texts_by_definition, text_from, after_mark, events_from}
 use Rattle.gabc_score.specs.RegularSyllable.{SyllableParts, IsRegularSyllable, MakesItsSpelling, spelled, notes_spelled, after_part, nexts_at, unit_at}
-use Rattle.gabc_score.specs.SpansPast.{eu_past, nlba_past}
-use Rattle.gabc_score.specs.Syllable.{UnplacedSyllable}
-use Rattle.gabc_score.specs.SyllablesOfUnits as units
-use Rattle.gabc_score.specs.UnitRead.{first_events}
-use Rattle.gabc_score.specs.Units.{BodyUnit, EndedPart}
+use Rattle.gabc_body.specs.SpansPast.{eu_past, nlba_past}
+use Rattle.gabc_body.specs.Syllable.{UnplacedSyllable}
+use Rattle.gabc_body.specs.SyllablesOfUnits as units
+use Rattle.gabc_body.specs.UnitRead.{first_events}
+use Rattle.gabc_body.specs.Units.{BodyUnit, EndedPart}
 use Rattle.gabc_score.specs.witness.BodyStage.{texts_by_stage}
 use Rattle.gabc_score.specs.machine.Between.{with_one, past_one, given_before, SoundsNoMore, IsBetween, LeavesRoomFor, GoesThrough, lists_between, IsAloneWith, IsMadeOf}
-use Rattle.gabc_score.specs.machine.BodyBuilder.{with_all}
-use Rattle.gabc_score.specs.machine.Gatherer.{Gathered}
+use Rattle.gabc_body.specs.witness.BodyBuilder.{with_all}
+use Rattle.gabc_body.specs.witness.Gatherer.{Gathered}
 use Rattle.gabc_score.specs.machine.Preceded.{spans_of}
 use Rattle.gabc_score.specs.machine.ReadAlone.{is_error}
 use Rattle.gabc_score.specs.machine.ScoreStage.{HeldScore}
-use Rattle.gabc_score.specs.machine.SyllableBuilder.{nothing_open}
-use Rattle.gabc_score.proofs.building.OneListEachCharacter.{events_each}
-use Rattle.gabc_score.proofs.order.FindingsOfParts.{found, found_onto}
+use Rattle.gabc_body.specs.witness.SyllableBuilder.{nothing_open}
+use Rattle.gabc_body.proofs.emitted.OneListEachCharacter.{events_each}
+use Rattle.gabc_body.proofs.order.FindingsOfParts.{found, found_onto}
 use Rattle.gabc_score.proofs.regular_syllables.OneMore.{Gathers, holding_one, Pass, next_of, one_passes}
 use Rattle.gabc_score.proofs.regular_syllables.PlaceIsPast.{mark_past, next_past}
 use Rattle.gabc_score.proofs.regular_syllables.PointsPass.{inputs_are_in, score_through, points_pass}
-use Rattle.gabc_score.proofs.holding.PartsAreAUnit.{none_left}
+use Rattle.gabc_body.proofs.holding.PartsAreAUnit.{none_left}
 use Rattle.gabc_score.proofs.regular_syllables.RegularSyllableIsRead.{unit_placed}
 use Rattle.gabc_score.proofs.regular_syllables.SpellingIsShort.{canonical_short, keeps_within}
 use Rattle.gabc_score.proofs.regular_syllables.UnitIsGathered.{unit_gathers, unit_is_gathered}
 use Rattle.gabc_score.proofs.resuming.HeldIsRead.{alone_of}
-use Rattle.gabc_score.proofs.resuming.OpenSpans.{opened, leaves_open, none_cut}
+use Rattle.gabc_body.proofs.syllables_of_units.OpenSpans.{opened, leaves_open, none_cut}
 
 module _ (lines macros : ℕ) (at : Place) (r : SyllableParts) (regular : IsRegularSyllable lines r) (fits : CountsFit at (spelled r)) where
   abbrev us : List Char

@@ -21,7 +21,7 @@ use Rattle.gabc_notes.specs.Regular.{each_kept}
 use Rattle.gabc_nabc.specs.Events.{nabc_events}
 use Rattle.gabc_score.specs.declared.spelled.SpelledSnippets.{SpelledSnippets}
 use Rattle.gabc_score.specs.declared.spelled.SpelledSyllable.{SpelledSyllable}
-use Rattle.gabc_score.specs.Events.{next_line}
+use Rattle.gabc_body.specs.Events.{next_line}
 use Rattle.gabc_score.specs.RegularSyllable.{IsRegularOn, AreRegularFrom, notes_spelled, with_lines}
 use Rattle.gabc_text.specs.RegularText.{IsRegularText, text_part, translation_part}
 use Rattle.gabc_score.specs.SpelledSyllable.{AreTextsOf, AreToCome, IsSpelling, ToCome, first_of}

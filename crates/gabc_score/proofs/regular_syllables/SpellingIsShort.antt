@@ -8,15 +8,15 @@ use Rattle.gabc_places.specs.declared.place.Place.{Place}
 use Rattle.gabc_text.specs.Events.{codes_of}
 use Rattle.gabc_text.specs.RegularText.{IsRegularText, is_gap}
 use Rattle.gabc_text.specs.View.{kept}
-use Rattle.gabc_score.specs.Canonical.{canonical}
+use Rattle.gabc_body.specs.Canonical.{canonical}
 use Rattle.gabc_score.specs.RegularSyllable.{SyllableParts, IsRegularSyllable, has_gap, gap_kept, canonical_spelled, notes_spelled, spelled, unit_at}
-use Rattle.gabc_score.specs.Syllable.{UnplacedSyllable}
-use Rattle.gabc_score.specs.SyllablesOfUnits.{characters_in, score_unit}
-use Rattle.gabc_score.specs.WithinLimits.{KeepsWithin}
+use Rattle.gabc_body.specs.Syllable.{UnplacedSyllable}
+use Rattle.gabc_body.specs.SyllablesOfUnits.{characters_in, score_unit}
+use Rattle.gabc_body.specs.WithinLimits.{KeepsWithin}
 use Rattle.gabc_score.proofs.regular_syllables.RegularSyllableIsMade.{one_byte, text_kept}
 use Rattle.gabc_score.proofs.regular_syllables.RegularSyllableIsRead.{unit_placed}
-use Rattle.gabc_score.proofs.texts_of_body.SeamsOfCharacters.{size, size_append}
-use Rattle.gabc_score.proofs.texts_of_body.TextEmitsThroughEnd.{codes_append}
+use Rattle.gabc_body.proofs.texts_of_body.SeamsOfCharacters.{size, size_append}
+use Rattle.gabc_body.proofs.texts_of_body.TextEmitsThroughEnd.{codes_append}
 
 -- ---- bytes
 

@@ -15,16 +15,16 @@ use Rattle.gabc_text.specs.declared.stage.TextStage.{TextStage}
 use Rattle.gabc_text.specs.witness.EventsLeft.{events_left}
 use Rattle.gabc_notes.specs.Events.{note_events}
 use Rattle.gabc_nabc.specs.Events.{nabc_events}
-use Rattle.gabc_score.specs.declared.events.BodyEvent.{BodyEvent}
-use Rattle.gabc_score.specs.Events.{PartAhead, Texts, texts_by_definition, text_from, snippet_from, next_line, after_mark, events_from}
+use Rattle.gabc_body.specs.declared.events.BodyEvent.{BodyEvent}
+use Rattle.gabc_body.specs.Events.{PartAhead, Texts, texts_by_definition, text_from, snippet_from, next_line, after_mark, events_from}
 use Rattle.gabc_score.specs.RegularSyllable.{SyllableParts, IsRegularSyllable, AreRegularFrom, spelled, ended_at, after_part, final_at, unit_at}
-use Rattle.gabc_score.specs.SyllablesOfUnits.{with_ends, characters_in}
-use Rattle.gabc_score.specs.Units.{Opens, Next, Closes, events_through}
+use Rattle.gabc_body.specs.SyllablesOfUnits.{with_ends, characters_in}
+use Rattle.gabc_body.specs.Units.{Opens, Next, Closes, events_through}
 use Rattle.gabc_score.specs.witness.BodyStage.{texts_by_stage}
 use Rattle.gabc_score.proofs.regular_syllables.RegularPartsEnd.{next_ends, close_ends}
 use Rattle.gabc_score.proofs.regular_syllables.RegularSyllableIsRead.{notes_at, unit_placed, text_there, split_of, splits}
-use Rattle.gabc_score.proofs.stopped_scores.PrefixesAreReadAlike.{Agree, agree_ends, agree_through, through_length, snippet_agrees, text_agree}
-use Rattle.gabc_score.proofs.units.BodyHasOneCutting.{ends_emitted}
+use Rattle.gabc_body.proofs.stopped_scores.PrefixesAreReadAlike.{Agree, agree_ends, agree_through, through_length, snippet_agrees, text_agree}
+use Rattle.gabc_body.proofs.units.BodyHasOneCutting.{ends_emitted}
 
 module _ (fresh_is : (at : Place) (t : List ℕ) → CountsFit at t → events_left (fresh_stage at) t ≡ events_by_point at t)
     (so_far : (s : TextStage) (t u v : List ℕ) → take (length t) (events_left s (t ++ u)) ≡ take (length t) (events_left s (t ++ v)))

@@ -14,27 +14,27 @@ use Rattle.gabc_text.specs.declared.text_event.TextPart.TheVariants as part
 use Rattle.gabc_notes.specs.declared.item.ItemKind.{ItemKind}
 use Rattle.gabc_notes.specs.declared.stage.NoteEnd.TheVariants as note_end
 use Rattle.gabc_notes.specs.declared.stage.NoteEvent.TheVariants as note
-use Rattle.gabc_score.specs.declared.before.Spans.{Spans}
-use Rattle.gabc_score.specs.declared.events.BodyEvent.{BodyEvent}
-use Rattle.gabc_score.specs.declared.events.BodyEvent.TheVariants as event
-use Rattle.gabc_score.specs.declared.before.Preceding.{Preceding}
+use Rattle.gabc_body.specs.declared.before.Spans.{Spans}
+use Rattle.gabc_body.specs.declared.events.BodyEvent.{BodyEvent}
+use Rattle.gabc_body.specs.declared.events.BodyEvent.TheVariants as event
+use Rattle.gabc_score.specs.declared.preceding.Preceding.{Preceding}
 use Rattle.gabc_score.specs.Before.{sounds, sounds_in, with_each}
-use Rattle.gabc_score.specs.Body.{is_longer, events_onto, cut_of}
-use Rattle.gabc_score.specs.Canonical.{canonical}
-use Rattle.gabc_score.specs.HeldAgain.{LeavesOpen}
-use Rattle.gabc_score.specs.Syllable.{UnplacedSyllable, all_syllables}
-use Rattle.gabc_score.specs.SyllablesOfUnits.{characters_in, score_unit}
-use Rattle.gabc_score.specs.UnitRead.{GivesOneSyllable, first_events, emitted_through}
-use Rattle.gabc_score.specs.Units.{BodyUnit}
-use Rattle.gabc_score.specs.WithinLimits.{KeepsWithin}
+use Rattle.gabc_body.specs.Body.{is_longer, events_onto, cut_of}
+use Rattle.gabc_body.specs.Canonical.{canonical}
+use Rattle.gabc_body.specs.OpenSpans.{LeavesOpen}
+use Rattle.gabc_body.specs.Syllable.{UnplacedSyllable, all_syllables}
+use Rattle.gabc_body.specs.SyllablesOfUnits.{characters_in, score_unit}
+use Rattle.gabc_body.specs.UnitRead.{GivesOneSyllable, first_events, emitted_through}
+use Rattle.gabc_body.specs.Units.{BodyUnit}
+use Rattle.gabc_body.specs.WithinLimits.{KeepsWithin}
 use Rattle.gabc_score.specs.machine.Between.{with_one, SoundsNoMore}
-use Rattle.gabc_score.specs.machine.BodyBuilder.{with_all}
-use Rattle.gabc_score.specs.machine.Gatherer.{Gathered, with_event}
+use Rattle.gabc_body.specs.witness.BodyBuilder.{with_all}
+use Rattle.gabc_body.specs.witness.Gatherer.{Gathered, with_event}
 use Rattle.gabc_score.specs.machine.PartKeeps.{ReadAlike}
 use Rattle.gabc_score.specs.machine.Preceded.{IsPreceded}
-use Rattle.gabc_score.specs.machine.SyllableBuilder.{OpenSyllable, nothing_open}
-use Rattle.gabc_score.proofs.building.BuilderHoldsDefinition.{gathered}
-use Rattle.gabc_score.proofs.order.FindingsOfParts.{found}
+use Rattle.gabc_body.specs.witness.SyllableBuilder.{OpenSyllable, nothing_open}
+use Rattle.gabc_body.proofs.gathering.BuilderHoldsDefinition.{gathered}
+use Rattle.gabc_body.proofs.order.FindingsOfParts.{found}
 use Rattle.gabc_score.proofs.regular_syllables.OneMore.{Fits, Gathers, stays_before}
 use Rattle.std.proofs.lemmas.Bool.{or_from}
 use Rattle.gabc_score.proofs.resuming.MadeOfEvents.{open_of, MadeAlike, made_after, Counts, counts_from, size_of}

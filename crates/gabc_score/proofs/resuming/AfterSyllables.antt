@@ -2,12 +2,12 @@
 use Rattle.std.proofs.Common.{◌≡◌, ℕ, ◌||◌, Bool, false, [], None, is_some, refl, arith}
 use Rattle.std.proofs.lemmas.List.Elements.{All-nil}
 use Rattle.gabc_text.specs.witness.Keeps as text
-use Rattle.gabc_score.specs.declared.before.Before.{Before}
+use Rattle.gabc_body.specs.declared.before.Before.{Before}
 use Rattle.gabc_score.specs.declared.body_stage.BodyPart.{BodyPart}
 use Rattle.gabc_score.specs.Before.{preceding_of}
-use Rattle.gabc_score.specs.machine.Gatherer.{nothing_gathered}
+use Rattle.gabc_body.specs.witness.Gatherer.{nothing_gathered}
 use Rattle.gabc_places.specs.declared.limits.Limits.{Limits}
-use Rattle.gabc_score.specs.machine.BodyBuilder.{code_in}
+use Rattle.gabc_body.specs.witness.BodyBuilder.{code_in}
 use Rattle.gabc_score.proofs.score_events.EventsStayWithinBounds.{none_passed}
 use Rattle.gabc_score.specs.machine.PartKeeps.{in_text, IsReading, PartKeeps}
 use Rattle.gabc_score.specs.machine.Preceded.{EndsBefore, IsPreceded}

@@ -5,26 +5,26 @@ use Rattle.gabc_places.specs.declared.place.Place.{Place}
 use Rattle.gabc_headers.specs.declared.head_event.HeadEvent.{HeadEvent}
 use Rattle.gabc_headers.specs.declared.head_event.HeadEvent.TheVariants as head_event
 use Rattle.gabc_notes.specs.declared.item.ItemKind.{ItemKind}
-use Rattle.gabc_score.specs.declared.before.Preceding.{Preceding}
-use Rattle.gabc_score.specs.declared.before.Spans.{Spans}
+use Rattle.gabc_score.specs.declared.preceding.Preceding.{Preceding}
+use Rattle.gabc_body.specs.declared.before.Spans.{Spans}
 use Rattle.gabc_score.specs.declared.body_stage.BodyPart.{BodyPart}
 use Rattle.gabc_score.specs.declared.body_stage.BodyPart.TheVariants as part
-use Rattle.gabc_score.specs.declared.events.BodyEvent.{BodyEvent}
+use Rattle.gabc_body.specs.declared.events.BodyEvent.{BodyEvent}
 use Rattle.gabc_score.specs.declared.score_machine.ScoreMachine.{ScoreMachine}
 use Rattle.gabc_score.specs.declared.score_machine.ScorePart.{ScorePart}
 use Rattle.gabc_score.specs.declared.score_machine.ScorePart.TheVariants as score_part
 use Rattle.gabc_score.specs.Before.{with_each}
-use Rattle.gabc_score.specs.Events.{InComment, events_from}
-use Rattle.gabc_score.specs.ScoreEvents.{Found, characters_in}
+use Rattle.gabc_body.specs.Events.{InComment, events_from}
+use Rattle.gabc_body.specs.ScoreEvents.{Found, characters_in}
 use Rattle.gabc_score.specs.ScoreReports.{is_in_front, held_in_body, moved_part, reading_in_body}
-use Rattle.gabc_score.specs.Syllable.{UnplacedSyllable}
-use Rattle.gabc_score.specs.machine.BodyBuilder.{code_in}
-use Rattle.gabc_score.specs.machine.Gatherer.{Gathered}
+use Rattle.gabc_body.specs.Syllable.{UnplacedSyllable}
+use Rattle.gabc_body.specs.witness.BodyBuilder.{code_in}
+use Rattle.gabc_body.specs.witness.Gatherer.{Gathered}
 use Rattle.gabc_score.specs.machine.PartCounts.{CountsHold}
 use Rattle.gabc_score.specs.machine.PartKeeps.{begun, ReadAlike}
 use Rattle.gabc_score.specs.machine.ScoreMachine.{held_score, IsInBody, IsScoreAt}
 use Rattle.gabc_score.specs.machine.ScoreStage.{HeldScore, body_left, outputs_left}
-use Rattle.gabc_score.specs.machine.SyllableBuilder.{OpenSyllable, nothing_open}
+use Rattle.gabc_body.specs.witness.SyllableBuilder.{OpenSyllable, nothing_open}
 use Rattle.gabc_score.specs.witness.BodyStage.{running_events_left, texts_by_stage}
 use Rattle.gabc_score.proofs.resuming.NothingIsRead.{nothing_alike}
 

@@ -11,18 +11,18 @@ use Rattle.gabc_places.specs.declared.code.Finding.{Finding}
 use Rattle.gabc_places.specs.declared.place.Char.{Char}
 use Rattle.gabc_places.specs.declared.place.Place.{Place}
 use Rattle.gabc_notes.specs.declared.item.ItemKind.{ItemKind}
-use Rattle.gabc_score.specs.declared.events.BodyEvent.{BodyEvent}
+use Rattle.gabc_body.specs.declared.events.BodyEvent.{BodyEvent}
 use Rattle.gabc_score.specs.declared.score_event.ScoreEvent.{ScoreEvent}
 use Rattle.gabc_score.specs.declared.score_machine.ScoreMachine.{ScoreMachine}
 use Rattle.gabc_score.specs.declared.score_machine.ScorePart.TheVariants as score_part
 use Rattle.gabc_score.specs.Before.{with_placed}
-use Rattle.gabc_score.specs.Body.{is_none}
-use Rattle.gabc_score.specs.NoteBeforeClef.{found_first}
-use Rattle.gabc_score.specs.ScoreEvents.{findings_now, outputs_of}
+use Rattle.gabc_body.specs.Body.{is_none}
+use Rattle.gabc_body.specs.NoteBeforeClef.{found_first}
+use Rattle.gabc_body.specs.ScoreEvents.{findings_now, outputs_of}
 use Rattle.gabc_score.specs.ScoreStage.{events_of}
-use Rattle.gabc_score.specs.Syllable.{PlacedSyllable, UnplacedSyllable}
-use Rattle.gabc_score.specs.machine.BodyBuilder.{with_all, code_in}
-use Rattle.gabc_score.specs.machine.Gatherer.{Gathered}
+use Rattle.gabc_body.specs.Syllable.{PlacedSyllable, UnplacedSyllable}
+use Rattle.gabc_body.specs.witness.BodyBuilder.{with_all, code_in}
+use Rattle.gabc_body.specs.witness.Gatherer.{Gathered}
 use Rattle.gabc_score.specs.machine.PartPushes.{ClosesLast}
 use Rattle.gabc_score.specs.machine.ReadAlone.{is_error, is_error_event, ReadsAlone}
 use Rattle.gabc_score.specs.machine.ReadsChar.{Gathers, Passes, ReadsChar, found_past, past_char, stops, goes}

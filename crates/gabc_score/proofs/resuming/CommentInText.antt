@@ -7,7 +7,7 @@ use Rattle.gabc_text.specs.declared.token_state.TokenState.TheVariants.{Comment}
 use Rattle.gabc_text.specs.witness.Keeps.{Keeps}
 use Rattle.gabc_score.specs.declared.body_stage.BodyPart.TheVariants as part
 use Rattle.gabc_score.specs.ReadAgain.{CanBeReadInText}
-use Rattle.gabc_score.specs.ScoreEvents.{first_place}
+use Rattle.gabc_body.specs.ScoreEvents.{first_place}
 use Rattle.gabc_score.specs.ScoreReports.{IsInFront, before_of}
 use Rattle.gabc_score.specs.machine.PartKeeps.{in_text}
 use Rattle.gabc_score.specs.witness.ScoreStage.{ScoreStageState}

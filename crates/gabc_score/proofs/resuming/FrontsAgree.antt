@@ -16,9 +16,9 @@ use Rattle.gabc_text.specs.declared.text_event.TextEvent.TheVariants as text_eve
 use Rattle.gabc_text.specs.witness.EventsLeft.{events_left}
 use Rattle.gabc_text.specs.witness.Keeps.{Keeps}
 use Rattle.gabc_score.specs.declared.body_stage.BodyPart.{BodyPart}
-use Rattle.gabc_score.specs.declared.events.BodyEvent.{BodyEvent}
-use Rattle.gabc_score.specs.Events.{PartAhead, InComment, InText, events_from, events_in, part_after_character, text_from}
-use Rattle.gabc_score.specs.ScoreEvents.{characters_in}
+use Rattle.gabc_body.specs.declared.events.BodyEvent.{BodyEvent}
+use Rattle.gabc_body.specs.Events.{PartAhead, InComment, InText, events_from, events_in, part_after_character, text_from}
+use Rattle.gabc_body.specs.ScoreEvents.{characters_in}
 use Rattle.gabc_score.specs.ScoreStage.{AreInLine}
 use Rattle.gabc_score.specs.ScoreReports.{is_in_comment, is_in_front, IsAt}
 use Rattle.gabc_score.specs.machine.PartKeeps.{in_text, PartKeeps}

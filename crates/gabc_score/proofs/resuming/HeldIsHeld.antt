@@ -5,19 +5,19 @@ use Rattle.gabc_places.specs.StageLaw.{concat_of}
 use Rattle.gabc_places.specs.declared.place.Place.{Place}
 use Rattle.gabc_text.specs.Events.{CountsFit}
 use Rattle.gabc_text.specs.TextStage.{fresh_stage}
-use Rattle.gabc_score.specs.declared.before.Before.{Before}
-use Rattle.gabc_score.specs.declared.before.Preceding.{Preceding}
+use Rattle.gabc_body.specs.declared.before.Before.{Before}
+use Rattle.gabc_score.specs.declared.preceding.Preceding.{Preceding}
 use Rattle.gabc_score.specs.declared.body_stage.BodyPart.TheVariants.{Text}
 use Rattle.gabc_score.specs.declared.score_machine.ScoreMachine.{ScoreMachine}
 use Rattle.gabc_score.specs.Before.{with_each}
-use Rattle.gabc_score.specs.Events.{texts_by_definition, text_from, events_from}
+use Rattle.gabc_body.specs.Events.{texts_by_definition, text_from, events_from}
 use Rattle.gabc_score.specs.HeldAgain.{MayBeHeld}
 use Rattle.gabc_score.specs.Resumed.{BeginsText}
-use Rattle.gabc_score.specs.ScoreEvents.{first_place}
+use Rattle.gabc_body.specs.ScoreEvents.{first_place}
 use Rattle.gabc_score.specs.ScoreReports.{before_with, held_of}
-use Rattle.gabc_score.specs.Syllable.{UnplacedSyllable}
-use Rattle.gabc_score.specs.machine.BodyBuilder.{with_all}
-use Rattle.gabc_score.specs.machine.Gatherer.{Gathered}
+use Rattle.gabc_body.specs.Syllable.{UnplacedSyllable}
+use Rattle.gabc_body.specs.witness.BodyBuilder.{with_all}
+use Rattle.gabc_body.specs.witness.Gatherer.{Gathered}
 use Rattle.gabc_score.specs.machine.PartKeeps.{begun, ReadAlike}
 use Rattle.gabc_score.specs.machine.ReadAlone.{is_alone, lists_of}
 use Rattle.gabc_score.specs.machine.ScoreMachine.{shown, IsInBody}

@@ -15,25 +15,27 @@ use Rattle.gabc_places.specs.declared.limits.Limits.{Limits}
 use Rattle.gabc_places.specs.declared.severity.Severity.{Severity}
 use Rattle.gabc_places.specs.declared.severity.Severity.TheVariants.{Warning}
 use Rattle.gabc_notes.specs.ReadAgain.{IsWarning}
-use Rattle.gabc_score.specs.declared.before.Before.{Before}
-use Rattle.gabc_score.specs.declared.events.BodyEvent.{BodyEvent}
-use Rattle.gabc_score.specs.Body.{is_longer, is_none, events_onto, findings_of}
-use Rattle.gabc_score.specs.Canonical.{canonical}
-use Rattle.gabc_score.specs.Events.{texts_by_definition, text_from, events_from}
+use Rattle.gabc_body.specs.declared.before.Before.{Before}
+use Rattle.gabc_body.specs.declared.events.BodyEvent.{BodyEvent}
+use Rattle.gabc_body.specs.Body.{is_longer, is_none, events_onto, findings_of}
+use Rattle.gabc_body.specs.Canonical.{canonical}
+use Rattle.gabc_body.specs.Events.{texts_by_definition, text_from, events_from}
 use Rattle.gabc_score.specs.Before.{preceding_of, most}
 use Rattle.gabc_score.specs.ReportedWithin.{written_after}
-use Rattle.gabc_score.specs.HeldAgain.{LeavesOpen, emitted_first, emitted_after, MayBeHeld}
-use Rattle.gabc_score.specs.ScoreEvents.{findings_now, first_place}
-use Rattle.gabc_score.specs.Syllable.{UnplacedSyllable, all_syllables, since_close, kept_of}
-use Rattle.gabc_score.specs.machine.BodyBuilder.{with_all, code_in}
-use Rattle.gabc_score.specs.machine.Gatherer.{Gathered}
+use Rattle.gabc_score.specs.HeldAgain.{emitted_first, emitted_after, MayBeHeld}
+use Rattle.gabc_body.specs.OpenSpans.{LeavesOpen}
+use Rattle.gabc_body.specs.ScoreEvents.{findings_now, first_place}
+use Rattle.gabc_body.specs.Syllable.{UnplacedSyllable, all_syllables, since_close, kept_of}
+use Rattle.gabc_body.specs.witness.BodyBuilder.{with_all, code_in}
+use Rattle.gabc_body.specs.witness.Gatherer.{Gathered}
 use Rattle.gabc_score.specs.machine.ReadAlone.{is_grave, is_error, is_fine, is_alone}
-use Rattle.gabc_score.specs.machine.SyllableBuilder.{nothing_open}
-use Rattle.gabc_score.proofs.building.EventsOfOnePoint.{with_all_append, found_on}
+use Rattle.gabc_body.specs.witness.SyllableBuilder.{nothing_open}
+use Rattle.gabc_body.proofs.gathering.EventsOfOnePoint.{with_all_append}
+use Rattle.gabc_body.proofs.gathering.EventsOfOnePoint.{found_on}
 use Rattle.gabc_score.proofs.resuming.MadeOfEvents.{Counts, counts_from, made_after, size_of}
-use Rattle.gabc_score.proofs.resuming.OpenSpans.{opened, leaves_open}
+use Rattle.gabc_body.proofs.syllables_of_units.OpenSpans.{opened, leaves_open}
 use Rattle.gabc_score.proofs.score_events.WhatPrecedes.{not_some}
-use Rattle.gabc_score.proofs.building.EventsOfSyllableParts.{onto_append}
+use Rattle.gabc_body.proofs.emitted.EventsOfSyllableParts.{onto_append}
 use Rattle.gabc_score.proofs.resuming.MachinesPassAgain.{none_is}
 
 -- ---- through lists of events

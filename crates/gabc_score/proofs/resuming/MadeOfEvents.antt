@@ -5,20 +5,20 @@ use Rattle.gabc_text.specs.declared.text_event.TextEvent.TheVariants as text
 use Rattle.gabc_text.specs.declared.text_event.TextPart.TheVariants as part
 use Rattle.gabc_notes.specs.declared.stage.NoteEnd.TheVariants as note_end
 use Rattle.gabc_notes.specs.declared.stage.NoteEvent.TheVariants as note
-use Rattle.gabc_score.specs.declared.before.Spans.{Spans}
-use Rattle.gabc_score.specs.declared.events.BodyEvent.{BodyEvent}
-use Rattle.gabc_score.specs.declared.events.BodyEvent.TheVariants as event
-use Rattle.gabc_score.specs.Body.{is_longer, events_onto}
-use Rattle.gabc_score.specs.Canonical.{canonical}
-use Rattle.gabc_score.specs.HeldAgain.{LeavesOpen}
-use Rattle.gabc_score.specs.Syllable.{UnplacedSyllable, all_syllables, kept_of, view_of, snippets_of, ended_parts_of}
-use Rattle.gabc_score.specs.machine.BodyBuilder.{with_all}
-use Rattle.gabc_score.specs.machine.Gatherer.{Gathered, with_event, with_snippet, with_made}
+use Rattle.gabc_body.specs.declared.before.Spans.{Spans}
+use Rattle.gabc_body.specs.declared.events.BodyEvent.{BodyEvent}
+use Rattle.gabc_body.specs.declared.events.BodyEvent.TheVariants as event
+use Rattle.gabc_body.specs.Body.{is_longer, events_onto}
+use Rattle.gabc_body.specs.Canonical.{canonical}
+use Rattle.gabc_body.specs.OpenSpans.{LeavesOpen}
+use Rattle.gabc_body.specs.Syllable.{UnplacedSyllable, all_syllables, kept_of, view_of, snippets_of, ended_parts_of}
+use Rattle.gabc_body.specs.witness.BodyBuilder.{with_all}
+use Rattle.gabc_body.specs.witness.Gatherer.{Gathered, with_event, with_snippet, with_made}
 use Rattle.gabc_score.specs.machine.PartKeeps.{ReadAlike}
-use Rattle.gabc_score.specs.machine.SyllableBuilder.{OpenSyllable, nothing_open, made_from}
+use Rattle.gabc_body.specs.witness.SyllableBuilder.{OpenSyllable, nothing_open, made_from}
 use Rattle.gabc_score.specs.Before.{most}
-use Rattle.gabc_score.proofs.building.BuilderHoldsDefinition.{gathered}
-use Rattle.gabc_score.proofs.building.EventsOfOnePoint.{gathered_all}
+use Rattle.gabc_body.proofs.gathering.BuilderHoldsDefinition.{gathered}
+use Rattle.gabc_body.proofs.gathering.EventsOfOnePoint.{gathered_all}
 use Rattle.gabc_score.proofs.building.PartsOfKeptText.{event_alike}
 
 -- ---- the syllables

@@ -4,7 +4,7 @@ use Rattle.std.proofs.lemmas.Bool.{eqb-true}
 use Rattle.gabc_text.specs.declared.stage.TextStage.{TextStage}
 use Rattle.gabc_text.specs.witness.Keeps as text
 use Rattle.gabc_score.specs.declared.body_stage.BodyPart.{BodyPart}
-use Rattle.gabc_score.specs.Events.{next_line}
+use Rattle.gabc_body.specs.Events.{next_line}
 use Rattle.gabc_score.specs.machine.PartKeeps.{KeptParts, in_text, in_notes, barred, joined, line_after, IsEndedText, IsEndedOn, AreEnded, PartKeeps}
 use Rattle.gabc_score.specs.machine.ReadAgain.{IsNextIn, IsNext}
 use Rattle.gabc_score.specs.machine.StageLaws.{Again}

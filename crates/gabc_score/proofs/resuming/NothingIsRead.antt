@@ -2,12 +2,12 @@
 use Rattle.std.proofs.Common.{◌≡◌, ℕ, [], ◌∷◌, ◌++◌, sym, ap, subst, ◌∙◌, append_assoc, arith}
 use Rattle.std.proofs.lemmas.Str.{encodes_same}
 use Rattle.gabc_text.specs.witness.Keeps as text
-use Rattle.gabc_score.specs.declared.before.Spans.{Spans}
+use Rattle.gabc_body.specs.declared.before.Spans.{Spans}
 use Rattle.gabc_score.specs.declared.body_stage.BodyPart.{BodyPart}
-use Rattle.gabc_score.specs.machine.BodyBuilder.{with_all}
-use Rattle.gabc_score.specs.machine.Gatherer.{Gathered}
+use Rattle.gabc_body.specs.witness.BodyBuilder.{with_all}
+use Rattle.gabc_body.specs.witness.Gatherer.{Gathered}
 use Rattle.gabc_score.specs.machine.PartKeeps.{KeptParts, in_text, in_notes, joined, said_by, begun, barred, PartKeeps, IsReading, ReadAlike}
-use Rattle.gabc_score.specs.machine.SyllableBuilder.{nothing_open}
+use Rattle.gabc_body.specs.witness.SyllableBuilder.{nothing_open}
 use Rattle.gabc_score.proofs.resuming.PartsAreOne.{nothing_marked}
 
 empty_parts : (p : KeptParts) → joined p ≡ [] → p ≡ in_text []

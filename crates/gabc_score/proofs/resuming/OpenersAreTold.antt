@@ -11,7 +11,7 @@ use Rattle.gabc_notes.specs.witness.ItemMachine.{example}
 use Rattle.gabc_score.specs.declared.body_stage.BodyPart.{BodyPart}
 use Rattle.gabc_score.specs.declared.body_stage.BodyPart.TheVariants as part
 use Rattle.gabc_score.specs.declared.body_tells.Openers.{Openers}
-use Rattle.gabc_score.specs.ScoreEvents.{first_place}
+use Rattle.gabc_body.specs.ScoreEvents.{first_place}
 use Rattle.gabc_score.specs.ScoreReports.{is_in_comment, is_in_front, openers_of}
 use Rattle.gabc_score.specs.machine.PartKeeps.{KeptParts, in_text, in_notes, barred, joined, PartKeeps}
 use Rattle.gabc_score.specs.machine.ReadAgain.{OpenAt, inner_of, outer_of}

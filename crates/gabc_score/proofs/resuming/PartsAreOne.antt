@@ -14,7 +14,7 @@ use Rattle.gabc_notes.specs.witness.Keeps as notes
 use Rattle.gabc_nabc.specs.declared.stage.NabcStage.{NabcStage}
 use Rattle.gabc_nabc.specs.witness.Keeps as nabc
 use Rattle.gabc_score.specs.declared.body_stage.BodyPart.{BodyPart}
-use Rattle.gabc_score.specs.Events.{next_line}
+use Rattle.gabc_body.specs.Events.{next_line}
 use Rattle.gabc_score.specs.machine.StageLaws.{Again}
 use Rattle.gabc_score.specs.machine.PartKeeps.{KeptParts, in_text, in_notes, barred, joined, line_after, IsEndedText, IsEndedOn, AreEnded, PartKeeps}
 

@@ -29,18 +29,20 @@ use Rattle.gabc_nabc.specs.declared.stage.NabcStage.{NabcStage}
 use Rattle.gabc_score.specs.declared.body_stage.BodyPart.{BodyPart}
 use Rattle.gabc_score.specs.declared.body_stage.BodyPart.TheVariants as part
 use Rattle.gabc_score.specs.declared.body_tells.Openers.{Openers}
-use Rattle.gabc_score.specs.Events.{after_mark, is_close, is_next, is_text_end}
+use Rattle.gabc_body.specs.Events.{after_mark, is_close, is_next, is_text_end}
 use Rattle.gabc_score.specs.ScoreReports.{is_in_comment, is_in_front, openers_of}
-use Rattle.gabc_score.specs.Syllable.{prefix_of}
-use Rattle.gabc_score.specs.machine.BodyBuilder.{with_all}
-use Rattle.gabc_score.specs.machine.Gatherer.{Gathered}
-use Rattle.gabc_score.specs.machine.PartKeeps.{KeptParts, in_text, in_notes, text_before, text_events, snippet_events, PartKeeps}
+use Rattle.gabc_body.specs.Syllable.{prefix_of}
+use Rattle.gabc_body.specs.witness.BodyBuilder.{with_all}
+use Rattle.gabc_body.specs.witness.Gatherer.{Gathered}
+use Rattle.gabc_score.specs.machine.PartKeeps.{KeptParts, in_text, in_notes, text_before, snippet_events, PartKeeps}
+use Rattle.gabc_body.specs.witness.TextEvents.{text_events}
 use Rattle.gabc_score.specs.machine.ReadAgain.{Adds, BeginsComment, BeginsIn, IsNext, IsNextIn, OpenAt, OpensNotes, Reads, ReadsAgain}
-use Rattle.gabc_score.proofs.building.SnippetsTakeCharacters.{StaysInNotes, in_snippet, next_ends, none_close, none_next, not_next, one_ends, stays_in_notes}
+use Rattle.gabc_score.proofs.building.SnippetsTakeCharacters.{StaysInNotes, in_snippet, next_ends, none_next, not_next, one_ends, stays_in_notes}
+use Rattle.gabc_body.proofs.emitted.EndsOfSnippets.{none_close}
 use Rattle.gabc_score.proofs.building.PartsOfKeptText.{Grows, cut_is, end_marks, ends_text, notes_ended, notes_said, of_notes, said_gathered, snippet_grows, text_goes_on, text_grows}
 use Rattle.gabc_score.proofs.resuming.PartsAreOne.{outside}
-use Rattle.gabc_score.proofs.texts_of_body.SeamsOfCharacters.{size, size_append, size_is_sum}
-use Rattle.gabc_score.specs.declared.events.BodyEvent.{BodyEvent}
+use Rattle.gabc_body.proofs.texts_of_body.SeamsOfCharacters.{size, size_append, size_is_sum}
+use Rattle.gabc_body.specs.declared.events.BodyEvent.{BodyEvent}
 use Rattle.gabc_text.specs.TextStage.{fresh_stage}
 use Rattle.gabc_score.specs.machine.PartSteps.{PartSteps, SnippetSteps}
 use Rattle.gabc_score.specs.machine.PartSteps as step
@@ -297,7 +299,7 @@ module _ (lines macros : ℕ) {x : Char} {line : ℕ} {opened : Place} {before s
 
   close_reads : (after : BodyPart) → list_any is_close es ≡ true → ReadsAgain lines macros x before after (of_notes line opened es)
   close_reads after close = snippet_reads after
-      (λ u earlier k more comment h. absurd (true≢false (sym close ∙ none_close es x.c 0 h.no_end)))
+      (λ u earlier k more comment h. absurd (true≢false (sym close ∙ none_close es h.no_end)))
       (λ u earlier k is e. absurd (true≢false (sym (ap (λ (c : ℕ). c == 124) is) ∙ not_next es x.c _ e.end close)))
 
 -- ---- a part takes a character

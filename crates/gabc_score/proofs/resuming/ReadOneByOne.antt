@@ -6,16 +6,16 @@ use Rattle.std.proofs.lemmas.List.{length-take-le}
 use Rattle.gabc_places.specs.Place.{next_place, placed_characters_from}
 use Rattle.gabc_places.specs.StageLaw.{concat_of}
 use Rattle.gabc_places.specs.declared.place.Place.{Place}
-use Rattle.gabc_score.specs.declared.events.BodyEvent.{BodyEvent}
+use Rattle.gabc_body.specs.declared.events.BodyEvent.{BodyEvent}
 use Rattle.gabc_score.specs.declared.score_machine.ScoreMachine.{ScoreMachine}
-use Rattle.gabc_score.specs.Body.{is_none}
-use Rattle.gabc_score.specs.Syllable.{UnplacedSyllable}
-use Rattle.gabc_score.specs.machine.BodyBuilder.{with_all}
+use Rattle.gabc_body.specs.Body.{is_none}
+use Rattle.gabc_body.specs.Syllable.{UnplacedSyllable}
+use Rattle.gabc_body.specs.witness.BodyBuilder.{with_all}
 use Rattle.gabc_score.specs.machine.ReadAlone.{is_alone, lists_from, ReadsAlone}
 use Rattle.gabc_score.specs.witness.BodyStage.{BodyStageState, part_with, running_events_left, texts_by_stage}
-use Rattle.gabc_score.proofs.building.OneListEachCharacter.{events_each}
+use Rattle.gabc_body.proofs.emitted.OneListEachCharacter.{events_each}
 use Rattle.gabc_places.proofs.PlacesOfAText.{length_placed}
-use Rattle.gabc_score.proofs.building.EventsOfOnePoint.{with_all_append}
+use Rattle.gabc_body.proofs.gathering.EventsOfOnePoint.{with_all_append}
 
 pub none_made : (ms : List UnplacedSyllable) → not (is_none ms) ≡ false → ms ≡ []
 none_made ms e = grind arith

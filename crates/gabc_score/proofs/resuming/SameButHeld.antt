@@ -17,15 +17,15 @@ use Rattle.gabc_text.specs.declared.text_event.TextEvent.TheVariants as text
 use Rattle.gabc_notes.specs.declared.item.ItemKind.{ItemKind}
 use Rattle.gabc_notes.specs.declared.stage.NoteEnd.TheVariants as note_end
 use Rattle.gabc_notes.specs.declared.stage.NoteEvent.TheVariants as note
-use Rattle.gabc_score.specs.declared.events.BodyEvent.{BodyEvent}
-use Rattle.gabc_score.specs.declared.events.BodyEvent.TheVariants as event
-use Rattle.gabc_score.specs.Body.{has_text, fault_at, is_none}
+use Rattle.gabc_body.specs.declared.events.BodyEvent.{BodyEvent}
+use Rattle.gabc_body.specs.declared.events.BodyEvent.TheVariants as event
+use Rattle.gabc_body.specs.Body.{has_text, fault_at, is_none}
 use Rattle.gabc_score.specs.HeldAside.{IsSameOutput, AreSameOutputs, AreSameLists}
-use Rattle.gabc_score.specs.NoteBeforeClef.{found_first}
-use Rattle.gabc_score.specs.ScoreEvents.{ScoreOutput, Stop, Syllable, End, outputs_of, findings_now}
-use Rattle.gabc_score.specs.Syllable.{UnplacedSyllable, PlacedSyllable}
-use Rattle.gabc_score.specs.machine.BodyBuilder.{with_all, code_in, end_fault, end_findings}
-use Rattle.gabc_score.specs.machine.Gatherer.{Gathered, first_past, with_event, with_syllable, with_no_notes, with_last}
+use Rattle.gabc_body.specs.NoteBeforeClef.{found_first}
+use Rattle.gabc_body.specs.ScoreEvents.{ScoreOutput, Stop, Syllable, End, outputs_of, findings_now}
+use Rattle.gabc_body.specs.Syllable.{UnplacedSyllable, PlacedSyllable}
+use Rattle.gabc_body.specs.witness.BodyBuilder.{with_all, code_in, end_fault, end_findings}
+use Rattle.gabc_body.specs.witness.Gatherer.{Gathered, first_past, with_event, with_syllable, with_no_notes, with_last}
 use Rattle.gabc_score.specs.machine.HeldAside.{AreInputsAlike, AreMadeAlike, IsEquivalentAside}
 use Rattle.gabc_score.specs.machine.ScoreStage.{HeldScore, placed_after, held_outputs, stop_outputs, point_outputs, with_held, score_past, end_outputs_by, end_outputs, left_by, body_left}
 

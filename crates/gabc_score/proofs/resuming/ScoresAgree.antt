@@ -4,17 +4,17 @@ use Rattle.std.proofs.lemmas.Str.{encodes_same}
 use Rattle.gabc_headers.specs.declared.head_event.HeadEvent.{HeadEvent}
 use Rattle.gabc_text.specs.BuiltText.{empty_view}
 use Rattle.gabc_notes.specs.declared.item.ItemKind.{ItemKind}
-use Rattle.gabc_score.specs.declared.before.Before.{Before}
-use Rattle.gabc_score.specs.declared.before.Preceding.{Preceding}
+use Rattle.gabc_body.specs.declared.before.Before.{Before}
+use Rattle.gabc_score.specs.declared.preceding.Preceding.{Preceding}
 use Rattle.gabc_score.specs.declared.score_machine.ScoreMachine.{ScoreMachine}
 use Rattle.gabc_score.specs.declared.score_machine.ScorePart.{ScorePart}
 use Rattle.gabc_score.specs.declared.score_machine.ScorePart.TheVariants as score_part
 use Rattle.gabc_score.specs.Before.{with_each, preceding_of}
 use Rattle.gabc_score.specs.HeldAside.{IsEquivalentSyllable, IsSameOutput, AreSameOutputs, AreSameLists, HoldTheSame, GiveTheSame}
-use Rattle.gabc_score.specs.ScoreEvents.{ScoreOutput, characters_in}
+use Rattle.gabc_body.specs.ScoreEvents.{ScoreOutput, characters_in}
 use Rattle.gabc_score.specs.ScoreReports.{before_with, held_in_body, in_body, reading_in_body}
-use Rattle.gabc_score.specs.Syllable.{UnplacedSyllable}
-use Rattle.gabc_score.specs.machine.Gatherer.{Gathered}
+use Rattle.gabc_body.specs.Syllable.{UnplacedSyllable}
+use Rattle.gabc_body.specs.witness.Gatherer.{Gathered}
 use Rattle.gabc_score.specs.machine.HeldAside.{AreInputsAlike, AreMadeAlike, IsEquivalentAside}
 use Rattle.gabc_score.specs.machine.PartKeeps.{joined, PartKeeps, ReadAlike}
 use Rattle.gabc_score.specs.machine.ScoreMachine.{held_score, IsInBody}

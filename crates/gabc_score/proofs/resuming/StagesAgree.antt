@@ -20,7 +20,7 @@ use Rattle.gabc_nabc.specs.witness.Keeps as nabc
 use Rattle.gabc_score.specs.declared.body_stage.BodyPart.{BodyPart}
 use Rattle.gabc_score.specs.declared.body_stage.BodyPart.TheVariants as part
 use Rattle.gabc_score.specs.declared.body_tells.Openers.{Openers}
-use Rattle.gabc_score.specs.Events.{InText, InNotes}
+use Rattle.gabc_body.specs.Events.{InText, InNotes}
 use Rattle.gabc_score.specs.ScoreReports.{IsAt, is_in_comment, is_in_front, openers_of}
 use Rattle.gabc_score.specs.machine.PartKeeps.{KeptParts, in_text, in_notes, PartKeeps}
 use Rattle.gabc_score.specs.witness.BodyStage.{BodyStageState, part_with, running_events_left}

@@ -12,7 +12,7 @@ use Rattle.gabc_score.specs.machine.PartCounts.{CountsHold}
 use Rattle.gabc_score.specs.machine.PartKeeps.{KeptParts, PartKeeps}
 use Rattle.gabc_score.specs.machine.ReadAgain.{OpenAt, place_in}
 use Rattle.gabc_score.specs.machine.ScoreMachine.{IsAtRest, IsScoreAt}
-use Rattle.gabc_score.specs.machine.SyllableBuilder.{OpenSyllable}
+use Rattle.gabc_body.specs.witness.SyllableBuilder.{OpenSyllable}
 use Rattle.gabc_score.specs.witness.BodyStage.{BodyStageState}
 use Rattle.gabc_score.proofs.score_events.FrontIsFirst.{front_moved}
 

@@ -2,17 +2,17 @@
 use Rattle.std.proofs.Common.{◌≡◌, ◌==◌, List, [], Bool, true, false, Option, Some, None, is_some, refl, sym, ap, subst, ◌∙◌, arith}
 use Rattle.gabc_places.specs.declared.place.Place.{Place}
 use Rattle.gabc_headers.specs.declared.head_event.HeadEvent.{HeadEvent}
-use Rattle.gabc_score.specs.declared.before.Before.{Before}
+use Rattle.gabc_body.specs.declared.before.Before.{Before}
 use Rattle.gabc_score.specs.declared.score_machine.ScoreMachine.{ScoreMachine}
 use Rattle.gabc_score.specs.HeldAside.{GiveTheSame, HoldTheSame}
-use Rattle.gabc_score.specs.ScoreEvents.{characters_in}
+use Rattle.gabc_body.specs.ScoreEvents.{characters_in}
 use Rattle.gabc_score.specs.ScoreStage.{AreInLine}
 use Rattle.gabc_score.specs.ScoreReports.{before_of, before_with, held_of, is_in_comment, is_in_front}
 use Rattle.gabc_score.specs.AreEquivalent.{AreEquivalent}
-use Rattle.gabc_score.specs.Syllable.{UnplacedSyllable}
+use Rattle.gabc_body.specs.Syllable.{UnplacedSyllable}
 use Rattle.gabc_score.specs.machine.ScoreMachine.{shown}
 use Rattle.gabc_score.specs.machine.StageLaws.{Again}
-use Rattle.gabc_score.specs.machine.SyllableBuilder.{OpenSyllable}
+use Rattle.gabc_body.specs.witness.SyllableBuilder.{OpenSyllable}
 use Rattle.gabc_score.specs.witness.BodyStage.{running_events_left}
 use Rattle.gabc_score.specs.witness.IsReachable.{IsReachable}
 use Rattle.gabc_score.specs.witness.ScoreStage.{ScoreStageState, left_of}

@@ -8,21 +8,21 @@ use Rattle.std.specs.List.{All}
 use Rattle.gabc_text.specs.TextStage.{fresh_stage}
 use Rattle.gabc_text.specs.witness.Keeps as text
 use Rattle.gabc_places.specs.declared.place.Place.{Place}
-use Rattle.gabc_score.specs.declared.before.Preceding.{Preceding}
+use Rattle.gabc_score.specs.declared.preceding.Preceding.{Preceding}
 use Rattle.gabc_score.specs.declared.body_stage.BodyPart.{BodyPart}
 use Rattle.gabc_score.specs.declared.body_stage.BodyPart.TheVariants.{Text}
 use Rattle.gabc_score.specs.declared.score_machine.ScoreMachine.{ScoreMachine}
 use Rattle.gabc_score.specs.Before.{with_each}
 use Rattle.gabc_score.specs.ScoreReports.{is_in_front}
 use Rattle.gabc_score.specs.ReportedWithin.{IsAtOutset}
-use Rattle.gabc_score.specs.machine.BodyBuilder.{code_in}
-use Rattle.gabc_score.specs.machine.Gatherer.{Gathered}
+use Rattle.gabc_body.specs.witness.BodyBuilder.{code_in}
+use Rattle.gabc_body.specs.witness.Gatherer.{Gathered}
 use Rattle.gabc_score.specs.machine.PartCounts.{CountsHold}
 use Rattle.gabc_score.specs.machine.PartKeeps.{in_text, IsReading, PartKeeps}
 use Rattle.gabc_score.specs.machine.Preceded.{IsPreceded}
 use Rattle.gabc_score.specs.machine.ScoreMachine.{IsInBody, IsShort}
 use Rattle.gabc_score.specs.machine.SlotPair.{SlotPairState, is_made}
-use Rattle.gabc_score.specs.machine.SyllableBuilder.{OpenSyllable, nothing_open}
+use Rattle.gabc_body.specs.witness.SyllableBuilder.{OpenSyllable, nothing_open}
 use Rattle.gabc_score.specs.witness.BodyStage.{BodyStageState}
 use Rattle.gabc_score.proofs.runs.RunEnds.{before_last}
 use Rattle.gabc_score.proofs.score_events.EventsStayWithinBounds.{none_passed}

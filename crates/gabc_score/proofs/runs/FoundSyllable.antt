@@ -9,23 +9,24 @@ use Rattle.gabc_text.specs.RegularText.{mark_at, tags_of}
 use Rattle.gabc_notes.specs.declared.item.ItemKind.{ItemKind}
 use Rattle.gabc_places.specs.TextOfAnInput.{IsPlain}
 use Rattle.gabc_places.specs.declared.limits.Limits.{Limits}
-use Rattle.gabc_score.specs.declared.before.Spans.{Spans}
+use Rattle.gabc_body.specs.declared.before.Spans.{Spans}
 use Rattle.gabc_score.specs.declared.run.Found.{Found}
-use Rattle.gabc_score.specs.SpansPast.{eu_past, nlba_past}
-use Rattle.gabc_score.specs.declared.snippets.Snippet.{Snippet}
+use Rattle.gabc_body.specs.SpansPast.{eu_past, nlba_past}
+use Rattle.gabc_body.specs.declared.snippets.Snippet.{Snippet}
 use Rattle.gabc_score.specs.Before.{sounds, sounds_in, sounds_on}
-use Rattle.gabc_score.specs.Body.{is_longer}
-use Rattle.gabc_score.specs.Canonical.{canonical, canonical_in_place, position_by, starts_word}
+use Rattle.gabc_body.specs.Body.{is_longer}
+use Rattle.gabc_body.specs.Canonical.{canonical, canonical_in_place, position_by, starts_word}
 use Rattle.gabc_score.specs.GivesSyllables.{spelled_canonical}
 use Rattle.gabc_score.specs.RegularSyllable.{SyllableParts, spelled, notes_spelled, canonical_spelled, has_gap, line_and_text, snippet_texts}
-use Rattle.gabc_score.specs.Syllable.{UnplacedSyllable}
+use Rattle.gabc_body.specs.Syllable.{UnplacedSyllable}
 use Rattle.gabc_score.specs.machine.Between.{IsMadeOf, SoundsNoMore, with_one as gathered_with}
-use Rattle.gabc_score.specs.machine.Gatherer.{Gathered}
+use Rattle.gabc_body.specs.witness.Gatherer.{Gathered}
 use Rattle.gabc_score.specs.machine.RegularLen.{past_mark, BeginsRegularly}
 use Rattle.gabc_score.specs.machine.Run.{IsFound, IsSteady, SpellsFound, canonical_length, mark_of, sounds_among, len_of}
 use Rattle.gabc_score.specs.machine.ScoreMachine.{IsShort}
-use Rattle.gabc_score.specs.machine.SyllableBuilder.{nothing_open}
+use Rattle.gabc_body.specs.witness.SyllableBuilder.{nothing_open}
 use Rattle.gabc_score.proofs.regular_syllables.MarkedSyllables.{gap_starts, spans_past}
+use Rattle.gabc_body.proofs.within_limits.CodesOfLimits.{begins_there}
 
 -- ---- what was gathered
 
@@ -52,10 +53,6 @@ pub sounds_as : (m : UnplacedSyllable) → sounds m ≡ sounds_among (snippet_te
 sounds_as m = sound_as m.kept m.snippets
 
 -- ---- a syllable that was found
-
--- a place in a word says whether a word begins there
-pub begins_there : (b starts : Bool) → starts_word (position_by b starts) ≡ b
-begins_there b starts = grind arith
 
 -- its bytes among those that it was found in
 pub front_is : (f : Found) → take (length f.spelled.now) (f.spelled.now ++ f.rest.now) ≡ f.spelled.now

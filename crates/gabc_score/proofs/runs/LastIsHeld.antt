@@ -8,16 +8,16 @@ use Rattle.gabc_text.specs.TextStage.{fresh_stage}
 use Rattle.gabc_places.specs.Place.{place_past, placed_characters_from}
 use Rattle.gabc_places.specs.TextOfAnInput.{IsText}
 use Rattle.gabc_places.specs.declared.place.Place.{Place}
-use Rattle.gabc_score.specs.declared.before.Preceding.{Preceding}
+use Rattle.gabc_score.specs.declared.preceding.Preceding.{Preceding}
 use Rattle.gabc_score.specs.declared.body_stage.BodyPart.TheVariants.{Text}
 use Rattle.gabc_score.specs.declared.run.Found.{Found}
 use Rattle.gabc_score.specs.declared.score_machine.ScoreMachine.{ScoreMachine}
 use Rattle.gabc_score.specs.declared.score_machine.ScorePart.{ScorePart}
 use Rattle.gabc_score.specs.ScoreReports.{is_in_front}
-use Rattle.gabc_score.specs.Syllable.{PlacedSyllable}
+use Rattle.gabc_body.specs.Syllable.{PlacedSyllable}
 use Rattle.gabc_score.specs.witness.BodyStage.{BodyStageState, running_events_left}
 use Rattle.gabc_score.specs.machine.Between.{lists_between, with_one as gathered_with}
-use Rattle.gabc_score.specs.machine.Gatherer.{Gathered}
+use Rattle.gabc_body.specs.witness.Gatherer.{Gathered}
 use Rattle.gabc_score.specs.machine.PartCounts.{CountsHold}
 use Rattle.gabc_score.specs.machine.PartKeeps.{in_text, PartKeeps}
 use Rattle.gabc_score.specs.machine.PartOnly.{HasText, HoldsTexts}
@@ -25,13 +25,13 @@ use Rattle.gabc_score.specs.machine.ReadAlone.{is_alone, lists_from, HasRead}
 use Rattle.gabc_score.specs.machine.Run.{GoesBefore, IsFound, RunsBefore, StandsBetween}
 use Rattle.gabc_score.specs.machine.ScoreMachine.{IsInBody, IsScoreAt}
 use Rattle.gabc_score.specs.machine.SlotPair.{is_made}
-use Rattle.gabc_score.specs.machine.SyllableBuilder.{OpenSyllable, nothing_open}
+use Rattle.gabc_body.specs.witness.SyllableBuilder.{OpenSyllable, nothing_open}
 use Rattle.gabc_score.proofs.resuming.NothingIsRead.{begins_again}
 use Rattle.gabc_score.proofs.runs.BeforeLast.{rests_next}
 use Rattle.gabc_score.proofs.runs.FoundSyllable.{front_is}
 use Rattle.gabc_score.proofs.runs.RunEnds.{EndsWith, before_last}
 use Rattle.gabc_score.proofs.runs.RunGives.{HoldsLast}
-use Rattle.gabc_score.proofs.score_events.TextsArePlain.{nothing_plain}
+use Rattle.gabc_body.proofs.units.CanonicalTextIsText.{nothing_plain}
 
 module _ (m : ScoreMachine) (at : Place) (t : List ℕ) (given : List PlacedSyllable) (starts : Bool) (p : Preceding) (next : Place) (runs : RunsBefore m at t given starts p next)
     (stands : StandsBetween m at) (f : Found) (on : ScoreMachine) (goes : GoesBefore m p next on) where

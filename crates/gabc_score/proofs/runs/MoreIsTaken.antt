@@ -6,14 +6,14 @@ use Rattle.std.proofs.lemmas.List.{nil_from_length}
 use Rattle.gabc_places.specs.Place.{place_past}
 use Rattle.gabc_places.specs.StageLaw.{concat_of}
 use Rattle.gabc_places.specs.declared.place.Place.{Place}
-use Rattle.gabc_score.specs.declared.before.Preceding.{Preceding}
+use Rattle.gabc_score.specs.declared.preceding.Preceding.{Preceding}
 use Rattle.gabc_score.specs.declared.run.Reached.{Reached}
 use Rattle.gabc_score.specs.declared.score_machine.ScoreMachine.{ScoreMachine}
 use Rattle.gabc_score.specs.declared.waiting.Waiting.{Waiting}
-use Rattle.gabc_score.specs.Canonical.{canonical_in_place}
+use Rattle.gabc_body.specs.Canonical.{canonical_in_place}
 use Rattle.gabc_score.specs.GivesSyllables.{AreJoined, spelled_canonical}
 use Rattle.gabc_score.specs.machine.RegularLen.{BeginsRegularly, past_mark}
-use Rattle.gabc_score.specs.Syllable.{PlacedSyllable}
+use Rattle.gabc_body.specs.Syllable.{PlacedSyllable}
 use Rattle.gabc_score.specs.machine.Run.{IsFound, IsSteady, SpellsFound, RunsBefore, RunsMore, RunsOn, RunsTo, before_in, canonical_length, len_of, mark_of, past_found}
 use Rattle.gabc_score.proofs.runs.FoundSyllable.{utf8_is}
 use Rattle.gabc_score.proofs.runs.RunGoesOn.{GoesOnWith, MakeSyllables, goes_on, low_there}

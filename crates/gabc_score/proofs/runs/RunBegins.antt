@@ -5,16 +5,16 @@ use Rattle.std.proofs.lemmas.List.Elements.{All-nil, All-cons, All-head}
 use Rattle.std.specs.List.{All}
 use Rattle.gabc_places.specs.TextOfAnInput.{IsPlain}
 use Rattle.gabc_places.specs.declared.place.Place.{Place}
-use Rattle.gabc_score.specs.declared.before.Preceding.{Preceding}
+use Rattle.gabc_score.specs.declared.preceding.Preceding.{Preceding}
 use Rattle.gabc_score.specs.declared.score_machine.ScoreMachine.{ScoreMachine}
 use Rattle.gabc_score.specs.Before.{with_one, with_each}
-use Rattle.gabc_score.specs.Canonical.{position_by}
+use Rattle.gabc_body.specs.Canonical.{position_by}
 use Rattle.gabc_score.specs.ScoreStage.{IsWithin}
-use Rattle.gabc_score.specs.Syllable.{UnplacedSyllable}
+use Rattle.gabc_body.specs.Syllable.{UnplacedSyllable}
 use Rattle.gabc_score.specs.machine.PartKeeps.{begun, ReadAlike}
 use Rattle.gabc_score.specs.machine.Run.{StandsBetween, RunsBefore}
 use Rattle.gabc_score.specs.machine.ScoreMachine.{held_score, IsShort}
-use Rattle.gabc_score.specs.machine.SyllableBuilder.{OpenSyllable}
+use Rattle.gabc_body.specs.witness.SyllableBuilder.{OpenSyllable}
 use Rattle.gabc_score.proofs.resuming.NothingIsRead.{nothing_alike}
 use Rattle.gabc_score.proofs.score_events.FewAndShortAreLent.{short_within}
 use Rattle.gabc_score.proofs.runs.Throughs.{through_none}

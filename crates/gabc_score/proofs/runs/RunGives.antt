@@ -8,7 +8,7 @@ use Rattle.gabc_places.specs.declared.place.Place.{Place}
 use Rattle.gabc_places.proofs.PlacesOfAText.{place_append}
 use Rattle.gabc_headers.specs.declared.head_event.HeadEvent.{HeadEvent}
 use Rattle.gabc_text.specs.witness.EventsLeft as fresh_events
-use Rattle.gabc_score.specs.declared.before.Preceding.{Preceding}
+use Rattle.gabc_score.specs.declared.preceding.Preceding.{Preceding}
 use Rattle.gabc_score.specs.declared.body_stage.BodyPart.{BodyPart}
 use Rattle.gabc_score.specs.declared.body_stage.BodyPart.TheVariants.{Text}
 use Rattle.gabc_score.specs.declared.run.Found.{Found}
@@ -18,11 +18,11 @@ use Rattle.gabc_score.specs.declared.score_machine.ScorePart.TheVariants as scor
 use Rattle.gabc_score.specs.Before.{with_one, with_placed}
 use Rattle.gabc_score.specs.GivesSyllables.{GivesSyllables, next_after, text_inputs}
 use Rattle.gabc_score.specs.ScoreReports.{IsAt, held_in_body, openers_of}
-use Rattle.gabc_score.specs.Syllable.{UnplacedSyllable, PlacedSyllable}
+use Rattle.gabc_body.specs.Syllable.{UnplacedSyllable, PlacedSyllable}
 use Rattle.gabc_score.specs.ReportedWithin.{AreOpenersBefore, HoldsIfAny, IsPlace, ReportsText, whole_syllables}
 use Rattle.gabc_score.specs.witness.ScoreStage.{ScoreStageState, left_of}
 use Rattle.gabc_score.specs.machine.Between.{left_between, with_one as gathered_with}
-use Rattle.gabc_score.specs.machine.Gatherer.{Gathered}
+use Rattle.gabc_body.specs.witness.Gatherer.{Gathered}
 use Rattle.gabc_score.specs.machine.PartOnly.{HoldsTexts}
 use Rattle.gabc_score.specs.machine.Run.{IsFound, StandsBetween, RunsBefore}
 use Rattle.gabc_score.specs.machine.ScoreMachine.{held_score, shown}

@@ -13,17 +13,17 @@ use Rattle.gabc_places.specs.declared.place.Place.{Place}
 use Rattle.gabc_places.proofs.PlacesOfAText.{place_append}
 use Rattle.gabc_notes.specs.declared.item.ItemKind.{ItemKind}
 use Rattle.gabc_text.specs.Events.{CountsFit}
-use Rattle.gabc_score.specs.declared.before.Preceding.{Preceding}
-use Rattle.gabc_score.specs.declared.before.Spans.{Spans}
+use Rattle.gabc_score.specs.declared.preceding.Preceding.{Preceding}
+use Rattle.gabc_body.specs.declared.before.Spans.{Spans}
 use Rattle.gabc_score.specs.declared.run.Found.{Found}
 use Rattle.gabc_score.specs.declared.score_machine.ScoreMachine.{ScoreMachine}
 use Rattle.gabc_score.specs.Before.{most, with_one, with_placed, sounds}
-use Rattle.gabc_score.specs.Canonical.{canonical, position_by}
+use Rattle.gabc_body.specs.Canonical.{canonical, position_by}
 use Rattle.gabc_score.specs.RegularSyllable.{SyllableParts, IsRegularSyllable, spelled}
 use Rattle.gabc_score.specs.ScoreStage.{IsWithin}
-use Rattle.gabc_score.specs.Syllable.{UnplacedSyllable, PlacedSyllable}
+use Rattle.gabc_body.specs.Syllable.{UnplacedSyllable, PlacedSyllable}
 use Rattle.gabc_score.specs.machine.Between.{IsBetween, LeavesRoomFor, GoesThrough, Makes, SoundsNoMore, with_one as gathered_with, past_one, given_before}
-use Rattle.gabc_score.specs.machine.Gatherer.{Gathered}
+use Rattle.gabc_body.specs.witness.Gatherer.{Gathered}
 use Rattle.gabc_score.specs.machine.Preceded.{spans_of}
 use Rattle.gabc_score.specs.machine.Run.{IsFound, IsSteady, SpellsFound, StandsBetween, RunsBefore, canonical_length, past_found}
 use Rattle.gabc_score.specs.machine.ScoreMachine.{held_score}

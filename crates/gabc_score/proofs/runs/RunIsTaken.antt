@@ -12,17 +12,17 @@ use Rattle.gabc_places.specs.TextOfAnInput.{IsPlain, IsText}
 use Rattle.gabc_places.specs.declared.place.Place.{Place}
 use Rattle.gabc_places.proofs.PlacesOfAText.{place_append}
 use Rattle.gabc_score.specs.declared.body_stage.BodyPart.TheVariants.{Text}
-use Rattle.gabc_score.specs.declared.before.Preceding.{Preceding}
+use Rattle.gabc_score.specs.declared.preceding.Preceding.{Preceding}
 use Rattle.gabc_score.specs.declared.run.Found.{Found}
 use Rattle.gabc_score.specs.declared.run.Reached.{Reached}
 use Rattle.gabc_score.specs.declared.score_machine.ScoreMachine.{ScoreMachine}
-use Rattle.gabc_score.specs.Canonical.{position_by}
+use Rattle.gabc_body.specs.Canonical.{position_by}
 use Rattle.gabc_score.specs.GivesSyllables.{GivesSyllables}
 use Rattle.gabc_score.specs.ScoreStage.{IsWithin}
-use Rattle.gabc_score.specs.Syllable.{UnplacedSyllable, PlacedSyllable}
+use Rattle.gabc_body.specs.Syllable.{UnplacedSyllable, PlacedSyllable}
 use Rattle.gabc_score.specs.witness.BodyStage.{BodyStageState}
 use Rattle.gabc_score.specs.witness.ScoreStage.{ScoreStageState}
-use Rattle.gabc_score.specs.machine.Gatherer.{Gathered}
+use Rattle.gabc_body.specs.witness.Gatherer.{Gathered}
 use Rattle.gabc_score.specs.machine.PartCounts.{CountsHold}
 use Rattle.gabc_score.specs.machine.PartKeeps.{in_text, PartKeeps}
 use Rattle.gabc_score.specs.machine.PartOnly.{HoldsTexts}
@@ -30,7 +30,7 @@ use Rattle.gabc_score.specs.machine.ReadAlone.{is_alone, lists_from, HasRead}
 use Rattle.gabc_score.specs.machine.Run.{GoesBefore, IsFound, IsSamePair, IsSteady, StandsBetween, RunsBefore, RunsTo, before_in}
 use Rattle.gabc_score.specs.machine.ScoreMachine.{shown, IsInBody, IsScoreAt}
 use Rattle.gabc_score.specs.machine.SlotPair.{SlotPairState, is_made}
-use Rattle.gabc_score.specs.machine.SyllableBuilder.{nothing_open}
+use Rattle.gabc_body.specs.witness.SyllableBuilder.{nothing_open}
 use Rattle.gabc_score.proofs.runs.FoundSyllable.{plain_is, utf8_is}
 use Rattle.gabc_score.proofs.runs.LastIsHeld.{rests_there, is_alone_there, rests_then, holds_then}
 use Rattle.gabc_score.proofs.runs.RunBegins.{held_of, run_begins}

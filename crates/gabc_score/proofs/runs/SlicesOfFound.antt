@@ -3,17 +3,18 @@ use Rattle.std.proofs.Common.{◌≡◌, ℕ, zero, suc, ◌-◌, ◌≤◌, Boo
 use Rattle.std.specs.Str.{IsCharBoundary}
 use Rattle.std.proofs.Math.ListN.{get_or-append}
 use Rattle.std.proofs.lemmas.Str.{IsUtf8-drop, IsUtf8-nil, IsCharBoundary-from_take}
-use Rattle.gabc_score.specs.declared.before.Spans.{Spans}
+use Rattle.gabc_body.specs.declared.before.Spans.{Spans}
 use Rattle.gabc_score.specs.declared.run.Found.{Found}
 use Rattle.gabc_score.specs.declared.spelled.SpelledSyllable.{SpelledSyllable}
-use Rattle.gabc_score.specs.Canonical.{position_by, starts_word}
+use Rattle.gabc_body.specs.Canonical.{position_by, starts_word}
 use Rattle.gabc_score.specs.GivesSyllables.{spelled_canonical}
 use Rattle.gabc_score.specs.RegularSyllable.{IsRegularSyllable, with_lines}
 use Rattle.gabc_score.specs.SpelledSyllable.{IsSpelling, Spells}
-use Rattle.gabc_score.specs.Syllable.{PlacedSyllable}
+use Rattle.gabc_body.specs.Syllable.{PlacedSyllable}
 use Rattle.gabc_score.specs.machine.RegularLen.{BeginsRegularly}
 use Rattle.gabc_score.specs.machine.Run.{SpellsFound, len_of}
-use Rattle.gabc_score.proofs.runs.FoundSyllable.{begins_there, front_is, utf8_is}
+use Rattle.gabc_score.proofs.runs.FoundSyllable.{front_is, utf8_is}
+use Rattle.gabc_body.proofs.within_limits.CodesOfLimits.{begins_there}
 
 module _ (f : Found) (lines : ℕ) (b : BeginsRegularly lines (f.spelled.now ++ f.rest.now) (len_of f)) where
   -- it may be cut after its gap

@@ -7,8 +7,8 @@ use Rattle.gabc_score.specs.declared.body_stage.BodyPart.TheVariants.{Text}
 use Rattle.gabc_score.specs.declared.score_machine.ScoreMachine.{ScoreMachine}
 use Rattle.gabc_score.specs.declared.score_machine.ScorePart.TheVariants as score_part
 use Rattle.gabc_score.specs.Before.{with_each, with_one}
-use Rattle.gabc_score.specs.Body.{is_none}
-use Rattle.gabc_score.specs.Syllable.{UnplacedSyllable}
+use Rattle.gabc_body.specs.Body.{is_none}
+use Rattle.gabc_body.specs.Syllable.{UnplacedSyllable}
 use Rattle.gabc_score.specs.machine.Run.{StandsBetween}
 use Rattle.gabc_score.specs.machine.ScoreMachine.{IsInBody}
 use Rattle.gabc_score.proofs.resuming.NothingIsRead.{nothing_alike}

@@ -9,8 +9,8 @@ use Rattle.gabc_places.specs.declared.place.Place.{Place}
 use Rattle.gabc_places.proofs.PlacesOfAText.{placed_append}
 use Rattle.gabc_headers.specs.declared.head_event.HeadEvent.{HeadEvent}
 use Rattle.gabc_score.specs.GivesSyllables.{text_inputs}
-use Rattle.gabc_score.specs.ScoreEvents.{ScoreOutput, Syllable}
-use Rattle.gabc_score.specs.Syllable.{PlacedSyllable}
+use Rattle.gabc_body.specs.ScoreEvents.{ScoreOutput, Syllable}
+use Rattle.gabc_body.specs.Syllable.{PlacedSyllable}
 use Rattle.gabc_score.specs.machine.Between.{GoesThrough, left_between}
 use Rattle.gabc_score.specs.machine.ScoreStage.{HeldScore}
 

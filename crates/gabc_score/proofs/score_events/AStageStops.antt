@@ -11,24 +11,24 @@ use Rattle.gabc_places.specs.declared.limits.Limits.{Limits}
 use Rattle.gabc_places.specs.declared.place.Char.{Char}
 use Rattle.gabc_headers.specs.declared.head_event.HeadEvent.{HeadEvent}
 use Rattle.gabc_headers.specs.declared.head_event.HeadEvent.TheVariants as head_event
-use Rattle.gabc_score.specs.declared.events.BodyEvent.{BodyEvent}
+use Rattle.gabc_body.specs.declared.events.BodyEvent.{BodyEvent}
 use Rattle.gabc_score.specs.declared.score_event.BorrowedSyllable.{BorrowedSyllable}
 use Rattle.gabc_score.specs.declared.score_event.BorrowedSyllable.TheVariants.{First, Second}
 use Rattle.gabc_score.specs.declared.score_event.ScoreEvent.{ScoreEvent}
 use Rattle.gabc_score.specs.declared.score_machine.ScoreMachine.{ScoreMachine}
 use Rattle.gabc_score.specs.declared.score_machine.ScorePart.{ScorePart}
 use Rattle.gabc_score.specs.declared.score_machine.ScorePart.TheVariants as score_part
-use Rattle.gabc_score.specs.Body.{fault_at}
+use Rattle.gabc_body.specs.Body.{fault_at}
 use Rattle.gabc_score.specs.witness.BodyStage.{BodyStageState, texts_by_stage}
-use Rattle.gabc_score.specs.Events.{InComment, events_from}
-use Rattle.gabc_score.specs.NoteBeforeClef.{found_first}
-use Rattle.gabc_score.specs.ScoreEvents.{ScoreOutput, Found, Stop, Syllable, End, findings_now, characters_in}
+use Rattle.gabc_body.specs.Events.{InComment, events_from}
+use Rattle.gabc_body.specs.NoteBeforeClef.{found_first}
+use Rattle.gabc_body.specs.ScoreEvents.{ScoreOutput, Found, Stop, Syllable, End, findings_now, characters_in}
 use Rattle.gabc_score.specs.ScoreStage.{events_borrowed, events_of, is_last_event}
 use Rattle.gabc_score.specs.witness.ScoreStage.{left_of}
-use Rattle.gabc_score.specs.machine.BodyBuilder.{with_all, code_in}
+use Rattle.gabc_body.specs.witness.BodyBuilder.{with_all, code_in}
 use Rattle.gabc_score.specs.machine.ScoreStage.{HeldScore, placed_after, score_past, end_outputs_by, left_by, body_left, fresh_score, score_left, outputs_left}
 use Rattle.gabc_score.specs.machine.ScoreMachine.{shown}
-use Rattle.gabc_score.proofs.score_events.NothingAfterTheEnd.{Ends, silent, then_end, last_ends}
+use Rattle.gabc_body.proofs.score_events.NothingAfterTheEnd.{Ends, silent, then_end, last_ends}
 
 -- ---- what is left ends at its first stop or end
 

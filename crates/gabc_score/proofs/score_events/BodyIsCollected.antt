@@ -6,21 +6,21 @@ use Rattle.gabc_places.specs.declared.code.Finding.{Finding}
 use Rattle.gabc_places.specs.declared.limits.Limits.{Limits}
 use Rattle.gabc_places.specs.declared.place.Place.{Place}
 use Rattle.gabc_headers.specs.declared.head_event.HeadEvent.{HeadEvent}
-use Rattle.gabc_score.specs.declared.body_result.BodyResult.{BodyResult}
-use Rattle.gabc_score.specs.declared.ending.InputEnding.{InputEnding}
-use Rattle.gabc_score.specs.declared.ending.InputEnding.TheVariants.{Whole}
-use Rattle.gabc_score.specs.declared.events.BodyEvent.{BodyEvent}
-use Rattle.gabc_score.specs.Body.{body_of}
-use Rattle.gabc_score.specs.NoteBeforeClef.{with_first_each}
-use Rattle.gabc_score.specs.ScoreEvents.{ScoreOutput}
+use Rattle.gabc_body.specs.declared.body_result.BodyResult.{BodyResult}
+use Rattle.gabc_body.specs.declared.ending.InputEnding.{InputEnding}
+use Rattle.gabc_body.specs.declared.ending.InputEnding.TheVariants.{Whole}
+use Rattle.gabc_body.specs.declared.events.BodyEvent.{BodyEvent}
+use Rattle.gabc_body.specs.Body.{body_of}
+use Rattle.gabc_body.specs.NoteBeforeClef.{with_first_each}
+use Rattle.gabc_body.specs.ScoreEvents.{ScoreOutput}
 use Rattle.gabc_score.specs.ScoreStage.{AreCountsBelow}
 use Rattle.gabc_score.specs.machine.Collected.{result_with, to_come}
 use Rattle.gabc_score.specs.machine.ScoreStage.{begun_score, body_left}
-use Rattle.gabc_score.proofs.score_events.BodyOutputs.{Says, body_says}
-use Rattle.gabc_score.proofs.score_events.FirstNotes.{first_each}
+use Rattle.gabc_body.proofs.score_events.BodyOutputs.{Says, body_says}
+use Rattle.gabc_body.proofs.gathering.FirstNotes.{first_each}
 use Rattle.gabc_score.proofs.score_events.HeldScoreIsDefinition.{left_is, holds_nothing}
 use Rattle.gabc_score.proofs.score_events.OutputsAreCollected.{with_more}
-use Rattle.gabc_score.proofs.score_events.ScoreOutputs.{characters_are, ends_past}
+use Rattle.gabc_body.proofs.score_events.ScoreOutputs.{characters_are, ends_past}
 use Rattle.std.proofs.lemmas.Bool.{cond_both}
 
 -- nothing but what was found in the headers

@@ -11,25 +11,25 @@ use Rattle.gabc_places.specs.declared.place.Char.{Char}
 use Rattle.gabc_places.specs.declared.place.Place.{Place}
 use Rattle.gabc_headers.specs.declared.head_event.HeadEvent.{HeadEvent}
 use Rattle.gabc_headers.specs.declared.head_event.HeadEvent.TheVariants as head_event
-use Rattle.gabc_score.specs.declared.before.Preceding.{Preceding}
+use Rattle.gabc_score.specs.declared.preceding.Preceding.{Preceding}
 use Rattle.gabc_score.specs.declared.bounds.Bounds.{Bounds}
-use Rattle.gabc_score.specs.declared.events.BodyEvent.{BodyEvent}
+use Rattle.gabc_body.specs.declared.events.BodyEvent.{BodyEvent}
 use Rattle.gabc_score.specs.declared.score_event.ScoreEvent.{ScoreEvent}
 use Rattle.gabc_score.specs.declared.score_machine.ScoreMachine.{ScoreMachine}
 use Rattle.gabc_score.specs.declared.score_machine.ScorePart.{ScorePart}
 use Rattle.gabc_score.specs.declared.score_machine.ScorePart.TheVariants as score_part
 use Rattle.gabc_score.specs.Before.{with_each, with_placed}
-use Rattle.gabc_score.specs.Body.{fault_at}
-use Rattle.gabc_score.specs.NoteBeforeClef.{found_first}
-use Rattle.gabc_score.specs.ScoreEvents.{ScoreOutput, Stop, characters_in, findings_now, outputs_of}
+use Rattle.gabc_body.specs.Body.{fault_at}
+use Rattle.gabc_body.specs.NoteBeforeClef.{found_first}
+use Rattle.gabc_body.specs.ScoreEvents.{ScoreOutput, Stop, characters_in, findings_now, outputs_of}
 use Rattle.gabc_score.specs.ScoreStage.{GivesAt, IsWithin, Lends, MayCome}
 use Rattle.gabc_score.specs.ScoreReports.{held_in_body, IsAt, openers_of}
-use Rattle.gabc_score.specs.Syllable.{PlacedSyllable, UnplacedSyllable}
+use Rattle.gabc_body.specs.Syllable.{PlacedSyllable, UnplacedSyllable}
 use Rattle.gabc_score.specs.ReportedWithin.{IsPlace, AreOpenersBefore, IsReportOfText}
 use Rattle.gabc_score.specs.witness.BodyStage.{BodyStageState, running_events_left}
 use Rattle.gabc_score.specs.witness.ScoreStage.{left_of}
-use Rattle.gabc_score.specs.machine.BodyBuilder.{code_in, with_all}
-use Rattle.gabc_score.specs.machine.Gatherer.{Gathered}
+use Rattle.gabc_body.specs.witness.BodyBuilder.{code_in, with_all}
+use Rattle.gabc_body.specs.witness.Gatherer.{Gathered}
 use Rattle.gabc_score.specs.machine.HeldWithin.{HoldsWithin}
 use Rattle.gabc_score.specs.machine.PartCounts.{CountsHold}
 use Rattle.gabc_score.specs.machine.PartOnly.{HoldsTexts, kept_codes}

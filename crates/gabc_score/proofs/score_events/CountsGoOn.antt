@@ -6,23 +6,23 @@ use Rattle.gabc_places.specs.declared.limits.Limits.{Limits}
 use Rattle.gabc_places.specs.declared.place.Place.{Place}
 use Rattle.gabc_headers.specs.declared.head_event.HeadEvent.{HeadEvent}
 use Rattle.gabc_headers.specs.declared.head_event.HeadEvent.TheVariants as head_event
-use Rattle.gabc_score.specs.declared.before.Preceding.{Preceding}
+use Rattle.gabc_score.specs.declared.preceding.Preceding.{Preceding}
 use Rattle.gabc_score.specs.declared.body_stage.BodyPart.TheVariants as part
-use Rattle.gabc_score.specs.declared.events.BodyEvent.{BodyEvent}
+use Rattle.gabc_body.specs.declared.events.BodyEvent.{BodyEvent}
 use Rattle.gabc_score.specs.declared.score_machine.ScorePart.TheVariants as score_part
 use Rattle.gabc_score.specs.ScoreReports.{held_in_body}
 use Rattle.gabc_score.specs.declared.bounds.Bounds.{Bounds}
 use Rattle.gabc_score.specs.Before.{with_one, with_each, with_placed}
-use Rattle.gabc_score.specs.Body.{is_none}
-use Rattle.gabc_score.specs.Syllable.{UnplacedSyllable, PlacedSyllable}
-use Rattle.gabc_score.specs.ScoreEvents.{first_place}
+use Rattle.gabc_body.specs.Body.{is_none}
+use Rattle.gabc_body.specs.Syllable.{UnplacedSyllable, PlacedSyllable}
+use Rattle.gabc_body.specs.ScoreEvents.{first_place}
 use Rattle.gabc_score.specs.ScoreStage.{MayCome}
 use Rattle.gabc_score.specs.ReportedWithin.{AreCountsWithin, IsReportOfText}
 use Rattle.gabc_score.specs.witness.BodyStage.{BodyStageState}
 use Rattle.gabc_score.specs.witness.ScoreStage.{ScoreStageState}
-use Rattle.gabc_score.proofs.score_events.TextsArePlain.{nothing_plain}
-use Rattle.gabc_score.specs.machine.Gatherer.{Gathered}
-use Rattle.gabc_score.specs.machine.BodyBuilder.{with_all}
+use Rattle.gabc_body.proofs.units.CanonicalTextIsText.{nothing_plain}
+use Rattle.gabc_body.specs.witness.Gatherer.{Gathered}
+use Rattle.gabc_body.specs.witness.BodyBuilder.{with_all}
 use Rattle.gabc_score.specs.machine.HeldWithin.{HoldsWithin}
 use Rattle.gabc_score.specs.machine.PartPushes.{ClosesLast}
 use Rattle.gabc_score.specs.machine.Preceded.{IsPreceded, after_headers}

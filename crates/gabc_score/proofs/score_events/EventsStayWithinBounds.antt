@@ -7,12 +7,12 @@ use Rattle.gabc_places.specs.declared.code.Finding.{Finding}
 use Rattle.gabc_places.specs.declared.place.Place.{Place}
 use Rattle.gabc_places.specs.BoundedList.{BoundedList, extended_by}
 use Rattle.gabc_notes.specs.declared.item.ItemKind.{ItemKind}
-use Rattle.gabc_score.specs.declared.events.BodyEvent.{BodyEvent}
-use Rattle.gabc_score.specs.Body.{is_none, events_onto, findings_with, findings_of}
-use Rattle.gabc_score.specs.NoteBeforeClef.{is_first_note, found_first}
-use Rattle.gabc_score.specs.machine.BodyBuilder.{with_all, with_found, code_in}
-use Rattle.gabc_score.specs.Syllable.{UnplacedSyllable}
-use Rattle.gabc_score.specs.machine.Gatherer.{Gathered, with_event}
+use Rattle.gabc_body.specs.declared.events.BodyEvent.{BodyEvent}
+use Rattle.gabc_body.specs.Body.{is_none, events_onto, findings_with, findings_of}
+use Rattle.gabc_body.specs.NoteBeforeClef.{is_first_note, found_first}
+use Rattle.gabc_body.specs.witness.BodyBuilder.{with_all, with_found, code_in}
+use Rattle.gabc_body.specs.Syllable.{UnplacedSyllable}
+use Rattle.gabc_body.specs.witness.Gatherer.{Gathered, with_event}
 use Rattle.gabc_score.specs.machine.ScoreStage.{with_held}
 
 -- ---- no limit is passed

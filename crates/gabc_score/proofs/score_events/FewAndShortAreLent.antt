@@ -6,18 +6,18 @@ use Rattle.std.specs.List.{All}
 use Rattle.std.proofs.lemmas.List.Elements.{All-nil, All-cons, All-head, All-tail}
 use Rattle.gabc_places.specs.declared.code.Finding.{Finding}
 use Rattle.gabc_places.specs.declared.limits.Limits.{Limits}
-use Rattle.gabc_score.specs.Canonical.{canonical, placed_syllables_by}
+use Rattle.gabc_body.specs.Canonical.{canonical, placed_syllables_by}
 use Rattle.gabc_score.specs.NoNotes.{OnlyFirstHasNotes}
-use Rattle.gabc_score.specs.ScoreEvents.{ScoreOutput, outputs_of, syllables_in}
+use Rattle.gabc_body.specs.ScoreEvents.{ScoreOutput, outputs_of, syllables_in}
 use Rattle.gabc_score.specs.ScoreStage.{IsWithin, Lends}
-use Rattle.gabc_score.specs.Syllable.{UnplacedSyllable, PlacedSyllable}
-use Rattle.gabc_score.specs.declared.syllable.Position.{Position}
-use Rattle.gabc_score.specs.machine.BodyBuilder.{code_in, end_fault}
+use Rattle.gabc_body.specs.Syllable.{UnplacedSyllable, PlacedSyllable}
+use Rattle.gabc_body.specs.declared.syllable.Position.{Position}
+use Rattle.gabc_body.specs.witness.BodyBuilder.{code_in, end_fault}
 use Rattle.gabc_places.specs.declared.place.Place.{Place}
-use Rattle.gabc_score.specs.machine.Gatherer.{Gathered}
+use Rattle.gabc_body.specs.witness.Gatherer.{Gathered}
 use Rattle.gabc_score.specs.machine.ScoreStage.{placed_after}
 use Rattle.gabc_score.specs.machine.ScoreMachine.{IsShort}
-use Rattle.gabc_score.proofs.score_events.WhatOutputsSay.{given_syllables}
+use Rattle.gabc_body.proofs.score_events.WhatOutputsSay.{given_syllables}
 
 -- ---- short syllables stay so
 

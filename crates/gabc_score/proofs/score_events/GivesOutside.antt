@@ -6,7 +6,7 @@ use Rattle.gabc_headers.specs.declared.head_event.HeadEvent.{HeadEvent}
 use Rattle.gabc_headers.specs.declared.head_event.HeadEvent.TheVariants as head_event
 use Rattle.gabc_score.specs.declared.score_event.ScoreEvent.{ScoreEvent}
 use Rattle.gabc_score.specs.declared.score_machine.ScorePart.TheVariants as score_part
-use Rattle.gabc_score.specs.ScoreEvents.{ScoreOutput, is_last}
+use Rattle.gabc_body.specs.ScoreEvents.{ScoreOutput, is_last}
 use Rattle.gabc_score.specs.ScoreStage.{GivesAt, GivesOutputs, Lends, PassesOn, is_final, most_borrowed, part_past}
 use Rattle.gabc_score.specs.witness.ScoreStage.{ScoreStageState, left_of}
 

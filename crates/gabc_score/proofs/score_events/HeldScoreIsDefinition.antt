@@ -11,20 +11,21 @@ use Rattle.gabc_places.specs.declared.place.Char.{Char}
 use Rattle.gabc_places.specs.declared.place.Place.{Place}
 use Rattle.gabc_headers.specs.declared.head_event.HeadEvent.{HeadEvent}
 use Rattle.gabc_headers.specs.declared.head_event.HeadEvent.TheVariants as head_event
-use Rattle.gabc_score.specs.declared.events.BodyEvent.{BodyEvent}
+use Rattle.gabc_body.specs.declared.events.BodyEvent.{BodyEvent}
 use Rattle.gabc_score.specs.witness.BodyStage.{texts_by_stage}
-use Rattle.gabc_score.specs.Events.{InComment, events_from}
-use Rattle.gabc_score.specs.Body.{events_onto, code_at, fault_at, has_last, all_units, cut_of, fault_of_end}
-use Rattle.gabc_score.specs.NoteBeforeClef.{with_first, with_first_each}
-use Rattle.gabc_score.specs.ScoreEvents.{ScoreOutput, Found, Stop, count_made, outputs_of, outputs_at, held_output, outputs_at_stop, outputs_at_end, outputs_by, body_outputs, characters_in, first_place, score_outputs}
-use Rattle.gabc_score.specs.Syllable.{all_syllables}
-use Rattle.gabc_score.specs.machine.BodyBuilder.{with_all, code_in, end_fault_by, end_fault}
-use Rattle.gabc_score.specs.machine.Gatherer.{Gathered, with_last}
+use Rattle.gabc_body.specs.Events.{InComment, events_from}
+use Rattle.gabc_body.specs.Body.{events_onto, code_at, fault_at, has_last, all_units, cut_of, fault_of_end}
+use Rattle.gabc_body.specs.NoteBeforeClef.{with_first, with_first_each}
+use Rattle.gabc_body.specs.ScoreEvents.{ScoreOutput, Found, Stop, count_made, outputs_of, outputs_at, held_output, outputs_at_stop, outputs_at_end, outputs_by, body_outputs, characters_in, first_place, score_outputs}
+use Rattle.gabc_body.specs.Syllable.{all_syllables}
+use Rattle.gabc_body.specs.witness.BodyBuilder.{with_all, code_in, end_fault_by, end_fault}
+use Rattle.gabc_body.specs.witness.Gatherer.{Gathered, with_last}
 use Rattle.gabc_score.specs.machine.ScoreStage.{HeldScore, held_outputs, stop_outputs, point_outputs, score_past, end_outputs_by, end_outputs, left_by, body_left, begun_score, score_left}
-use Rattle.gabc_score.proofs.building.BuilderHoldsDefinition.{gathered}
-use Rattle.gabc_score.proofs.building.EventsOfOnePoint.{gathered_all, code_is, made_after}
-use Rattle.gabc_score.proofs.building.EndOfBody.{made_by_last, open_by_last, fault_is}
-use Rattle.gabc_score.proofs.score_events.FirstNotes.{SaysSame, same_gathered, same_code, says_with_first, findings_with_first}
+use Rattle.gabc_body.proofs.gathering.BuilderHoldsDefinition.{gathered}
+use Rattle.gabc_body.proofs.gathering.EventsOfOnePoint.{gathered_all, code_is}
+use Rattle.gabc_body.proofs.gathering.EventsOfOnePoint.{made_after}
+use Rattle.gabc_body.proofs.gathering.EndOfBody.{made_by_last, open_by_last, fault_is}
+use Rattle.gabc_body.proofs.gathering.FirstNotes.{SaysSame, same_gathered, same_code, says_with_first, findings_with_first}
 use Rattle.gabc_score.proofs.score_events.HeldSyllables.{without, MayGo, all_without, all_go, last_without, last_goes, code_without, but_last_goes, placed_rest, placed_now, held_then, given_then_is}
 
 -- no fewer syllables are made later

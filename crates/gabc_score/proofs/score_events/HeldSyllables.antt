@@ -8,18 +8,19 @@ use Rattle.gabc_text.specs.declared.text_event.TextEvent.TheVariants as text
 use Rattle.gabc_text.specs.declared.text_event.TextPart.TheVariants as part
 use Rattle.gabc_notes.specs.declared.stage.NoteEnd.TheVariants as note_end
 use Rattle.gabc_notes.specs.declared.stage.NoteEvent.TheVariants as note
-use Rattle.gabc_score.specs.declared.events.BodyEvent.{BodyEvent}
-use Rattle.gabc_score.specs.declared.events.BodyEvent.TheVariants as event
-use Rattle.gabc_score.specs.Body.{is_longer, is_none, has_text}
-use Rattle.gabc_score.specs.Canonical.{placed_syllables_by, with_positions}
-use Rattle.gabc_score.specs.ScoreEvents.{not_given, given_now}
+use Rattle.gabc_body.specs.declared.events.BodyEvent.{BodyEvent}
+use Rattle.gabc_body.specs.declared.events.BodyEvent.TheVariants as event
+use Rattle.gabc_body.specs.Body.{is_longer, is_none, has_text}
+use Rattle.gabc_body.specs.Canonical.{placed_syllables_by, with_positions}
+use Rattle.gabc_body.specs.ScoreEvents.{not_given, given_now}
 use Rattle.gabc_score.specs.machine.ScoreStage.{placed_after}
-use Rattle.gabc_score.specs.Syllable.{UnplacedSyllable}
-use Rattle.gabc_score.specs.machine.Gatherer.{Gathered, with_made, with_syllable, with_snippet, with_no_notes, with_event, with_last}
-use Rattle.gabc_score.specs.machine.BodyBuilder.{with_all, code_in}
+use Rattle.gabc_body.specs.Syllable.{UnplacedSyllable}
+use Rattle.gabc_body.specs.witness.Gatherer.{Gathered, with_made, with_syllable, with_snippet, with_no_notes, with_event, with_last}
+use Rattle.gabc_body.specs.witness.BodyBuilder.{with_all, code_in}
 use Rattle.std.proofs.lemmas.Bool.{cond_both}
 use Rattle.gabc_score.proofs.score_events.EventsStayWithinBounds.{last_stays}
 use Rattle.std.proofs.lemmas.Bool.Decides.{nat_tests}
+use Rattle.gabc_body.proofs.syllables_of_units.SyllablesAreThoseOfUnits.{none_of}
 
 -- without the first syllables
 abbrev pub without : ℕ → Gathered → Gathered
@@ -29,10 +30,6 @@ without k g = record g { made = drop k g.made }
 pub record MayGo (k : ℕ) (g : Gathered) : Type 0 where
   pub few : k ≤ length g.made
   pub some : is_none (drop k g.made) ≡ is_none g.made
-
-pub none_of : {A : Type 0} (xs : List A) (m : A) → is_none (xs ++ m ∷ []) ≡ false
-none_of [] m = refl
-none_of (x ∷ xs) m = refl
 
 more_goes : (k : ℕ) (ms : List UnplacedSyllable) (m : UnplacedSyllable) → k ≤ length ms → is_none (drop k (ms ++ m ∷ [])) ≡ is_none (ms ++ m ∷ [])
 more_goes k ms m h = ap is_none (drop-append-le k ms (m ∷ []) h) ∙ none_of (drop k ms) m ∙ sym (none_of ms m)

@@ -12,24 +12,24 @@ use Rattle.gabc_text.specs.declared.text_event.TextEvent.TheVariants as text
 use Rattle.gabc_text.specs.declared.text_event.TextPart.TheVariants as part
 use Rattle.gabc_notes.specs.declared.stage.NoteEnd.TheVariants as note_end
 use Rattle.gabc_notes.specs.declared.stage.NoteEvent.TheVariants as note
-use Rattle.gabc_score.specs.declared.before.Preceding.{Preceding}
-use Rattle.gabc_score.specs.declared.events.BodyEvent.{BodyEvent}
-use Rattle.gabc_score.specs.declared.events.BodyEvent.TheVariants as event
+use Rattle.gabc_score.specs.declared.preceding.Preceding.{Preceding}
+use Rattle.gabc_body.specs.declared.events.BodyEvent.{BodyEvent}
+use Rattle.gabc_body.specs.declared.events.BodyEvent.TheVariants as event
 use Rattle.gabc_score.specs.Before.{no_syllable, with_each, with_placed}
-use Rattle.gabc_score.specs.Body.{has_text, is_none}
-use Rattle.gabc_score.specs.Canonical.{canonical}
-use Rattle.gabc_score.specs.Syllable.{UnplacedSyllable}
+use Rattle.gabc_body.specs.Body.{has_text, is_none}
+use Rattle.gabc_body.specs.Canonical.{canonical}
+use Rattle.gabc_body.specs.Syllable.{UnplacedSyllable}
 use Rattle.gabc_score.specs.ReportedWithin.{IsAtOutset}
-use Rattle.gabc_score.specs.machine.BodyBuilder.{with_all, code_in}
-use Rattle.gabc_score.specs.machine.Gatherer.{Gathered, with_event, with_last, with_made, with_no_notes, with_snippet, with_syllable}
+use Rattle.gabc_body.specs.witness.BodyBuilder.{with_all, code_in}
+use Rattle.gabc_body.specs.witness.Gatherer.{Gathered, with_event, with_last, with_made, with_no_notes, with_snippet, with_syllable}
 use Rattle.gabc_score.specs.machine.HeldWithin.{AreWritten, HoldsWithin}
 use Rattle.gabc_score.specs.machine.ScoreMachine.{IsShort}
 use Rattle.gabc_score.specs.machine.ScoreStage.{placed_after, with_held}
-use Rattle.gabc_score.specs.machine.SyllableBuilder.{made_from}
+use Rattle.gabc_body.specs.witness.SyllableBuilder.{made_from}
 use Rattle.gabc_score.proofs.score_events.MemoryIsKept.{limit_last}
 use Rattle.gabc_score.proofs.score_events.FewAndShortAreLent.{counted, either, without_start}
 use Rattle.gabc_score.proofs.score_events.WhatPrecedes.{each_some, given_some, not_some}
-use Rattle.gabc_score.proofs.score_events.HeldSyllables.{none_of}
+use Rattle.gabc_body.proofs.syllables_of_units.SyllablesAreThoseOfUnits.{none_of}
 
 -- ---- a syllable more
 

@@ -3,13 +3,13 @@ use Rattle.std.proofs.Common.{◌≡◌, ◌≤◌, Bool, true, false, List, [],
 use Rattle.std.specs.List.{list_any}
 use Rattle.std.proofs.lemmas.List.Elements.{All-nil, All-push}
 use Rattle.gabc_score.specs.declared.body_stage.BodyPart.{BodyPart}
-use Rattle.gabc_score.specs.declared.events.BodyEvent.{BodyEvent}
-use Rattle.gabc_score.specs.Body.{has_text}
-use Rattle.gabc_score.specs.Events.{events_at_end}
+use Rattle.gabc_body.specs.declared.events.BodyEvent.{BodyEvent}
+use Rattle.gabc_body.specs.Body.{has_text}
+use Rattle.gabc_body.specs.Events.{events_at_end}
 use Rattle.gabc_score.specs.NoNotes.{OnlyFirstHasNotes, has_no_notes}
-use Rattle.gabc_score.specs.Syllable.{UnplacedSyllable, PlacedSyllable, closes}
-use Rattle.gabc_score.specs.machine.BodyBuilder.{with_all}
-use Rattle.gabc_score.specs.machine.Gatherer.{Gathered, with_last, with_no_notes, with_syllable}
+use Rattle.gabc_body.specs.Syllable.{UnplacedSyllable, PlacedSyllable, closes}
+use Rattle.gabc_body.specs.witness.BodyBuilder.{with_all}
+use Rattle.gabc_body.specs.witness.Gatherer.{Gathered, with_last, with_no_notes, with_syllable}
 use Rattle.gabc_score.specs.machine.ScoreStage.{placed_after}
 use Rattle.gabc_score.specs.witness.BodyStage.{BodyStageState, part_with, running_events_left}
 use Rattle.gabc_score.proofs.building.PartsMakeSyllables.{made_stays, texts_close_none}

@@ -2,12 +2,12 @@
 use Rattle.std.proofs.Common.{◌≡◌, ◌≤◌, List, refl, ap, ◌∙◌, arith}
 use Rattle.gabc_places.specs.BoundedList.{BoundedList}
 use Rattle.gabc_places.specs.declared.code.Finding.{Finding}
-use Rattle.gabc_score.specs.Body.{has_text}
-use Rattle.gabc_score.specs.declared.events.BodyEvent.{BodyEvent}
+use Rattle.gabc_body.specs.Body.{has_text}
+use Rattle.gabc_body.specs.declared.events.BodyEvent.{BodyEvent}
 use Rattle.gabc_score.specs.declared.score_machine.ScoreMachine.{ScoreMachine}
 use Rattle.gabc_score.specs.declared.score_machine.ScorePart.{ScorePart}
-use Rattle.gabc_score.specs.machine.BodyBuilder.{with_all, with_found}
-use Rattle.gabc_score.specs.machine.Gatherer.{Gathered, with_last, with_no_notes, with_syllable}
+use Rattle.gabc_body.specs.witness.BodyBuilder.{with_all, with_found}
+use Rattle.gabc_body.specs.witness.Gatherer.{Gathered, with_last, with_no_notes, with_syllable}
 use Rattle.gabc_score.specs.machine.ScoreMachine.{IsScoreAt, KeepsMemory}
 use Rattle.gabc_score.proofs.score_events.EventsStayWithinBounds.{limit_stays}
 use Rattle.std.proofs.lemmas.Bool.{cond_both}

@@ -9,17 +9,17 @@ use Rattle.gabc_places.specs.declared.place.Char.{Char}
 use Rattle.gabc_headers.specs.declared.head_event.HeadEvent.{HeadEvent}
 use Rattle.gabc_headers.specs.declared.head_event.HeadEvent.TheVariants as head_event
 use Rattle.gabc_score.specs.witness.BodyStage.{BodyStageState}
-use Rattle.gabc_score.specs.declared.events.BodyEvent.{BodyEvent}
+use Rattle.gabc_body.specs.declared.events.BodyEvent.{BodyEvent}
 use Rattle.gabc_score.specs.declared.score_machine.ScorePart.{ScorePart}
 use Rattle.gabc_score.specs.declared.score_machine.ScorePart.TheVariants as score_part
-use Rattle.gabc_score.specs.NoteBeforeClef.{found_first}
-use Rattle.gabc_score.specs.ScoreEvents.{HasNoEnd, ScoreOutput, Stop, findings_now, has_end, outputs_of, syllables_in}
+use Rattle.gabc_body.specs.NoteBeforeClef.{found_first}
+use Rattle.gabc_body.specs.ScoreEvents.{HasNoEnd, ScoreOutput, Stop, findings_now, has_end, outputs_of, syllables_in}
 use Rattle.gabc_score.specs.witness.ScoreStage.{ScoreStageState, left_of}
-use Rattle.gabc_score.specs.Syllable.{PlacedSyllable}
-use Rattle.gabc_score.specs.machine.BodyBuilder.{with_all}
+use Rattle.gabc_body.specs.Syllable.{PlacedSyllable}
+use Rattle.gabc_body.specs.witness.BodyBuilder.{with_all}
 use Rattle.gabc_score.specs.machine.ScoreStage.{HeldScore, body_left, left_by, outputs_left, placed_after, point_outputs, score_left, score_past, stop_outputs}
 use Rattle.gabc_score.proofs.score_events.FewAndShortAreLent.{placed_count}
-use Rattle.gabc_score.proofs.score_events.WhatOutputsSay.{Said, said_by, said_of, given_syllables}
+use Rattle.gabc_body.proofs.score_events.WhatOutputsSay.{Said, said_by, said_of, given_syllables}
 
 -- ---- what ceases
 

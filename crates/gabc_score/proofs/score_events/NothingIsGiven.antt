@@ -15,9 +15,9 @@ use Rattle.gabc_places.specs.declared.place.Char.{Char}
 use Rattle.gabc_score.specs.declared.score_event.ScoreEvent.{ScoreEvent}
 use Rattle.gabc_score.specs.declared.score_machine.ScoreMachine.{ScoreMachine}
 use Rattle.gabc_score.specs.declared.slot_pair.SlotUse.TheVariants.{Filling}
-use Rattle.gabc_score.specs.Body.{is_longer, is_none}
-use Rattle.gabc_score.specs.Syllable.{UnplacedSyllable, closes}
-use Rattle.gabc_score.specs.machine.BodyBuilder.{code_in}
+use Rattle.gabc_body.specs.Body.{is_longer, is_none}
+use Rattle.gabc_body.specs.Syllable.{UnplacedSyllable, closes}
+use Rattle.gabc_body.specs.witness.BodyBuilder.{code_in}
 use Rattle.gabc_score.specs.machine.ReadsChar.{Gathers, Passes, ReadsChar, found_past, goes}
 use Rattle.gabc_score.specs.machine.ScoreMachine.{IsInBody}
 use Rattle.gabc_score.specs.machine.ScoreStage.{placed_after}

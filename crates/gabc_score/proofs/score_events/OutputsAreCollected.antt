@@ -2,13 +2,13 @@
 use Rattle.std.proofs.Common.{◌≡◌, ◌⊎◌, inl, inr, ℕ, zero, suc, ◌+◌, ◌<◌, List, [], ◌∷◌, ◌++◌, take, length, get_or, Option, Some, None, refl, sym, ap, ◌∙◌, append_assoc, append-nil, arith}
 use Rattle.std.proofs.lemmas.List.{take_more}
 use Rattle.gabc_places.specs.declared.code.Fault.{Fault}
-use Rattle.gabc_score.specs.declared.body_result.BodyResult.{BodyResult}
+use Rattle.gabc_body.specs.declared.body_result.BodyResult.{BodyResult}
 use Rattle.gabc_score.specs.declared.score_event.BorrowedSyllable.{BorrowedSyllable}
 use Rattle.gabc_score.specs.declared.score_event.BorrowedSyllable.TheVariants.{First, Second}
 use Rattle.gabc_score.specs.declared.score_event.ScoreEvent.{ScoreEvent}
-use Rattle.gabc_score.specs.ScoreEvents.{ScoreOutput, Found, Stop, Syllable, End, findings_in, syllables_in, fault_in}
+use Rattle.gabc_body.specs.ScoreEvents.{ScoreOutput, Found, Stop, Syllable, End, findings_in, syllables_in, fault_in}
 use Rattle.gabc_score.specs.ScoreStage.{events_borrowed, events_of}
-use Rattle.gabc_score.specs.Syllable.{PlacedSyllable}
+use Rattle.gabc_body.specs.Syllable.{PlacedSyllable}
 use Rattle.gabc_score.specs.machine.Collected.{fault_then, result_with, result_past, result_past_all}
 
 no_fault_then : (o : Option Fault) → fault_then o None ≡ o

@@ -7,11 +7,11 @@ use Rattle.gabc_score.specs.declared.score_event.BorrowedSyllable.{BorrowedSylla
 use Rattle.gabc_score.specs.declared.score_event.BorrowedSyllable.TheVariants.{First, Second}
 use Rattle.gabc_score.specs.declared.score_event.ScoreEvent.{ScoreEvent}
 use Rattle.gabc_score.specs.declared.score_event.ScoreEvent.TheVariants as event
-use Rattle.gabc_score.specs.ScoreEvents.{ScoreOutput, Found, Syllable, outputs_of, syllables_in}
+use Rattle.gabc_body.specs.ScoreEvents.{ScoreOutput, Found, Syllable, outputs_of, syllables_in}
 use Rattle.gabc_score.specs.ScoreStage.{events_borrowed, events_of, GivesOutputs}
-use Rattle.gabc_score.specs.Syllable.{PlacedSyllable}
+use Rattle.gabc_body.specs.Syllable.{PlacedSyllable}
 use Rattle.gabc_score.specs.machine.SlotPair.{lent_of}
-use Rattle.gabc_score.proofs.score_events.WhatOutputsSay.{given_syllables}
+use Rattle.gabc_body.proofs.score_events.WhatOutputsSay.{given_syllables}
 
 abbrev pub found_events : List Finding → List ScoreEvent
 found_events fs = map (λ (f : Finding). event.Found f) fs

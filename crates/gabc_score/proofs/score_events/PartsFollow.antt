@@ -6,9 +6,9 @@ use Rattle.gabc_places.specs.declared.code.Finding.{Finding}
 use Rattle.gabc_headers.specs.declared.head_event.HeadEvent.{HeadEvent}
 use Rattle.gabc_score.specs.declared.score_machine.ScorePart.{ScorePart}
 use Rattle.gabc_score.specs.declared.score_machine.ScorePart.TheVariants as score_part
-use Rattle.gabc_score.specs.ScoreEvents.{ScoreOutput, is_last, outputs_of}
+use Rattle.gabc_body.specs.ScoreEvents.{ScoreOutput, is_last, outputs_of}
 use Rattle.gabc_score.specs.ScoreStage.{part_past}
-use Rattle.gabc_score.specs.Syllable.{PlacedSyllable}
+use Rattle.gabc_body.specs.Syllable.{PlacedSyllable}
 
 -- it is one of the others
 pub outside : (p : ScorePart) → (p ≡ score_part.Heads) ⊎ (p ≡ score_part.Over) → p ≡ score_part.Body → ⊥

@@ -12,31 +12,19 @@ use Rattle.gabc_text.specs.declared.text_event.TextEvent.TheVariants as text
 use Rattle.gabc_text.specs.declared.text_event.TextPart.TheVariants as part
 use Rattle.gabc_notes.specs.declared.stage.NoteEnd.TheVariants as note_end
 use Rattle.gabc_notes.specs.declared.stage.NoteEvent.TheVariants as note
-use Rattle.gabc_score.specs.declared.events.BodyEvent.{BodyEvent}
-use Rattle.gabc_score.specs.declared.events.BodyEvent.TheVariants as event
-use Rattle.gabc_score.specs.Syllable.{is_seam, prefix_of}
+use Rattle.gabc_body.specs.declared.events.BodyEvent.{BodyEvent}
+use Rattle.gabc_body.specs.declared.events.BodyEvent.TheVariants as event
+use Rattle.gabc_body.specs.Syllable.{is_seam, prefix_of}
 use Rattle.gabc_places.specs.TextOfAnInput.{IsPlain, IsText, IsTextCharacter}
-use Rattle.gabc_score.specs.machine.BodyBuilder.{with_all}
-use Rattle.gabc_score.specs.machine.Gatherer.{Gathered, with_event, with_snippet}
+use Rattle.gabc_body.specs.witness.BodyBuilder.{with_all}
+use Rattle.gabc_body.specs.witness.Gatherer.{Gathered, with_event, with_snippet}
 use Rattle.gabc_score.specs.machine.PartOnly.{HasText, HoldsTexts, IsKeptOf, kept_codes}
 use Rattle.gabc_score.specs.machine.ScoreStage.{with_held}
-use Rattle.gabc_score.specs.machine.SyllableBuilder.{made_from}
+use Rattle.gabc_body.specs.witness.SyllableBuilder.{made_from}
 use Rattle.std.proofs.lemmas.Bool.{cond_both}
+use Rattle.gabc_body.proofs.units.CanonicalTextIsText.{nothing_plain, plain_more}
 
 -- ---- bytes of a text
-
-pub nothing_plain : IsText []
-nothing_plain = record { utf8 = IsUtf8-nil; plain = subst (All IsPlain) (sym chars-nil) (All-nil IsPlain) }
-
-one_character : (c : ℕ) → IsScalar c → chars (encode_utf8 c) ≡ c ∷ []
-one_character c s = chars_past_char (encode_utf8 c) [] c (IsUtf8-encode c s) (sym (append-nil (encode_utf8 c))) ∙ ap (λ (cs : List ℕ). c ∷ cs) chars-nil
-
-pub plain_more : (bytes : List ℕ) (c : ℕ) → IsTextCharacter c → IsText bytes → IsText (bytes ++ encode_utf8 c)
-plain_more bytes c is h = record {
-  utf8 = IsUtf8-append bytes (encode_utf8 c) h.utf8 (IsUtf8-encode c is.scalar);
-  plain = subst (All IsPlain) (sym (chars-append bytes (encode_utf8 c) h.utf8 ∙ ap (λ (cs : List ℕ). chars bytes ++ cs) (one_character c is.scalar)))
-      (All-append IsPlain (chars bytes) (c ∷ []) h.plain (All-cons IsPlain c [] is.plain (All-nil IsPlain)));
-}
 
 pub seam_boundary : (bytes : List ℕ) (n : ℕ) → n ≤ length bytes → is_seam (drop n bytes) ≡ true → IsCharBoundary bytes n
 seam_boundary [] zero l h = (omega arith, λ x y. absurd (omega (arith, x)))

@@ -18,16 +18,16 @@ use Rattle.gabc_headers.specs.Lines.{bytes_len}
 use Rattle.gabc_text.specs.Events.{CountsFit, events_by_point}
 use Rattle.gabc_text.specs.witness.EventsLeft.{events_left}
 use Rattle.gabc_text.specs.TextStage.{fresh_stage}
-use Rattle.gabc_score.specs.declared.ending.InputEnding.{InputEnding}
+use Rattle.gabc_body.specs.declared.ending.InputEnding.{InputEnding}
 use Rattle.gabc_score.specs.witness.BodyStage.{texts_by_stage}
-use Rattle.gabc_score.specs.Events.{Texts, InComment, events_from, texts_by_definition}
-use Rattle.gabc_score.specs.Score.{heads_text, after_heads}
-use Rattle.gabc_score.specs.ScoreEvents.{ScoreOutput, Found, score_outputs, stop_events, head_events_by, head_events}
+use Rattle.gabc_body.specs.Events.{Texts, InComment, events_from, texts_by_definition}
+use Rattle.gabc_body.specs.Score.{heads_text, after_heads}
+use Rattle.gabc_body.specs.ScoreEvents.{ScoreOutput, Found, score_outputs, stop_events, head_events_by, head_events}
 use Rattle.gabc_score.specs.ScoreStage.{AreCountsBelow}
-use Rattle.gabc_score.specs.SyllablesOfUnits.{body_characters}
+use Rattle.gabc_body.specs.SyllablesOfUnits.{body_characters}
 use Rattle.gabc_score.specs.machine.Collected.{to_come}
 use Rattle.gabc_score.proofs.score_events.BodyIsCollected.{counts_below}
-use Rattle.gabc_score.proofs.score_events.ScoreOutputs.{characters_are}
+use Rattle.gabc_body.proofs.score_events.ScoreOutputs.{characters_are}
 use Rattle.gabc_score.proofs.texts_of_body.StageAndDefinitionAgree.{body_fits, same_emitted}
 
 -- ---- what is found in the headers, and what stops them

@@ -22,28 +22,28 @@ use Rattle.gabc_notes.specs.declared.stage.NoteEnd.TheVariants.{Close}
 use Rattle.gabc_nabc.specs.Events as nabc
 use Rattle.gabc_nabc.specs.ReadAgain.{IsNabcReadAgain}
 use Rattle.gabc_nabc.specs.Table.{nabc as nabc_table}
-use Rattle.gabc_score.specs.declared.before.Preceding.{Preceding}
-use Rattle.gabc_score.specs.declared.before.Spans.{Spans}
+use Rattle.gabc_score.specs.declared.preceding.Preceding.{Preceding}
+use Rattle.gabc_body.specs.declared.before.Spans.{Spans}
 use Rattle.gabc_score.specs.declared.body_stage.BodyPart.{BodyPart}
-use Rattle.gabc_score.specs.declared.events.BodyEvent.{BodyEvent}
+use Rattle.gabc_body.specs.declared.events.BodyEvent.{BodyEvent}
 use Rattle.gabc_score.specs.declared.score_machine.ScoreMachine.{ScoreMachine}
 use Rattle.gabc_score.specs.declared.score_machine.ScorePart.{ScorePart}
 use Rattle.gabc_score.specs.declared.score_machine.ScorePart.TheVariants as score_part
 use Rattle.gabc_score.specs.Before.{with_one, with_each, with_placed}
-use Rattle.gabc_score.specs.Canonical.{placed_syllables_by}
-use Rattle.gabc_score.specs.Holding.{IsSnippetOf, kept_on_line}
+use Rattle.gabc_body.specs.Canonical.{placed_syllables_by}
+use Rattle.gabc_body.specs.Holding.{IsSnippetOf, kept_on_line}
 use Rattle.gabc_score.specs.ScoreStage.{IsWithinAnywhere}
 use Rattle.gabc_score.specs.ScoreReports.{held_in_body}
-use Rattle.gabc_score.specs.SpansPast.{FollowsSpans}
-use Rattle.gabc_score.specs.Syllable.{UnplacedSyllable}
-use Rattle.gabc_score.specs.UnitRead.{HoldsSomeUnit}
-use Rattle.gabc_score.specs.machine.BodyBuilder.{with_all}
-use Rattle.gabc_score.specs.machine.Gatherer.{Gathered}
+use Rattle.gabc_body.specs.SpansPast.{FollowsSpans}
+use Rattle.gabc_body.specs.Syllable.{UnplacedSyllable}
+use Rattle.gabc_body.specs.UnitRead.{HoldsSomeUnit}
+use Rattle.gabc_body.specs.witness.BodyBuilder.{with_all}
+use Rattle.gabc_body.specs.witness.Gatherer.{Gathered}
 use Rattle.gabc_score.specs.machine.PartKeeps.{IsReading}
 use Rattle.gabc_score.specs.machine.PartMakes.{PartLaws, FollowEach, HoldUnits, PartMakes, characters_of}
 use Rattle.gabc_score.specs.machine.ScoreMachine.{IsScoreAt}
 use Rattle.gabc_score.specs.machine.ScoreStage.{placed_after, with_held}
-use Rattle.gabc_score.proofs.holding.SnippetsAreHeld.{bytes_are_size}
+use Rattle.gabc_body.proofs.holding.SnippetsAreHeld.{bytes_are_size}
 use Rattle.gabc_score.proofs.score_events.FewAndShortAreLent.{short_within}
 
 pub none_held : (lines : ℕ) (p : Preceding) (made : List UnplacedSyllable) → made ≡ [] → HoldUnits lines p made

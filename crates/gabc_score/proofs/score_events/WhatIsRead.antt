@@ -1,13 +1,13 @@
 -- What was gathered of the syllable that is read stays what the parts of its kept text say, past a point.
 use Rattle.std.proofs.Common.{◌≡◌, ℕ, ◌<◌, ◌^◌, nat_lt, Bool, cond, length, refl, sym, ap, subst, ◌∙◌, List, [], arith}
 use Rattle.gabc_text.specs.witness.Keeps as text
-use Rattle.gabc_score.specs.declared.before.Spans.{Spans}
+use Rattle.gabc_body.specs.declared.before.Spans.{Spans}
 use Rattle.gabc_score.specs.declared.body_stage.BodyPart.{BodyPart}
 use Rattle.gabc_score.specs.declared.body_stage.BodyPart.TheVariants as part
 use Rattle.gabc_score.specs.declared.bounds.Bounds.{Bounds}
-use Rattle.gabc_score.specs.declared.events.BodyEvent.{BodyEvent}
-use Rattle.gabc_score.specs.machine.BodyBuilder.{with_all}
-use Rattle.gabc_score.specs.machine.Gatherer.{Gathered, nothing_gathered}
+use Rattle.gabc_body.specs.declared.events.BodyEvent.{BodyEvent}
+use Rattle.gabc_body.specs.witness.BodyBuilder.{with_all}
+use Rattle.gabc_body.specs.witness.Gatherer.{Gathered, nothing_gathered}
 use Rattle.gabc_score.specs.machine.PartKeeps.{in_text, IsReading, PartKeepsOn}
 use Rattle.gabc_score.specs.machine.Preceded.{after_headers, past_point, spans_of}
 use Rattle.gabc_score.specs.machine.ScoreStage.{with_held}

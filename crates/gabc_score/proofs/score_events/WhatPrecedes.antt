@@ -18,24 +18,24 @@ use Rattle.gabc_notes.specs.Items.{items_of}
 use Rattle.gabc_notes.specs.declared.item.ItemKind.{ItemKind}
 use Rattle.gabc_notes.specs.declared.stage.NoteEnd.TheVariants as note_end
 use Rattle.gabc_notes.specs.declared.stage.NoteEvent.TheVariants as note
-use Rattle.gabc_score.specs.declared.before.Preceding.{Preceding}
+use Rattle.gabc_score.specs.declared.preceding.Preceding.{Preceding}
 use Rattle.gabc_score.specs.declared.bounds.Bounds.{Bounds}
-use Rattle.gabc_score.specs.declared.events.BodyEvent.{BodyEvent}
-use Rattle.gabc_score.specs.declared.events.BodyEvent.TheVariants as event
+use Rattle.gabc_body.specs.declared.events.BodyEvent.{BodyEvent}
+use Rattle.gabc_body.specs.declared.events.BodyEvent.TheVariants as event
 use Rattle.gabc_score.specs.declared.score_machine.ScorePart.{ScorePart}
 use Rattle.gabc_score.specs.declared.score_machine.ScorePart.TheVariants as score_part
-use Rattle.gabc_score.specs.declared.snippets.Snippet.{Snippet}
+use Rattle.gabc_body.specs.declared.snippets.Snippet.{Snippet}
 use Rattle.gabc_score.specs.Before.{sounds_on, sounds_in, sounds, with_one, with_each, with_placed}
-use Rattle.gabc_score.specs.ScoreEvents.{outputs_of, syllables_in}
+use Rattle.gabc_body.specs.ScoreEvents.{outputs_of, syllables_in}
 use Rattle.gabc_score.specs.ScoreStage.{preceding_past}
-use Rattle.gabc_score.specs.Syllable.{UnplacedSyllable, PlacedSyllable, is_seam, prefix_of, slice, text_at, closes}
-use Rattle.gabc_score.specs.machine.BodyBuilder.{with_all}
-use Rattle.gabc_score.specs.machine.Gatherer.{Gathered, with_event, with_made, with_snippet}
+use Rattle.gabc_body.specs.Syllable.{UnplacedSyllable, PlacedSyllable, is_seam, prefix_of, slice, text_at, closes}
+use Rattle.gabc_body.specs.witness.BodyBuilder.{with_all}
+use Rattle.gabc_body.specs.witness.Gatherer.{Gathered, with_event, with_made, with_snippet}
 use Rattle.gabc_score.specs.machine.PartPushes.{ClosesLast}
 use Rattle.gabc_score.specs.machine.Preceded.{EndsBefore, IsPreceded, after_gathered, before_past, past_point}
 use Rattle.gabc_score.specs.machine.ScoreStage.{placed_after, with_held}
-use Rattle.gabc_score.proofs.score_events.WhatOutputsSay.{given_syllables}
-use Rattle.gabc_score.specs.machine.SyllableBuilder.{OpenSyllable, made_from, past_text, snippet_from, nothing_open}
+use Rattle.gabc_body.proofs.score_events.WhatOutputsSay.{given_syllables}
+use Rattle.gabc_body.specs.witness.SyllableBuilder.{OpenSyllable, made_from, past_text, snippet_from, nothing_open}
 use Rattle.std.proofs.lemmas.Bool.{le-leb, cond_both}
 
 -- ---- a snippet that has ended sounds the same with more text after it

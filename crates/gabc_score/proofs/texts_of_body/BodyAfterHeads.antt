@@ -14,12 +14,12 @@ use Rattle.gabc_headers.specs.Lines.{bytes_len}
 use Rattle.gabc_headers.specs.Book.{nabc_lines_of, macros_of}
 use Rattle.gabc_headers.specs.Canonical.{canonical_heads}
 use Rattle.gabc_headers.specs.Heads.{head_len}
-use Rattle.gabc_score.specs.declared.events.BodyEvent.{BodyEvent}
-use Rattle.gabc_score.specs.declared.ending.InputEnding.{InputEnding}
-use Rattle.gabc_score.specs.Events.{body_events}
-use Rattle.gabc_score.specs.Body.{body_of}
-use Rattle.gabc_score.specs.NoteBeforeClef.{with_first_each}
-use Rattle.gabc_score.specs.Score.{heads_text, after_heads, body_in}
+use Rattle.gabc_body.specs.declared.events.BodyEvent.{BodyEvent}
+use Rattle.gabc_body.specs.declared.ending.InputEnding.{InputEnding}
+use Rattle.gabc_body.specs.Events.{body_events}
+use Rattle.gabc_body.specs.Body.{body_of}
+use Rattle.gabc_body.specs.NoteBeforeClef.{with_first_each}
+use Rattle.gabc_body.specs.Score.{heads_text, after_heads, body_in}
 use Rattle.gabc_places.proofs.PlacesOfAText.{placed_after, after_joined}
 
 utf8_after : (t : List ℕ) (n : ℕ) → IsUtf8 (encodes t) → IsUtf8 (encodes (drop n t))

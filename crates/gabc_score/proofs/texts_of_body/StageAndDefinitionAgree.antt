@@ -14,9 +14,9 @@ use Rattle.gabc_text.specs.Events.{CountsFit, events_by_point}
 use Rattle.gabc_text.specs.View.{bytes_of}
 use Rattle.gabc_text.specs.witness.EventsLeft.{events_left}
 use Rattle.gabc_text.specs.TextStage.{fresh_stage}
-use Rattle.gabc_score.specs.Events.{PartAhead, InComment, InText, after_mark, part_at, part_after_character, events_from, texts_by_definition}
+use Rattle.gabc_body.specs.Events.{PartAhead, InComment, InText, after_mark, part_at, part_after_character, events_from, texts_by_definition}
 use Rattle.gabc_score.specs.witness.BodyStage.{texts_by_stage}
-use Rattle.gabc_score.specs.Score.{heads_text, after_heads}
+use Rattle.gabc_body.specs.Score.{heads_text, after_heads}
 use Rattle.std.proofs.lemmas.Bool.{cond_both}
 
 -- the text after a character fits if the text from it on does

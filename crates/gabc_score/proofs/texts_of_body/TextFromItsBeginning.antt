@@ -6,7 +6,7 @@ use Rattle.gabc_text.specs.Events.{CountsFit, events_by_point}
 use Rattle.gabc_text.specs.TextStage.{fresh_stage}
 use Rattle.gabc_text.specs.witness.EventsLeft as text
 use Rattle.gabc_score.specs.declared.body_stage.BodyPart.TheVariants as part
-use Rattle.gabc_score.specs.Events.{texts_by_definition, text_from, events_from}
+use Rattle.gabc_body.specs.Events.{texts_by_definition, text_from, events_from}
 use Rattle.gabc_score.specs.witness.BodyStage.{BodyStageState, running_events_left}
 use Rattle.gabc_score.proofs.texts_of_body.StageAndDefinitionAgree.{same_texts, same_emitted}
 

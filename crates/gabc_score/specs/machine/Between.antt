@@ -5,25 +5,25 @@ use Rattle.gabc_places.specs.declared.place.Place.{Place}
 use Rattle.gabc_places.specs.Place.{place_past, placed_characters_from}
 use Rattle.gabc_places.specs.StageLaw.{concat_of}
 use Rattle.gabc_headers.specs.declared.head_event.HeadEvent.{HeadEvent}
-use Rattle.gabc_score.specs.declared.before.Spans.{Spans}
-use Rattle.gabc_score.specs.declared.events.BodyEvent.{BodyEvent}
+use Rattle.gabc_body.specs.declared.before.Spans.{Spans}
+use Rattle.gabc_body.specs.declared.events.BodyEvent.{BodyEvent}
 use Rattle.gabc_score.specs.Before.{sounds}
-use Rattle.gabc_score.specs.Canonical.{canonical}
-use Rattle.gabc_score.specs.Events.{text_from, events_from}
+use Rattle.gabc_body.specs.Canonical.{canonical}
+use Rattle.gabc_body.specs.Events.{text_from, events_from}
 use Rattle.gabc_score.specs.GivesSyllables.{text_inputs}
 use Rattle.gabc_score.specs.RegularSyllable.{SaysText, SyllableParts, spelled, kept_spelled, canonical_spelled, has_gap, snippet_texts, with_lines}
-use Rattle.gabc_score.specs.ScoreEvents.{ScoreOutput, Syllable, characters_in}
-use Rattle.gabc_score.specs.SpansPast.{FollowsSpans}
-use Rattle.gabc_score.specs.Syllable.{UnplacedSyllable, PlacedSyllable}
+use Rattle.gabc_body.specs.ScoreEvents.{ScoreOutput, Syllable, characters_in}
+use Rattle.gabc_body.specs.SpansPast.{FollowsSpans}
+use Rattle.gabc_body.specs.Syllable.{UnplacedSyllable, PlacedSyllable}
 use Rattle.gabc_text.specs.ViewFacts.{span_tags}
-use Rattle.gabc_score.specs.UnitRead.{HoldsSomeUnit}
+use Rattle.gabc_body.specs.UnitRead.{HoldsSomeUnit}
 use Rattle.gabc_score.specs.witness.BodyStage.{texts_by_stage}
-use Rattle.gabc_score.specs.machine.BodyBuilder.{with_all}
-use Rattle.gabc_score.specs.machine.Gatherer.{Gathered, with_made}
+use Rattle.gabc_body.specs.witness.BodyBuilder.{with_all}
+use Rattle.gabc_body.specs.witness.Gatherer.{Gathered, with_made}
 use Rattle.gabc_score.specs.machine.Preceded.{spans_of}
 use Rattle.gabc_score.specs.machine.ReadAlone.{is_alone}
 use Rattle.gabc_score.specs.machine.ScoreStage.{HeldScore, body_left, placed_after}
-use Rattle.gabc_score.specs.machine.SyllableBuilder.{nothing_open}
+use Rattle.gabc_body.specs.witness.SyllableBuilder.{nothing_open}
 
 -- ---- one syllable more
 

@@ -1,8 +1,8 @@
 -- What was gathered, but for the syllable that is held and for which came first, a note or a clef.
 use Rattle.std.specs.Prelude.{◌≡◌, ◌⊎◌, ◌||◌, not, List, ◌∷◌, Bool, true, Option, is_some}
 use Rattle.gabc_notes.specs.declared.item.ItemKind.{ItemKind}
-use Rattle.gabc_score.specs.Syllable.{UnplacedSyllable}
-use Rattle.gabc_score.specs.machine.Gatherer.{Gathered}
+use Rattle.gabc_body.specs.Syllable.{UnplacedSyllable}
+use Rattle.gabc_body.specs.witness.Gatherer.{Gathered}
 
 -- the same, or both have come
 abbrev pub AreInputsAlike : Option ItemKind → Option ItemKind → Type 0

@@ -3,10 +3,10 @@ use Rattle.std.specs.Prelude.{◌≡◌, List, length}
 use Rattle.std.specs.List.{list_any}
 use Rattle.gabc_places.specs.BoundedList.{BoundedList, Fits}
 use Rattle.gabc_places.specs.declared.code.Finding.{Finding}
-use Rattle.gabc_score.specs.declared.events.BodyEvent.{BodyEvent}
+use Rattle.gabc_body.specs.declared.events.BodyEvent.{BodyEvent}
 use Rattle.gabc_score.specs.declared.slot_pair.SlotUse.TheVariants.{Filling}
-use Rattle.gabc_score.specs.Syllable.{closes}
-use Rattle.gabc_score.specs.machine.BodyBuilder.{with_all, with_found}
+use Rattle.gabc_body.specs.Syllable.{closes}
+use Rattle.gabc_body.specs.witness.BodyBuilder.{with_all, with_found}
 use Rattle.gabc_score.specs.machine.PartPushes.{ClosesLast}
 use Rattle.gabc_score.specs.machine.Slot.{FitEach}
 use Rattle.gabc_score.specs.machine.SlotPair.{SlotPairState, used_by}

@@ -1,7 +1,7 @@
 -- How a part of a body leaves the comment in front of the first text.
 use Rattle.std.specs.Prelude.{◌≡◌, List, [], true}
 use Rattle.gabc_score.specs.declared.body_stage.BodyPart.{BodyPart}
-use Rattle.gabc_score.specs.declared.events.BodyEvent.{BodyEvent}
+use Rattle.gabc_body.specs.declared.events.BodyEvent.{BodyEvent}
 use Rattle.gabc_score.specs.ScoreReports.{is_in_front}
 
 -- the comment in front is open only where it was, and then nothing is emitted

@@ -14,16 +14,17 @@ use Rattle.gabc_notes.specs.declared.stage.NoteEnd.TheVariants.{Next}
 use Rattle.gabc_notes.specs.declared.stage.NoteEvent.TheVariants.{Kept, Ended}
 use Rattle.gabc_nabc.specs.Table.{nabc}
 use Rattle.gabc_nabc.specs.witness.Keeps as nabc
-use Rattle.gabc_score.specs.declared.before.Spans.{Spans}
+use Rattle.gabc_body.specs.declared.before.Spans.{Spans}
 use Rattle.gabc_score.specs.declared.body_stage.BodyPart.{BodyPart}
 use Rattle.gabc_score.specs.declared.body_stage.BodyPart.TheVariants as part
-use Rattle.gabc_score.specs.declared.events.BodyEvent.{BodyEvent}
-use Rattle.gabc_score.specs.declared.events.BodyEvent.TheVariants as event
-use Rattle.gabc_score.specs.Events.{next_line}
+use Rattle.gabc_body.specs.declared.events.BodyEvent.{BodyEvent}
+use Rattle.gabc_body.specs.declared.events.BodyEvent.TheVariants as event
+use Rattle.gabc_body.specs.Events.{next_line}
 use Rattle.gabc_score.specs.ScoreReports.{IsAt}
-use Rattle.gabc_score.specs.machine.BodyBuilder.{with_all}
-use Rattle.gabc_score.specs.machine.Gatherer.{Gathered, nothing_gathered}
+use Rattle.gabc_body.specs.witness.BodyBuilder.{with_all}
+use Rattle.gabc_body.specs.witness.Gatherer.{Gathered, nothing_gathered}
 use Rattle.gabc_score.specs.machine.Preceded.{spans_of}
+use Rattle.gabc_body.specs.witness.TextEvents.{kept_char, text_events}
 
 -- ---- the parts of a kept text
 
@@ -57,12 +58,6 @@ line_after lines line [] = line
 line_after lines line (s ∷ earlier) = line_after lines (next_line lines line) earlier
 
 -- ---- what the parts say
-
-abbrev pub kept_char : ℕ → Char
-kept_char c = record { c = c; place = record { line = 0; column = 0 } }
-
-abbrev pub text_events : List TextEvent → List BodyEvent
-text_events events = map (λ (o : TextEvent). event.Text o) events
 
 -- a snippet, and one that has ended at its `|`
 abbrev pub snippet_events : ℕ → List ℕ → List BodyEvent

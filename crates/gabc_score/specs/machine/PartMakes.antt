@@ -8,16 +8,16 @@ use Rattle.gabc_text.specs.TextRead.{view_in}
 use Rattle.gabc_text.specs.View.{kept}
 use Rattle.gabc_text.specs.ViewFacts.{StandsForView}
 use Rattle.gabc_text.specs.witness.SaidInFull.{IsSaidInFull}
-use Rattle.gabc_score.specs.declared.before.Preceding.{Preceding}
+use Rattle.gabc_score.specs.declared.preceding.Preceding.{Preceding}
 use Rattle.gabc_score.specs.declared.body_stage.BodyPart.{BodyPart}
-use Rattle.gabc_score.specs.declared.events.BodyEvent.{BodyEvent}
+use Rattle.gabc_body.specs.declared.events.BodyEvent.{BodyEvent}
 use Rattle.gabc_score.specs.Before.{with_one, with_each}
-use Rattle.gabc_score.specs.Holding.{IsSnippetOf, kept_on_line}
-use Rattle.gabc_score.specs.SpansPast.{FollowsSpans}
-use Rattle.gabc_score.specs.Syllable.{UnplacedSyllable}
-use Rattle.gabc_score.specs.UnitRead.{HoldsSomeUnit}
-use Rattle.gabc_score.specs.machine.BodyBuilder.{with_all}
-use Rattle.gabc_score.specs.machine.Gatherer.{Gathered}
+use Rattle.gabc_body.specs.Holding.{IsSnippetOf, kept_on_line}
+use Rattle.gabc_body.specs.SpansPast.{FollowsSpans}
+use Rattle.gabc_body.specs.Syllable.{UnplacedSyllable}
+use Rattle.gabc_body.specs.UnitRead.{HoldsSomeUnit}
+use Rattle.gabc_body.specs.witness.BodyBuilder.{with_all}
+use Rattle.gabc_body.specs.witness.Gatherer.{Gathered}
 use Rattle.gabc_score.specs.machine.PartKeeps.{IsEndedText, IsReading}
 
 -- the characters of a kept text, placed anywhere

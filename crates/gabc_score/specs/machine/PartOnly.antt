@@ -5,11 +5,11 @@ use Rattle.gabc_places.specs.declared.place.Char.{Char}
 use Rattle.gabc_text.specs.declared.text_event.TextEvent.TheVariants as text
 use Rattle.gabc_notes.specs.declared.stage.NoteEvent.TheVariants as note
 use Rattle.gabc_score.specs.declared.body_stage.BodyPart.{BodyPart}
-use Rattle.gabc_score.specs.declared.events.BodyEvent.{BodyEvent}
-use Rattle.gabc_score.specs.declared.events.BodyEvent.TheVariants as event
-use Rattle.gabc_score.specs.Syllable.{UnplacedSyllable}
+use Rattle.gabc_body.specs.declared.events.BodyEvent.{BodyEvent}
+use Rattle.gabc_body.specs.declared.events.BodyEvent.TheVariants as event
+use Rattle.gabc_body.specs.Syllable.{UnplacedSyllable}
 use Rattle.gabc_places.specs.TextOfAnInput.{IsText}
-use Rattle.gabc_score.specs.machine.Gatherer.{Gathered}
+use Rattle.gabc_body.specs.witness.Gatherer.{Gathered}
 use Rattle.gabc_score.specs.machine.PartKeeps.{KeptParts, PartKeeps}
 
 -- the characters that are kept among these events

@@ -1,8 +1,8 @@
 -- What a push to a part does, whose events are then in its room.
 use Rattle.std.specs.Prelude.{◌≡◌, ℕ, List, [], ◌∷◌, length, ◌≤◌, Bool, true}
 use Rattle.gabc_places.specs.declared.place.Char.{Char}
-use Rattle.gabc_score.specs.declared.events.BodyEvent.{BodyEvent}
-use Rattle.gabc_score.specs.Syllable.{closes}
+use Rattle.gabc_body.specs.declared.events.BodyEvent.{BodyEvent}
+use Rattle.gabc_body.specs.Syllable.{closes}
 
 -- These are the events of x, and what is emitted from then on follows them.
 pub record Emits {O : Type 0} (before after : List Char → List (List O)) (x : Char) (most : ℕ) (events : List O) : Type 0 where

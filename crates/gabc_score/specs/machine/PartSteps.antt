@@ -16,9 +16,10 @@ use Rattle.gabc_nabc.specs.declared.stage.NabcStage.{NabcStage}
 use Rattle.gabc_nabc.specs.witness.Keeps as nabc
 use Rattle.gabc_score.specs.declared.body_stage.BodyPart.{BodyPart}
 use Rattle.gabc_score.specs.declared.body_stage.BodyPart.TheVariants as part
-use Rattle.gabc_score.specs.declared.events.BodyEvent.{BodyEvent}
-use Rattle.gabc_score.specs.Events.{after_mark, is_close, is_next, is_text_end, next_line, note_event, snippet_from}
-use Rattle.gabc_score.specs.machine.PartKeeps.{BeginsSnippet, text_events}
+use Rattle.gabc_body.specs.declared.events.BodyEvent.{BodyEvent}
+use Rattle.gabc_body.specs.Events.{after_mark, is_close, is_next, is_text_end, next_line, note_event, snippet_from}
+use Rattle.gabc_score.specs.machine.PartKeeps.{BeginsSnippet}
+use Rattle.gabc_body.specs.witness.TextEvents.{text_events}
 use Rattle.gabc_score.specs.machine.PartPushes.{EndsLast}
 use Rattle.gabc_score.specs.machine.ReadAgain.{OpensNotes}
 use Rattle.gabc_score.specs.witness.BodyStage.{part_with}

@@ -11,12 +11,12 @@ use Rattle.gabc_headers.specs.declared.head_event.HeadEvent.{HeadEvent}
 use Rattle.gabc_score.specs.declared.score_event.ScoreEvent.{ScoreEvent}
 use Rattle.gabc_score.specs.declared.score_machine.ScoreMachine.{ScoreMachine}
 use Rattle.gabc_score.specs.declared.score_machine.ScorePart.TheVariants as score_part
-use Rattle.gabc_score.specs.Body.{fault_at}
-use Rattle.gabc_score.specs.NoteBeforeClef.{found_first}
-use Rattle.gabc_score.specs.ScoreEvents.{ScoreOutput, Stop, outputs_of}
+use Rattle.gabc_body.specs.Body.{fault_at}
+use Rattle.gabc_body.specs.NoteBeforeClef.{found_first}
+use Rattle.gabc_body.specs.ScoreEvents.{ScoreOutput, Stop, outputs_of}
 use Rattle.gabc_score.specs.ScoreStage.{GivesAt, GivesLast, GivesOutputs}
-use Rattle.gabc_score.specs.Syllable.{PlacedSyllable, closes}
-use Rattle.gabc_score.specs.machine.BodyBuilder.{code_in, with_all, with_found}
+use Rattle.gabc_body.specs.Syllable.{PlacedSyllable, closes}
+use Rattle.gabc_body.specs.witness.BodyBuilder.{code_in, with_all, with_found}
 use Rattle.gabc_score.specs.machine.PartSteps.{TakesChar}
 use Rattle.gabc_score.specs.machine.Preceded.{past_point}
 use Rattle.gabc_score.specs.machine.ScoreMachine.{IsInBody, IsScore, KeepsMemory, shown}

@@ -6,7 +6,7 @@ use Rattle.std.specs.String.Boundary.{IsSplitPoint}
 use Rattle.gabc_places.specs.TextOfAnInput.{IsPlain, IsText}
 use Rattle.gabc_text.specs.RegularText.{is_gap, mark_at, tags_of}
 use Rattle.gabc_text.specs.ViewFacts.{span_tags}
-use Rattle.gabc_score.specs.declared.before.Spans.{Spans}
+use Rattle.gabc_body.specs.declared.before.Spans.{Spans}
 use Rattle.gabc_score.specs.declared.regular.RegularLen.{RegularLen}
 use Rattle.gabc_text.specs.declared.span_mark.SpanMark.{SpanMark}
 use Rattle.gabc_text.specs.declared.span_mark.SpanMark.TheVariants.{OpensEu, ClosesEu, OpensNlba, ClosesNlba}

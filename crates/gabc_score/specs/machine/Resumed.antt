@@ -1,10 +1,10 @@
 -- What two slots gather after syllables which another pair has read.
 use Rattle.std.specs.Prelude.{nat_lt, Bool, true, false, Option, Some, None}
 use Rattle.gabc_notes.specs.declared.item.ItemKind.{ItemKind}
-use Rattle.gabc_score.specs.declared.before.Before.{Before}
+use Rattle.gabc_body.specs.declared.before.Before.{Before}
 use Rattle.gabc_score.specs.declared.first_sound.FirstSound.TheVariants.{Either}
 use Rattle.gabc_score.specs.machine.FirstSound.{kind_of}
-use Rattle.gabc_score.specs.machine.Gatherer.{Gathered}
+use Rattle.gabc_body.specs.witness.Gatherer.{Gathered}
 
 -- Where a note or a clef has come, it is not known which.
 abbrev pub first_sounded : Bool → Option ItemKind

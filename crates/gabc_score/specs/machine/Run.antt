@@ -14,7 +14,7 @@ use Rattle.gabc_text.specs.TextStage.{fresh_stage}
 use Rattle.gabc_notes.specs.FirstNoteOrClef.{first_note_or_clef}
 use Rattle.gabc_notes.specs.Items.{items_of}
 use Rattle.gabc_notes.specs.declared.item.ItemKind.{ItemKind}
-use Rattle.gabc_score.specs.declared.before.Preceding.{Preceding}
+use Rattle.gabc_score.specs.declared.preceding.Preceding.{Preceding}
 use Rattle.gabc_score.specs.declared.body_stage.BodyPart.TheVariants.{Text}
 use Rattle.gabc_score.specs.declared.give.Run.{Run}
 use Rattle.gabc_score.specs.declared.regular.RegularLen.{RegularLen}
@@ -24,22 +24,22 @@ use Rattle.gabc_score.specs.declared.score_machine.ScoreMachine.{ScoreMachine}
 use Rattle.gabc_score.specs.declared.score_machine.ScorePart.TheVariants as score_part
 use Rattle.gabc_score.specs.declared.slot_pair.SlotUse.TheVariants.{Filling}
 use Rattle.gabc_score.specs.Before.{most, with_placed}
-use Rattle.gabc_score.specs.Canonical.{canonical_in_place, position_by}
+use Rattle.gabc_body.specs.Canonical.{canonical_in_place, position_by}
 use Rattle.gabc_score.specs.GivesSyllables.{GivesSyllables, Runs, spelled_canonical}
 use Rattle.gabc_score.specs.RegularSyllable.{SaysText, SyllableParts, kept_spelled, snippet_texts, with_lines}
-use Rattle.gabc_score.specs.declared.before.Spans.{Spans}
+use Rattle.gabc_body.specs.declared.before.Spans.{Spans}
 use Rattle.gabc_score.specs.declared.spelled.SpelledSyllable.{SpelledSyllable}
 use Rattle.gabc_score.specs.declared.waiting.Waiting.{Waiting}
 use Rattle.gabc_score.specs.SpelledSyllable.{IsSpelling}
 use Rattle.gabc_score.specs.ScoreStage.{IsWithin}
-use Rattle.gabc_score.specs.Syllable.{UnplacedSyllable, PlacedSyllable}
+use Rattle.gabc_body.specs.Syllable.{UnplacedSyllable, PlacedSyllable}
 use Rattle.gabc_score.specs.machine.Between.{IsBetween, GoesThrough, SoundsNoMore}
 use Rattle.gabc_score.specs.machine.RegularLen.{BeginsRegularly, IsPlainByte, past_mark}
 use Rattle.gabc_score.specs.machine.PartCounts.{CountsHold}
 use Rattle.gabc_score.specs.machine.PartKeeps.{in_text, PartKeeps}
 use Rattle.gabc_score.specs.machine.ScoreMachine.{held_score, shown, IsInBody, IsScore}
 use Rattle.gabc_score.specs.machine.ScoreStage.{HeldScore}
-use Rattle.gabc_score.specs.machine.SyllableBuilder.{nothing_open}
+use Rattle.gabc_body.specs.witness.SyllableBuilder.{nothing_open}
 
 -- ---- a syllable that is found
 

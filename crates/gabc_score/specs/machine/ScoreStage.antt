@@ -10,18 +10,18 @@ use Rattle.gabc_places.specs.Place.{saturating_next_place}
 use Rattle.gabc_places.specs.StageLaw.{concat_of, silence}
 use Rattle.gabc_headers.specs.declared.head_event.HeadEvent.{HeadEvent}
 use Rattle.gabc_headers.specs.declared.head_event.HeadEvent.TheVariants as head_event
-use Rattle.gabc_score.specs.declared.events.BodyEvent.{BodyEvent}
-use Rattle.gabc_score.specs.Body.{fault_at, has_text}
+use Rattle.gabc_body.specs.declared.events.BodyEvent.{BodyEvent}
+use Rattle.gabc_body.specs.Body.{fault_at, has_text}
 use Rattle.gabc_score.specs.witness.BodyStage.{BodyStageState, running_events_left, texts_by_stage}
 use Rattle.gabc_score.specs.declared.score_machine.ScorePart.{ScorePart}
 use Rattle.gabc_score.specs.declared.score_machine.ScorePart.TheVariants as score_part
-use Rattle.gabc_score.specs.Canonical.{placed_syllables_by}
-use Rattle.gabc_score.specs.Events.{InComment, events_from}
-use Rattle.gabc_score.specs.NoteBeforeClef.{found_first}
-use Rattle.gabc_score.specs.ScoreEvents.{ScoreOutput, Found, Stop, End, findings_now, outputs_of, characters_in, first_place}
-use Rattle.gabc_score.specs.Syllable.{UnplacedSyllable, PlacedSyllable}
-use Rattle.gabc_score.specs.machine.BodyBuilder.{with_all, code_in, end_fault, end_findings}
-use Rattle.gabc_score.specs.machine.Gatherer.{Gathered, nothing_gathered, with_last}
+use Rattle.gabc_body.specs.Canonical.{placed_syllables_by}
+use Rattle.gabc_body.specs.Events.{InComment, events_from}
+use Rattle.gabc_body.specs.NoteBeforeClef.{found_first}
+use Rattle.gabc_body.specs.ScoreEvents.{ScoreOutput, Found, Stop, End, findings_now, outputs_of, characters_in, first_place}
+use Rattle.gabc_body.specs.Syllable.{UnplacedSyllable, PlacedSyllable}
+use Rattle.gabc_body.specs.witness.BodyBuilder.{with_all, code_in, end_fault, end_findings}
+use Rattle.gabc_body.specs.witness.Gatherer.{Gathered, nothing_gathered, with_last}
 
 -- The place of the next character, and what was gathered: of the syllables made, those not given
 -- yet, of which the last is held. And whether one was borrowed before.

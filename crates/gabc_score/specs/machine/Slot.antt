@@ -7,13 +7,13 @@ use Rattle.gabc_text.specs.declared.text_event.TextEvent.{TextEvent}
 use Rattle.gabc_text.specs.declared.text_event.TextEvent.TheVariants as text
 use Rattle.gabc_notes.specs.declared.stage.NoteEvent.{NoteEvent}
 use Rattle.gabc_notes.specs.declared.stage.NoteEvent.TheVariants as note
-use Rattle.gabc_score.specs.declared.events.BodyEvent.{BodyEvent}
-use Rattle.gabc_score.specs.declared.events.BodyEvent.TheVariants as event
-use Rattle.gabc_score.specs.declared.syllable.Position.{Position}
-use Rattle.gabc_score.specs.declared.syllable.Syllable.{Syllable}
-use Rattle.gabc_score.specs.Syllable.{UnplacedSyllable, PlacedSyllable}
-use Rattle.gabc_score.specs.machine.Gatherer.{Gathered, with_event}
-use Rattle.gabc_score.specs.machine.SyllableBuilder.{OpenSyllable, made_from}
+use Rattle.gabc_body.specs.declared.events.BodyEvent.{BodyEvent}
+use Rattle.gabc_body.specs.declared.events.BodyEvent.TheVariants as event
+use Rattle.gabc_body.specs.declared.syllable.Position.{Position}
+use Rattle.gabc_body.specs.declared.syllable.Syllable.{Syllable}
+use Rattle.gabc_body.specs.Syllable.{UnplacedSyllable, PlacedSyllable}
+use Rattle.gabc_body.specs.witness.Gatherer.{Gathered, with_event}
+use Rattle.gabc_body.specs.witness.SyllableBuilder.{OpenSyllable, made_from}
 
 -- the syllable as it is read, its flags and position, and the bytes that it may have
 pub record ReadSyllable : Type 0 where

@@ -1,17 +1,17 @@
 -- Two slots: a syllable that is read, and the last whole one, which is held.
 use Rattle.std.specs.Prelude.{◌≡◌, ◌≤◌, ℕ, List, [], ◌∷◌, Bool, true, false, take, Option}
 use Rattle.gabc_notes.specs.declared.stage.NoteEvent.{NoteEvent}
-use Rattle.gabc_score.specs.Events.{is_close}
+use Rattle.gabc_body.specs.Events.{is_close}
 use Rattle.gabc_score.specs.declared.slot_pair.SlotUse.{SlotUse}
 use Rattle.gabc_score.specs.declared.slot_pair.SlotUse.TheVariants.{Filling, Made, Lent}
-use Rattle.gabc_score.specs.Canonical.{StandsFrom}
-use Rattle.gabc_score.specs.Syllable.{UnplacedSyllable, PlacedSyllable}
+use Rattle.gabc_body.specs.Canonical.{StandsFrom}
+use Rattle.gabc_body.specs.Syllable.{UnplacedSyllable, PlacedSyllable}
 use Rattle.gabc_score.specs.declared.score_event.BorrowedSyllable.TheVariants.{First, Second}
 use Rattle.gabc_score.specs.declared.score_event.ScoreEvent.{ScoreEvent}
 use Rattle.gabc_score.specs.declared.score_event.ScoreEvent.TheVariants as event
-use Rattle.gabc_score.specs.machine.Gatherer.{Gathered}
+use Rattle.gabc_body.specs.witness.Gatherer.{Gathered}
 use Rattle.gabc_score.specs.machine.Slot.{ReadSyllable, made_in, placed_in}
-use Rattle.gabc_score.specs.machine.SyllableBuilder.{OpenSyllable, nothing_open}
+use Rattle.gabc_body.specs.witness.SyllableBuilder.{OpenSyllable, nothing_open}
 
 -- what was gathered, the whole syllable that is held, if one is, how the slot is used that reads,
 -- and the two that may be borrowed

@@ -10,13 +10,13 @@ use Rattle.gabc_notes.specs.witness.ItemMachine as notes
 use Rattle.gabc_nabc.specs.witness.DescriptorMachine as nabc
 use Rattle.gabc_text.specs.declared.text_event.TextEvent.{TextEvent}
 use Rattle.gabc_notes.specs.declared.stage.NoteEvent.{NoteEvent}
-use Rattle.gabc_score.specs.declared.events.BodyEvent.{BodyEvent}
-use Rattle.gabc_score.specs.declared.events.BodyEvent.TheVariants.{Text}
+use Rattle.gabc_body.specs.declared.events.BodyEvent.{BodyEvent}
+use Rattle.gabc_body.specs.declared.events.BodyEvent.TheVariants.{Text}
 use Rattle.gabc_score.specs.declared.body_stage.Emitter.{Emitter}
 use Rattle.gabc_score.specs.declared.body_stage.Emitter.TheVariants as emitter
 use Rattle.gabc_score.specs.declared.body_stage.BodyPart as rust
 use Rattle.gabc_score.specs.declared.body_stage.BodyPart.TheVariants as part
-use Rattle.gabc_score.specs.Events.{PartAhead, InComment, InText, InNotes, Texts, note_event, events_from}
+use Rattle.gabc_body.specs.Events.{PartAhead, InComment, InText, InNotes, Texts, note_event, events_from}
 
 -- the events of the last point, in the room of the part that emitted them
 abbrev pub events_in_rooms : Emitter → List TextEvent → List NoteEvent → List BodyEvent

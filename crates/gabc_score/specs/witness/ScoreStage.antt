@@ -3,12 +3,12 @@
 use Rattle.std.specs.Prelude.{List}
 use Rattle.gabc_places.specs.declared.limits.Limits.{Limits}
 use Rattle.gabc_headers.specs.declared.head_event.HeadEvent.{HeadEvent}
-use Rattle.gabc_score.specs.declared.before.Preceding.{Preceding}
+use Rattle.gabc_score.specs.declared.preceding.Preceding.{Preceding}
 use Rattle.gabc_score.specs.declared.score_machine.ScorePart.{ScorePart}
 use Rattle.gabc_score.specs.witness.BodyStage.{BodyStageState}
 use Rattle.gabc_score.specs.machine.ScoreStage.{HeldScore, outputs_left}
-use Rattle.gabc_score.specs.ScoreEvents.{ScoreOutput}
-use Rattle.gabc_score.specs.Syllable.{PlacedSyllable}
+use Rattle.gabc_body.specs.ScoreEvents.{ScoreOutput}
+use Rattle.gabc_body.specs.Syllable.{PlacedSyllable}
 
 -- What a stage shows: its limits, the part of the score in which it stands, what stands before the
 -- first syllable that was not given, what it holds of the body and its machine, and the two

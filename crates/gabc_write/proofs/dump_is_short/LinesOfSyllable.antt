@@ -10,10 +10,10 @@ use Rattle.gabc_score.proofs.score_events.TextsArePlain.{seam_boundary}
 use Rattle.gabc_places.specs.declared.place.Span.{Span}
 use Rattle.gabc_neumes.specs.InForce.{InForce, passed}
 use Rattle.gabc_text.specs.Canonical.{canonical_text}
-use Rattle.gabc_score.specs.Canonical.{translation_text, with_bars, canonical, starts_word}
-use Rattle.gabc_score.specs.Syllable.{PlacedSyllable, is_seam, slice, text_at}
-use Rattle.gabc_score.specs.declared.snippets.Snippet.{Snippet}
-use Rattle.gabc_score.specs.declared.syllable.Position.{Position}
+use Rattle.gabc_body.specs.Canonical.{translation_text, with_bars, canonical, starts_word}
+use Rattle.gabc_body.specs.Syllable.{PlacedSyllable, is_seam, slice, text_at}
+use Rattle.gabc_body.specs.declared.snippets.Snippet.{Snippet}
+use Rattle.gabc_body.specs.declared.syllable.Position.{Position}
 use Rattle.gabc_write.specs.DumpOfSyllables.{position_word, first_line, line_of_text, line_of_translation, first_steps, steps_of_snippet, lines_of_snippet, lines_of_snippets, lines_of_syllable}
 use Rattle.gabc_write.proofs.dump_is_short.LineOfItem.{last_short}
 use Rattle.gabc_write.proofs.dump_is_short.LinesOfSnippets.{NamesAreShort, notes_short, nabc_short}

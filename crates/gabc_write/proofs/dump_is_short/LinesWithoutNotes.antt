@@ -4,10 +4,10 @@ use Rattle.std.proofs.lemmas.Bool.{eqb-true, and_parts}
 use Rattle.gabc_places.specs.declared.place.Span.{Span}
 use Rattle.gabc_neumes.specs.InForce.{InForce, passed}
 use Rattle.gabc_text.specs.Canonical.{canonical_text}
-use Rattle.gabc_score.specs.Canonical.{translation_text, canonical, starts_word}
+use Rattle.gabc_body.specs.Canonical.{translation_text, canonical, starts_word}
 use Rattle.gabc_score.specs.NoNotes.{are_no_notes, has_no_notes}
-use Rattle.gabc_score.specs.Syllable.{PlacedSyllable, slice, text_at}
-use Rattle.gabc_score.specs.declared.snippets.Snippet.{Snippet}
+use Rattle.gabc_body.specs.Syllable.{PlacedSyllable, slice, text_at}
+use Rattle.gabc_body.specs.declared.snippets.Snippet.{Snippet}
 use Rattle.gabc_write.specs.DumpOfNotes.{lines_of_notes}
 use Rattle.gabc_write.specs.DumpOfSyllables.{line_of_text, line_of_translation, first_steps, lines_of_snippets, lines_of_syllable}
 use Rattle.gabc_write.proofs.dump_is_short.LineOfItem.{last_short}

@@ -2,7 +2,7 @@
 use Rattle.std.proofs.Common.{◌≡◌, ℕ, List, [], ◌∷◌, ◌++◌, Bool, true, false, cond, if◌then◌else◌, refl, ap, ◌∙◌, reverse, arith}
 use Rattle.std.proofs.lemmas.Grind.{reverse_onto}
 use Rattle.std.proofs.lemmas.Bool.{and_parts, and_from}
-use Rattle.gabc_score.proofs.texts_of_body.TextEmitsThroughEnd.{codes_append}
+use Rattle.gabc_body.proofs.texts_of_body.TextEmitsThroughEnd.{codes_append}
 use Rattle.gabc_places.specs.declared.place.Char.{Char}
 use Rattle.gabc_patterns.specs.LongestItems.{Table}
 use Rattle.gabc_patterns.specs.Derivative.{is_snippet, is_viable}
@@ -10,7 +10,7 @@ use Rattle.gabc_patterns.specs.Function.{keep_from, trim_from}
 use Rattle.gabc_text.specs.Events.{codes_of}
 use Rattle.gabc_notes.specs.Events as notes
 use Rattle.gabc_nabc.specs.Events as nabc
-use Rattle.gabc_score.specs.Holding.{kept_on_line}
+use Rattle.gabc_body.specs.Holding.{kept_on_line}
 use Rattle.gabc_write.proofs.plain.PlainCharacters.{either, is_plain, plain, append}
 
 module _ {K : Type 0} (rows : Table K) where

@@ -5,7 +5,7 @@ use Rattle.std.specs.List.{list_all, flat_map}
 use Rattle.gabc_text.specs.Events.{codes_of}
 use Rattle.gabc_text.specs.ViewFacts.{view_facts}
 use Rattle.gabc_text.specs.Printed.{print}
-use Rattle.gabc_score.specs.Holding.{ReadSnippet, IsHeld, in_brackets}
+use Rattle.gabc_body.specs.Holding.{ReadSnippet, IsHeld, in_brackets}
 use Rattle.gabc_write.specs.PlainText.{IsText}
 use Rattle.gabc_write.specs.SyllableAgain.{barred, printed_syllable}
 use Rattle.gabc_write.proofs.plain.PlainCharacters.{is_plain, plain, append, parts_of, is_text, text_plain}

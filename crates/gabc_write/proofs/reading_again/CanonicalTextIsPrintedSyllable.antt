@@ -5,7 +5,7 @@ use Rattle.std.proofs.lemmas.Str.{encodes-append}
 use Rattle.std.proofs.Math.Nat.{zero-mod}
 use lib.Utf8.{encode, encodes}
 use Rattle.gabc_notes.proofs.machine.LoopOverBody.{parts}
-use Rattle.gabc_score.proofs.holding.SnippetsAreHeld.{next_turn}
+use Rattle.gabc_body.proofs.holding.SnippetsAreHeld.{next_turn}
 use Rattle.gabc_places.specs.declared.place.Span.{Span}
 use Rattle.gabc_places.specs.declared.place.Char.{Char}
 use Rattle.gabc_text.specs.TextView.{ViewContent}
@@ -15,13 +15,13 @@ use Rattle.gabc_text.specs.Canonical.{span_bytes, canonical_text}
 use Rattle.gabc_text.specs.Printed.{print}
 use Rattle.gabc_text.specs.PrintedView.{printed_translation, printed_view}
 use Rattle.gabc_text.specs.TextRead.{view_in}
-use Rattle.gabc_score.specs.declared.snippets.Snippet.{Snippet}
-use Rattle.gabc_score.specs.Syllable.{UnplacedSyllable, slice}
-use Rattle.gabc_score.specs.Canonical as score
-use Rattle.gabc_score.specs.Canonical.{with_bars, canonical}
-use Rattle.gabc_score.specs.Events.{next_line}
-use Rattle.gabc_score.specs.Holding.{ReadSnippet, IsSnippetOf, IsHeld, HoldsNoNotes, kept_on_line}
-use Rattle.gabc_score.specs.SyllablesOfUnits.{ScoreUnit, HasNotes, HoldsUnit}
+use Rattle.gabc_body.specs.declared.snippets.Snippet.{Snippet}
+use Rattle.gabc_body.specs.Syllable.{UnplacedSyllable, slice}
+use Rattle.gabc_body.specs.Canonical as score
+use Rattle.gabc_body.specs.Canonical.{with_bars, canonical}
+use Rattle.gabc_body.specs.Events.{next_line}
+use Rattle.gabc_body.specs.Holding.{ReadSnippet, IsSnippetOf, IsHeld, HoldsNoNotes, kept_on_line}
+use Rattle.gabc_body.specs.SyllablesOfUnits.{ScoreUnit, HasNotes, HoldsUnit}
 use Rattle.gabc_write.specs.SyllableAgain.{barred, printed_syllable, kept_snippets, AreSnippetsFrom, IsPrinted}
 use Rattle.gabc_write.proofs.plain.PrintedSyllableIsPlain.{syllable_plain, snippets_plain}
 

@@ -6,20 +6,20 @@ use Rattle.std.proofs.lemmas.Bool.{eqb-true}
 use Rattle.std.proofs.lemmas.List.Elements.{All-head, All-tail}
 use Rattle.std.proofs.lemmas.Str.{encodes-append}
 use lib.Utf8.{encode, encodes}
-use Rattle.gabc_score.proofs.runs.FoundSyllable.{begins_there}
-use Rattle.gabc_score.proofs.syllables_of_units.UnitsGiveSyllables.{units_whole}
-use Rattle.gabc_score.proofs.units.UnitsEndAtMarks.{IsSingle}
+use Rattle.gabc_body.proofs.within_limits.CodesOfLimits.{begins_there}
+use Rattle.gabc_body.proofs.syllables_of_units.UnitsGiveSyllables.{units_whole}
+use Rattle.gabc_body.proofs.units.UnitsEndAtMarks.{IsSingle}
 use Rattle.gabc_places.specs.declared.place.Char.{Char}
 use Rattle.gabc_text.specs.Events.{codes_of}
 use Rattle.gabc_text.specs.TextRead.{view_in}
 use Rattle.gabc_text.specs.TextView.{ViewContent}
 use Rattle.gabc_text.specs.ViewFacts.{view_facts}
-use Rattle.gabc_score.specs.Body.{has_text}
-use Rattle.gabc_score.specs.Events.{texts_by_definition}
-use Rattle.gabc_score.specs.Syllable.{UnplacedSyllable, PlacedSyllable}
-use Rattle.gabc_score.specs.Canonical.{canonical, canonical_in_place, starts_word}
-use Rattle.gabc_score.specs.Units.{BodyUnit, LastUnit, JustText, OpenNotes, Units, BodyCutting, cutting_of, BeginsWithLf, IsCutFrom, IsCut}
-use Rattle.gabc_score.specs.SyllablesOfUnits.{ScoreUnit, HoldsUnit, AreSyllablesOf, begins_word, next_begins_word, characters_in, characters_from, closed_units, last_units, score_units}
+use Rattle.gabc_body.specs.Body.{has_text}
+use Rattle.gabc_body.specs.Events.{texts_by_definition}
+use Rattle.gabc_body.specs.Syllable.{UnplacedSyllable, PlacedSyllable}
+use Rattle.gabc_body.specs.Canonical.{canonical, canonical_in_place, starts_word}
+use Rattle.gabc_body.specs.Units.{BodyUnit, LastUnit, JustText, OpenNotes, Units, BodyCutting, cutting_of, BeginsWithLf, IsCutFrom, IsCut}
+use Rattle.gabc_body.specs.SyllablesOfUnits.{ScoreUnit, HoldsUnit, AreSyllablesOf, begins_word, next_begins_word, characters_in, characters_from, closed_units, last_units, score_units}
 use Rattle.gabc_write.specs.SyllableAgain.{printed_syllable, IsPrinted}
 use Rattle.gabc_write.specs.BodyAgain.{SyllableFacts, printed_body, AreSyllables, FirstBeginsWord, FirstTextBeginsWord, AreFactsOf, AreOwnFacts, ArePrintedTexts, ArePrinted}
 use Rattle.gabc_write.specs.PlainText.{IsText, AreUnitTexts}

@@ -7,19 +7,20 @@ use Rattle.gabc_write.proofs.DumpOfWhatIsSaid.{said_by, IsWhole}
 use Rattle.gabc_places.specs.declared.limits.Limits.{Limits}
 use Rattle.gabc_notes.specs.FirstNoteOrClef.{first_note_or_clef}
 use Rattle.gabc_notes.specs.Items.{items_of}
-use Rattle.gabc_score.specs.declared.before.Before.{Before}
-use Rattle.gabc_score.specs.declared.snippets.Snippet.{Snippet}
-use Rattle.gabc_score.specs.declared.syllable.Position.TheVariants.{One}
+use Rattle.gabc_body.specs.declared.before.Before.{Before}
+use Rattle.gabc_body.specs.declared.snippets.Snippet.{Snippet}
+use Rattle.gabc_body.specs.declared.syllable.Position.TheVariants.{One}
 use Rattle.gabc_score.specs.Before.{preceding_of, sounds, sounds_in}
-use Rattle.gabc_score.specs.Canonical.{canonical}
-use Rattle.gabc_score.specs.HeldAgain.{CanBeOpen, MayBeHeld}
+use Rattle.gabc_body.specs.Canonical.{canonical}
+use Rattle.gabc_score.specs.HeldAgain.{MayBeHeld}
+use Rattle.gabc_body.specs.OpenSpans.{CanBeOpen}
 use Rattle.gabc_score.specs.HeldAside.{IsEquivalentSyllable}
-use Rattle.gabc_score.specs.Holding.{HasWholeSnippets}
-use Rattle.gabc_score.specs.ScoreEvents.{first_place}
-use Rattle.gabc_score.specs.SpansPast.{FollowsSpans, eu_past, nlba_past}
-use Rattle.gabc_score.specs.Syllable.{UnplacedSyllable, all_syllables}
+use Rattle.gabc_body.specs.Holding.{HasWholeSnippets}
+use Rattle.gabc_body.specs.ScoreEvents.{first_place}
+use Rattle.gabc_body.specs.SpansPast.{FollowsSpans, eu_past, nlba_past}
+use Rattle.gabc_body.specs.Syllable.{UnplacedSyllable, all_syllables}
 use Rattle.gabc_score.specs.ReportedWithin.{IsHeldWithin, written_after}
-use Rattle.gabc_score.specs.UnitRead.{HoldsSomeUnit}
+use Rattle.gabc_body.specs.UnitRead.{HoldsSomeUnit}
 use Rattle.gabc_write.specs.SetDown.{MayBeHeldByItsText, SayTheSame}
 use Rattle.gabc_write.specs.SyllableMeaning.{SyllableMeaning, meaning_of}
 use Rattle.gabc_write.specs.SyllableRead.{as_it_stands, SaysTheSame, IsReadByItself, IsReadFromItsText, IsReadWhereItStands}

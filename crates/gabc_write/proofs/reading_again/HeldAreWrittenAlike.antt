@@ -1,12 +1,12 @@
 -- Held syllables that are equivalent and say the same are written alike.
 use Rattle.std.proofs.Common.{◌≡◌, ℕ, Bool, Option, Some, None, IfSome, arith}
 use Rattle.std.proofs.lemmas.List.{append_cancel_left}
-use Rattle.gabc_score.specs.Canonical.{canonical, starts_word}
+use Rattle.gabc_body.specs.Canonical.{canonical, starts_word}
 use Rattle.gabc_score.specs.HeldAside.{HoldTheSame, IsEquivalentSyllable}
-use Rattle.gabc_score.specs.Holding.{HasWholeSnippets}
-use Rattle.gabc_score.specs.Syllable.{UnplacedSyllable}
-use Rattle.gabc_score.specs.UnitRead.{HoldsSomeUnit}
-use Rattle.gabc_score.specs.declared.syllable.Position.{Position}
+use Rattle.gabc_body.specs.Holding.{HasWholeSnippets}
+use Rattle.gabc_body.specs.Syllable.{UnplacedSyllable}
+use Rattle.gabc_body.specs.UnitRead.{HoldsSomeUnit}
+use Rattle.gabc_body.specs.declared.syllable.Position.{Position}
 use Rattle.gabc_write.specs.DumpOfSyllables.{HaveOneDump}
 use Rattle.gabc_write.specs.SetDown.{SayTheSame, AreWrittenAlike}
 

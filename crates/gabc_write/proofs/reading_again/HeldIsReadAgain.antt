@@ -3,12 +3,12 @@ use Rattle.std.proofs.Common.{◌≡◌, ℕ, ◌+◌, ◌<◌, ◌≤◌, ◌^�
 use Rattle.std.proofs.lemmas.List.Elements.{All-weaker}
 use Rattle.std.specs.List.{All}
 use Rattle.gabc_places.specs.declared.limits.Limits.{Limits}
-use Rattle.gabc_score.specs.Canonical.{canonical}
+use Rattle.gabc_body.specs.Canonical.{canonical}
 use Rattle.gabc_score.specs.ScoreStage.{IsWithinAnywhere}
-use Rattle.gabc_score.specs.ScoreEvents.{first_place}
-use Rattle.gabc_score.specs.Syllable.{PlacedSyllable, UnplacedSyllable}
-use Rattle.gabc_score.specs.UnitRead.{HoldsSomeUnit}
-use Rattle.gabc_score.specs.declared.syllable.Position.TheVariants.{One, Middle}
+use Rattle.gabc_body.specs.ScoreEvents.{first_place}
+use Rattle.gabc_body.specs.Syllable.{PlacedSyllable, UnplacedSyllable}
+use Rattle.gabc_body.specs.UnitRead.{HoldsSomeUnit}
+use Rattle.gabc_body.specs.declared.syllable.Position.TheVariants.{One, Middle}
 use Rattle.gabc_write.specs.SyllableRead.{as_it_stands, IsReadByItself, IsReadFromItsText, IsReadWhereItStands, IsWrittenAsOne}
 
 pub held_is_read : (lines macros : ℕ) (limits : Limits) (o : Option UnplacedSyllable)

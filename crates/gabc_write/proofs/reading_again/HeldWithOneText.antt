@@ -4,22 +4,23 @@ use Rattle.std.specs.Option.{option_map}
 use Rattle.std.specs.Prelude.{IsUtf8}
 use Rattle.std.proofs.lemmas.Str.{chars_from_encodes}
 use Rattle.gabc_places.specs.declared.limits.Limits.{Limits}
-use Rattle.gabc_score.specs.declared.before.Before.{Before}
-use Rattle.gabc_score.specs.declared.before.Preceding.{Preceding}
-use Rattle.gabc_score.specs.declared.before.Spans.{Spans}
+use Rattle.gabc_body.specs.declared.before.Before.{Before}
+use Rattle.gabc_score.specs.declared.preceding.Preceding.{Preceding}
+use Rattle.gabc_body.specs.declared.before.Spans.{Spans}
 use Rattle.gabc_score.specs.Before.{preceding_of}
-use Rattle.gabc_score.specs.HeldAgain.{CanBeOpen, MayBeHeld}
+use Rattle.gabc_score.specs.HeldAgain.{MayBeHeld}
+use Rattle.gabc_body.specs.OpenSpans.{CanBeOpen}
 use Rattle.gabc_headers.specs.declared.head_event.HeadEvent.{HeadEvent}
 use Rattle.gabc_score.specs.HeldAside.{GiveTheSame, HoldTheSame, IsEquivalentSyllable}
-use Rattle.gabc_score.specs.Holding.{HasWholeSnippets}
+use Rattle.gabc_body.specs.Holding.{HasWholeSnippets}
 use Rattle.gabc_score.specs.ScoreStage.{AreInLine}
 use Rattle.gabc_score.specs.ScoreReports.{before_of, held_of}
-use Rattle.gabc_score.specs.SpansPast.{FollowsSpans}
+use Rattle.gabc_body.specs.SpansPast.{FollowsSpans}
 use Rattle.gabc_score.specs.AreEquivalent.{AreEquivalent}
-use Rattle.gabc_score.specs.Syllable.{UnplacedSyllable}
+use Rattle.gabc_body.specs.Syllable.{UnplacedSyllable}
 use Rattle.gabc_places.specs.TextOfAnInput.{IsText}
 use Rattle.gabc_score.specs.ReportedWithin.{IsHeldWithin, written_after}
-use Rattle.gabc_score.specs.UnitRead.{HoldsSomeUnit}
+use Rattle.gabc_body.specs.UnitRead.{HoldsSomeUnit}
 use Rattle.gabc_score.specs.witness.ScoreStage.{ScoreStageState, left_of}
 use Rattle.gabc_write.specs.SavedAlike.{AreSavedAlike}
 use Rattle.gabc_write.specs.SetDown.{GoesOnEquivalentlyInLine, SayTheSame}

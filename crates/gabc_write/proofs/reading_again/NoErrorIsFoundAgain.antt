@@ -13,13 +13,13 @@ use Rattle.gabc_text.specs.Events.{codes_of}
 use Rattle.gabc_text.specs.View.{findings}
 use Rattle.gabc_text.specs.ViewFacts.{has_error}
 use Rattle.gabc_notes.specs.ReadAgain.{IsWarning}
-use Rattle.gabc_score.specs.declared.ending.InputEnding.{InputEnding}
-use Rattle.gabc_score.specs.declared.ending.InputEnding.TheVariants.{Whole}
-use Rattle.gabc_score.specs.Events.{next_line}
-use Rattle.gabc_score.specs.FoundInParts.{TextWarns, SnippetsWarn, UnitsWarn}
-use Rattle.gabc_score.specs.Score.{score_of}
-use Rattle.gabc_score.specs.SyllablesOfUnits.{IsBodyCut}
-use Rattle.gabc_score.specs.Units.{EndedPart, BodyUnit, LastUnit, JustText, BodyCutting}
+use Rattle.gabc_body.specs.declared.ending.InputEnding.{InputEnding}
+use Rattle.gabc_body.specs.declared.ending.InputEnding.TheVariants.{Whole}
+use Rattle.gabc_body.specs.Events.{next_line}
+use Rattle.gabc_body.specs.FoundInParts.{TextWarns, SnippetsWarn, UnitsWarn}
+use Rattle.gabc_body.specs.Score.{score_of}
+use Rattle.gabc_body.specs.SyllablesOfUnits.{IsBodyCut}
+use Rattle.gabc_body.specs.Units.{EndedPart, BodyUnit, LastUnit, JustText, BodyCutting}
 use Rattle.gabc_write.specs.SyllableAgain.{AreSnippetsAgain}
 use Rattle.gabc_write.specs.BodyAgain.{SyllableFacts, SayAgain}
 use Rattle.gabc_write.specs.FileAgain.{printed_file, IsFileAgain}

@@ -12,14 +12,14 @@ use Rattle.gabc_headers.specs.Canonical.{canonical_heads}
 use Rattle.gabc_text.specs.Events.{codes_of}
 use Rattle.gabc_text.specs.Printed.{print, text_tokens, translation_tokens, text_of_tokens}
 use Rattle.gabc_text.specs.ViewFacts.{ViewFacts}
-use Rattle.gabc_score.specs.declared.ending.InputEnding.TheVariants.{Whole}
-use Rattle.gabc_score.specs.Canonical.{canonical_in_place}
-use Rattle.gabc_score.specs.Events.{texts_by_definition}
-use Rattle.gabc_score.specs.Score.{score_by, score_of}
-use Rattle.gabc_score.specs.Syllable.{PlacedSyllable}
-use Rattle.gabc_score.specs.Units.{BodyUnit, LastUnit, JustText, BodyCutting, IsCut}
-use Rattle.gabc_score.specs.SyllablesOfUnits.{ScoreUnit, score_unit, characters_from, closed_units, score_units, AreSyllablesOf, body_characters, IsBodyCut}
-use Rattle.gabc_score.specs.WithinLimits.{CanonicalWithin, KeepsWithin}
+use Rattle.gabc_body.specs.declared.ending.InputEnding.TheVariants.{Whole}
+use Rattle.gabc_body.specs.Canonical.{canonical_in_place}
+use Rattle.gabc_body.specs.Events.{texts_by_definition}
+use Rattle.gabc_body.specs.Score.{score_by, score_of}
+use Rattle.gabc_body.specs.Syllable.{PlacedSyllable}
+use Rattle.gabc_body.specs.Units.{BodyUnit, LastUnit, JustText, BodyCutting, IsCut}
+use Rattle.gabc_body.specs.SyllablesOfUnits.{ScoreUnit, score_unit, characters_from, closed_units, score_units, AreSyllablesOf, body_characters, IsBodyCut}
+use Rattle.gabc_body.specs.WithinLimits.{CanonicalWithin, KeepsWithin}
 use Rattle.gabc_write.specs.SyllableAgain.{printed_syllable, SaysAgain}
 use Rattle.gabc_write.specs.BodyAgain.{SyllableFacts, printed_body, SayAgain, FirstTextBeginsWord, ArePrintedTexts, AreOwnFacts, ArePrinted}
 use Rattle.gabc_write.specs.CanonicalFile.{canonical_text_of, score_text}

@@ -3,7 +3,7 @@ use Rattle.std.proofs.Common.{◌≡◌, ℕ, suc, List, [], ◌∷◌, ◌++◌
 use Rattle.std.specs.List.{list_any}
 use Rattle.gabc_places.proofs.NothingAfterAnEnd.{both_empty}
 use Rattle.gabc_notes.proofs.grammar.LawsOfEventsByPoint.{ends_append}
-use Rattle.gabc_score.proofs.texts_of_body.TextEmitsThroughEnd.{ends_apart, none_ends}
+use Rattle.gabc_body.proofs.texts_of_body.TextEmitsThroughEnd.{ends_apart, none_ends}
 use Rattle.gabc_places.specs.StageLaw.{concat_of}
 use Rattle.gabc_places.specs.declared.place.Place.{Place}
 use Rattle.gabc_places.specs.declared.place.Char.{Char}
@@ -18,8 +18,8 @@ use Rattle.gabc_notes.specs.declared.stage.NoteEnd.TheVariants as note_end
 use Rattle.gabc_notes.specs.declared.stage.NoteEvent.{NoteEvent}
 use Rattle.gabc_notes.specs.declared.stage.NoteEvent.TheVariants as note_out
 use Rattle.gabc_notes.specs.SnippetRead.{ends_of}
-use Rattle.gabc_score.specs.Events.{InText, InNotes, is_text_end, is_next, is_close, next_line}
-use Rattle.gabc_score.specs.Units.{Mark, Opens, Next, Closes, EndsAfter}
+use Rattle.gabc_body.specs.Events.{InText, InNotes, is_text_end, is_next, is_close, next_line}
+use Rattle.gabc_body.specs.Units.{Mark, Opens, Next, Closes, EndsAfter}
 
 -- ---- texts
 

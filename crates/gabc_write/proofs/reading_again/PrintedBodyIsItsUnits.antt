@@ -1,7 +1,7 @@
 -- The printed syllables of a body, with an LF after them, are its units.
 use Rattle.std.proofs.Common.{◌≡◌, ℕ, List, [], ◌∷◌, ◌++◌, length, length-append, Bool, true, if◌then◌else◌, Some, None, refl, sym, ap, subst, ◌∙◌, arith}
-use Rattle.gabc_score.proofs.texts_of_body.TextEmitsThroughEnd.{ends_apart, none_ends}
-use Rattle.gabc_score.proofs.syllables_of_units.UnitsGiveSyllables.{units_whole}
+use Rattle.gabc_body.proofs.texts_of_body.TextEmitsThroughEnd.{ends_apart, none_ends}
+use Rattle.gabc_body.proofs.syllables_of_units.UnitsGiveSyllables.{units_whole}
 use Rattle.gabc_places.specs.StageLaw.{concat_of}
 use Rattle.gabc_places.specs.declared.place.Place.{Place}
 use Rattle.gabc_places.specs.declared.place.Char.{Char}
@@ -11,9 +11,9 @@ use Rattle.gabc_text.specs.Ends.{EndsOnce, ends_in}
 use Rattle.gabc_text.specs.Events.{codes_of, after_tokens, events_by_point}
 use Rattle.gabc_text.specs.Printed.{print, text_tokens, translation_tokens, text_of_tokens, word_break}
 use Rattle.gabc_text.specs.ViewFacts.{ViewFacts, view_facts}
-use Rattle.gabc_score.specs.Events.{InText, texts_by_definition, text_from, after_mark}
-use Rattle.gabc_score.specs.Units.{Opens, BodyUnit, JustText, Endless, units_pieces, whole, Cuts, BeginsWithLf, first_text}
-use Rattle.gabc_score.specs.SyllablesOfUnits.{last_units}
+use Rattle.gabc_body.specs.Events.{InText, texts_by_definition, text_from, after_mark}
+use Rattle.gabc_body.specs.Units.{Opens, BodyUnit, JustText, Endless, units_pieces, whole, Cuts, BeginsWithLf, first_text}
+use Rattle.gabc_body.specs.SyllablesOfUnits.{last_units}
 use Rattle.gabc_write.specs.SyllableAgain.{barred, printed_syllable, AreSnippets, AreUnitsFrom, SaysAgain, IsOneUnit}
 use Rattle.gabc_write.specs.BodyAgain.{SyllableFacts, printed_body, AreSyllables, FirstBeginsWord, SayAgain, IsBodyAgain}
 

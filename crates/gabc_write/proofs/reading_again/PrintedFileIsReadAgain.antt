@@ -8,7 +8,7 @@ use Rattle.gabc_headers.specs.Book.{nabc_lines_of, macros_of}
 use Rattle.gabc_headers.specs.Canonical.{header_lines, canonical_heads}
 use Rattle.gabc_headers.specs.Heads.{head_len, heads_of}
 use Rattle.gabc_headers.specs.HeadsAgain.{heads_again}
-use Rattle.gabc_score.specs.SyllablesOfUnits.{body_characters}
+use Rattle.gabc_body.specs.SyllablesOfUnits.{body_characters}
 use Rattle.gabc_write.specs.BodyAgain.{SyllableFacts, IsBodyAgain}
 use Rattle.gabc_write.specs.FileAgain.{printed_file, IsFileAgain}
 

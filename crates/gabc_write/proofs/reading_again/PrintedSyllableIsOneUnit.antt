@@ -1,7 +1,7 @@
 -- A printed syllable is one unit in front of whatever follows.
 use Rattle.std.proofs.Common.{◌≡◌, ℕ, List, [], ◌∷◌, ◌++◌, length, Bool, true, false, cond, refl, sym, ap, subst, ◌∙◌, append_assoc, append-nil, arith, codes}
 use Rattle.gabc_text.proofs.KeptCharacters.{codes_placed}
-use Rattle.gabc_score.proofs.syllables_of_units.UnitsGiveSyllables.{units_whole}
+use Rattle.gabc_body.proofs.syllables_of_units.UnitsGiveSyllables.{units_whole}
 use Rattle.gabc_places.specs.declared.place.Place.{Place}
 use Rattle.gabc_places.specs.declared.place.Char.{Char}
 use Rattle.gabc_places.specs.Place.{next_place, place_past, placed_characters_from}
@@ -18,9 +18,9 @@ use Rattle.gabc_notes.specs.Ends.{IsMarkOf}
 use Rattle.gabc_notes.specs.ReadAgain.{IsReadAgain}
 use Rattle.gabc_nabc.specs.Table.{nabc}
 use Rattle.gabc_nabc.specs.ReadAgain.{IsNabcReadAgain}
-use Rattle.gabc_score.specs.Events.{texts_by_definition, text_from, snippet_from, after_mark}
-use Rattle.gabc_score.specs.Units.{Opens, Closes, BodyUnit, LastUnit, CutPart, cut_part, snippets_with, last_characters, units_pieces, whole, EndsAfter, Cuts}
-use Rattle.gabc_score.specs.SyllablesOfUnits.{with_ends, snippets_in, characters_in}
+use Rattle.gabc_body.specs.Events.{texts_by_definition, text_from, snippet_from, after_mark}
+use Rattle.gabc_body.specs.Units.{Opens, Closes, BodyUnit, LastUnit, CutPart, cut_part, snippets_with, last_characters, units_pieces, whole, EndsAfter, Cuts}
+use Rattle.gabc_body.specs.SyllablesOfUnits.{with_ends, snippets_in, characters_in}
 use Rattle.gabc_write.specs.SyllableAgain.{barred, printed_syllable, AreSnippets, AreSnippetsFrom, AreUnitsFrom, IsOneUnit}
 use Rattle.gabc_places.proofs.PlacesOfAText.{place_append, placed_append}
 use Rattle.gabc_write.proofs.reading_again.PartsEndAtTheirMarks.{text_ends}

@@ -5,9 +5,9 @@ use Rattle.std.specs.Char.{IsScalar}
 use Rattle.std.proofs.lemmas.List.Elements.{All-nil, All-cons, All-head, All-tail, All-take, All-drop}
 use Rattle.std.proofs.lemmas.Str.{encodes-append}
 use lib.Utf8.{encodes}
-use Rattle.gabc_score.proofs.texts_of_body.TextEmitsThroughEnd.{codes_append}
-use Rattle.gabc_score.proofs.holding.ScoreHoldsParts.{codes_placed}
-use Rattle.gabc_score.proofs.units.UnitsEndAtMarks.{IsSingle}
+use Rattle.gabc_body.proofs.texts_of_body.TextEmitsThroughEnd.{codes_append}
+use Rattle.gabc_body.proofs.holding.ScoreHoldsParts.{codes_placed}
+use Rattle.gabc_body.proofs.units.UnitsEndAtMarks.{IsSingle}
 use Rattle.gabc_places.specs.declared.limits.Limits.{Limits}
 use Rattle.gabc_places.specs.LargerLimits.{AreNoLess}
 use Rattle.gabc_places.specs.declared.place.Char.{Char}
@@ -17,13 +17,13 @@ use Rattle.gabc_headers.specs.Book.{nabc_lines_of, macros_of}
 use Rattle.gabc_headers.specs.Canonical.{canonical_heads}
 use Rattle.gabc_headers.specs.Heads.{heads_of}
 use Rattle.gabc_text.specs.Events.{codes_of}
-use Rattle.gabc_score.specs.declared.ending.InputEnding.{InputEnding}
-use Rattle.gabc_score.specs.declared.ending.InputEnding.TheVariants.{Whole, Broken, At}
-use Rattle.gabc_score.specs.Events.{Texts, texts_by_definition}
-use Rattle.gabc_score.specs.Score.{heads_text, after_heads, score_of}
-use Rattle.gabc_score.specs.Syllable.{PlacedSyllable}
-use Rattle.gabc_score.specs.Units.{BodyUnit, LastUnit, Units, BodyCutting, IsCut}
-use Rattle.gabc_score.specs.SyllablesOfUnits.{ScoreUnit, with_ends, snippets_in, characters_in, last_in, characters_from, unit_characters, closed_units, last_units, score_units, count_within, units_within, AreSyllablesOf, body_characters, IsBodyCut, AreBeforeBodyStop}
+use Rattle.gabc_body.specs.declared.ending.InputEnding.{InputEnding}
+use Rattle.gabc_body.specs.declared.ending.InputEnding.TheVariants.{Whole, Broken, At}
+use Rattle.gabc_body.specs.Events.{Texts, texts_by_definition}
+use Rattle.gabc_body.specs.Score.{heads_text, after_heads, score_of}
+use Rattle.gabc_body.specs.Syllable.{PlacedSyllable}
+use Rattle.gabc_body.specs.Units.{BodyUnit, LastUnit, Units, BodyCutting, IsCut}
+use Rattle.gabc_body.specs.SyllablesOfUnits.{ScoreUnit, with_ends, snippets_in, characters_in, last_in, characters_from, unit_characters, closed_units, last_units, score_units, count_within, units_within, AreSyllablesOf, body_characters, IsBodyCut, AreBeforeBodyStop}
 use Rattle.gabc_write.specs.PlainText.{IsText, AreUnitTexts}
 use Rattle.gabc_places.specs.Text.{decoded_of}
 use Rattle.gabc_places.specs.TextOfAnInput.{IsPlain}
@@ -31,7 +31,7 @@ use Rattle.gabc_write.specs.BodyAgain.{SyllableFacts, AreSyllables, FirstBeginsW
 use Rattle.gabc_write.specs.FileAgain.{printed_file, IsFileAgain}
 use Rattle.gabc_write.specs.ScoreAgain.{IsPrintedScore, IsSameScore, IsScoreAgain}
 use Rattle.gabc_notes.specs.ReadAgain.{IsWarning}
-use Rattle.gabc_score.specs.WithinLimits.{CanonicalWithin, AreWithin}
+use Rattle.gabc_body.specs.WithinLimits.{CanonicalWithin, AreWithin}
 use Rattle.gabc_write.specs.SyllableMeaning.{AreSame}
 use Rattle.gabc_write.proofs.reading_again.NoLimitIsPassedAgain.{AllShort, printed_short, within_larger, file_fits}
 use Rattle.gabc_write.proofs.plain.PlainCharacters.{is_plain, plain, append, parts_of, is_text, text_plain}

@@ -7,13 +7,13 @@ use Rattle.gabc_places.specs.declared.limits.Limits.{Limits}
 use Rattle.gabc_places.specs.declared.place.Char.{Char}
 use Rattle.gabc_headers.specs.Book.{nabc_lines_of, macros_of}
 use Rattle.gabc_headers.specs.Canonical.{canonical_heads}
-use Rattle.gabc_score.specs.declared.ending.InputEnding.TheVariants.{Whole}
-use Rattle.gabc_score.specs.declared.score.Score.{Score}
-use Rattle.gabc_score.specs.Events.{texts_by_definition, next_line}
-use Rattle.gabc_score.specs.Score.{score_by, score_of}
-use Rattle.gabc_score.specs.Syllable.{PlacedSyllable}
-use Rattle.gabc_score.specs.Units.{EndedPart, BodyUnit, LastUnit, JustText, BodyCutting, IsCut}
-use Rattle.gabc_score.specs.SyllablesOfUnits.{ScoreUnit, closed_units, score_units, AreSyllablesOf, body_characters, IsBodyCut}
+use Rattle.gabc_body.specs.declared.ending.InputEnding.TheVariants.{Whole}
+use Rattle.gabc_body.specs.declared.score.Score.{Score}
+use Rattle.gabc_body.specs.Events.{texts_by_definition, next_line}
+use Rattle.gabc_body.specs.Score.{score_by, score_of}
+use Rattle.gabc_body.specs.Syllable.{PlacedSyllable}
+use Rattle.gabc_body.specs.Units.{EndedPart, BodyUnit, LastUnit, JustText, BodyCutting, IsCut}
+use Rattle.gabc_body.specs.SyllablesOfUnits.{ScoreUnit, closed_units, score_units, AreSyllablesOf, body_characters, IsBodyCut}
 use Rattle.gabc_write.specs.SyllableAgain.{kept_snippets, AreSnippetsAgain}
 use Rattle.gabc_write.specs.BodyAgain.{SyllableFacts, SayAgain, FirstTextBeginsWord, AreOwnFacts, ArePrinted, AreFactsOf, printed_body}
 use Rattle.gabc_write.specs.FileAgain.{printed_file, IsFileAgain}

@@ -20,12 +20,12 @@ use Rattle.gabc_nabc.specs.Table.{nabc}
 use Rattle.gabc_nabc.specs.Events as nabc
 use Rattle.gabc_nabc.specs.ReadAgain.{IsNabcReadAgain}
 use Rattle.gabc_nabc.specs.SnippetRead.{kept_before}
-use Rattle.gabc_score.specs.Events.{texts_by_definition, text_from, snippet_from, next_line, after_mark}
-use Rattle.gabc_score.specs.Units as unit
-use Rattle.gabc_score.specs.Units.{EndedPart, CutPart, cut_part, snippets_with, whole, EndsAfter, Cuts}
-use Rattle.gabc_score.specs.Holding.{IsSnippetOf, kept_on_line}
-use Rattle.gabc_score.specs.SyllablesOfUnits.{with_ends}
-use Rattle.gabc_score.specs.FoundInParts.{snippet_events}
+use Rattle.gabc_body.specs.Events.{texts_by_definition, text_from, snippet_from, next_line, after_mark}
+use Rattle.gabc_body.specs.Units as unit
+use Rattle.gabc_body.specs.Units.{EndedPart, CutPart, cut_part, snippets_with, whole, EndsAfter, Cuts}
+use Rattle.gabc_body.specs.Holding.{IsSnippetOf, kept_on_line}
+use Rattle.gabc_body.specs.SyllablesOfUnits.{with_ends}
+use Rattle.gabc_body.specs.FoundInParts.{snippet_events}
 use Rattle.gabc_write.specs.SyllableAgain.{barred, AreSnippetsFrom, IsSnippetAgain, AreSnippetsAgain}
 use Rattle.gabc_places.proofs.PlacesOfAText.{place_append, placed_append}
 use Rattle.gabc_places.proofs.NumbersByTests.{suc_eqb}

@@ -4,17 +4,17 @@ use Rattle.std.specs.Prelude.{IsUtf8, ◌==◌}
 use Rattle.std.specs.Str.{chars}
 use Rattle.std.proofs.lemmas.Str.{chars_from_encodes}
 use Rattle.gabc_places.specs.declared.limits.Limits.{Limits}
-use Rattle.gabc_score.specs.declared.before.Before.{Before}
+use Rattle.gabc_body.specs.declared.before.Before.{Before}
 use Rattle.gabc_score.specs.declared.score_machine.ScorePart.{ScorePart}
 use Rattle.gabc_score.specs.HeldAgain.{MayBeHeld}
 use Rattle.gabc_score.specs.HeldAside.{HoldTheSame, IsEquivalentSyllable}
-use Rattle.gabc_score.specs.Holding.{HasWholeSnippets}
+use Rattle.gabc_body.specs.Holding.{HasWholeSnippets}
 use Rattle.gabc_score.specs.Resumed.{HoldsAgain, IsAfterSyllables}
 use Rattle.gabc_score.specs.ScoreReports.{before_of, before_with, held_of, in_body}
-use Rattle.gabc_score.specs.SpansPast.{FollowsSpans}
-use Rattle.gabc_score.specs.Syllable.{UnplacedSyllable}
+use Rattle.gabc_body.specs.SpansPast.{FollowsSpans}
+use Rattle.gabc_body.specs.Syllable.{UnplacedSyllable}
 use Rattle.gabc_score.specs.ReportedWithin.{IsHeldWithin, written_after}
-use Rattle.gabc_score.specs.UnitRead.{HoldsSomeUnit}
+use Rattle.gabc_body.specs.UnitRead.{HoldsSomeUnit}
 use Rattle.gabc_score.specs.witness.ScoreStage.{ScoreStageState}
 use Rattle.gabc_write.specs.SetDown.{MayBeHeldByItsText, SayTheSame}
 use Rattle.gabc_write.specs.SyllableRead.{as_it_stands, IsReadFromItsText}

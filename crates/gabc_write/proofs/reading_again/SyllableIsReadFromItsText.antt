@@ -18,23 +18,23 @@ use Rattle.gabc_text.specs.TextView.{ViewContent}
 use Rattle.gabc_text.specs.View.{findings}
 use Rattle.gabc_text.specs.ViewFacts.{ViewFacts, view_facts, StandsFor, StandsForView, has_error}
 use Rattle.gabc_notes.specs.ReadAgain.{IsWarning}
-use Rattle.gabc_score.specs.declared.events.BodyEvent.{BodyEvent}
-use Rattle.gabc_score.specs.declared.syllable.Position.TheVariants as position
-use Rattle.gabc_score.specs.Body.{events_onto, findings_of}
-use Rattle.gabc_score.specs.Canonical.{canonical}
-use Rattle.gabc_score.specs.Events.{texts_by_definition, text_from, next_line}
-use Rattle.gabc_score.specs.FoundInParts.{TextWarns, SnippetsWarn}
-use Rattle.gabc_score.specs.SpansPast.{open_past}
-use Rattle.gabc_score.specs.Syllable.{UnplacedSyllable, slice, since_close, kept_of, all_syllables, is_eu, is_nlba, is_open_after}
-use Rattle.gabc_score.specs.SyllablesOfUnits.{ScoreUnit, HoldsUnit, characters_in, characters_from, score_unit, snippets_in}
-use Rattle.gabc_score.specs.UnitRead.{HoldsSomeUnit, GivesOneSyllable, first_events}
-use Rattle.gabc_score.specs.Units.{EndedPart, BodyUnit, LastUnit, JustText, Cuts, units_pieces, last_characters}
+use Rattle.gabc_body.specs.declared.events.BodyEvent.{BodyEvent}
+use Rattle.gabc_body.specs.declared.syllable.Position.TheVariants as position
+use Rattle.gabc_body.specs.Body.{events_onto, findings_of}
+use Rattle.gabc_body.specs.Canonical.{canonical}
+use Rattle.gabc_body.specs.Events.{texts_by_definition, text_from, next_line}
+use Rattle.gabc_body.specs.FoundInParts.{TextWarns, SnippetsWarn}
+use Rattle.gabc_body.specs.SpansPast.{open_past}
+use Rattle.gabc_body.specs.Syllable.{UnplacedSyllable, slice, since_close, kept_of, all_syllables, is_eu, is_nlba, is_open_after}
+use Rattle.gabc_body.specs.SyllablesOfUnits.{ScoreUnit, HoldsUnit, characters_in, characters_from, score_unit, snippets_in}
+use Rattle.gabc_body.specs.UnitRead.{HoldsSomeUnit, GivesOneSyllable, first_events}
+use Rattle.gabc_body.specs.Units.{EndedPart, BodyUnit, LastUnit, JustText, Cuts, units_pieces, last_characters}
 use Rattle.gabc_write.specs.SyllableAgain.{printed_syllable, AreSnippets, AreSnippetsAgain, AreUnitsFrom, SaysAgain, IsPrinted, IsOneUnit}
 use Rattle.gabc_write.specs.BodyAgain.{SyllableFacts}
 use Rattle.gabc_write.specs.SyllableMeaning.{PieceMeaning, meaning_of_piece, SyllableMeaning}
 use Rattle.gabc_write.specs.SyllableRead.{as_it_stands, SaysTheSame, IsReadByItself, IsReadFromItsText}
 use Rattle.gabc_write.proofs.reading_again.NoErrorIsFoundAgain.{snippets_warn}
-use Rattle.gabc_score.specs.WithinLimits.{KeepsWithin}
+use Rattle.gabc_body.specs.WithinLimits.{KeepsWithin}
 use Rattle.gabc_write.proofs.reading_again.NoLimitIsPassedAgain.{one_keeps}
 use Rattle.gabc_write.proofs.reading_again.ScoreReadAgainIsTheSame.{kept_again, some_parts}
 use Rattle.gabc_write.proofs.reading_again.SyllablesSayTheSame.{one_said, said_by}

@@ -4,17 +4,17 @@ use Rattle.std.specs.List.{All}
 use Rattle.std.proofs.lemmas.List.{length-map}
 use Rattle.std.proofs.lemmas.List.Elements.{All-head, All-tail}
 use lib.Utf8.{encodes}
-use Rattle.gabc_score.proofs.units.UnitsEndAtMarks.{IsSingle}
+use Rattle.gabc_body.proofs.units.UnitsEndAtMarks.{IsSingle}
 use Rattle.gabc_places.specs.declared.limits.Limits.{Limits}
 use Rattle.gabc_places.specs.declared.place.Char.{Char}
 use Rattle.gabc_headers.specs.Book.{nabc_lines_of}
-use Rattle.gabc_score.specs.declared.ending.InputEnding.{InputEnding}
-use Rattle.gabc_score.specs.declared.snippets.Snippet.{Snippet}
-use Rattle.gabc_score.specs.Holding.{HoldsNoNotes, Holds, HoldsWithNotes, HoldsParts, lines_by, lines_of}
-use Rattle.gabc_score.specs.Score.{score_of}
-use Rattle.gabc_score.specs.Syllable.{UnplacedSyllable, PlacedSyllable}
-use Rattle.gabc_score.specs.SyllablesOfUnits.{ScoreUnit, NotesAre}
-use Rattle.gabc_score.specs.UnitRead.{HoldsSomeUnit}
+use Rattle.gabc_body.specs.declared.ending.InputEnding.{InputEnding}
+use Rattle.gabc_body.specs.declared.snippets.Snippet.{Snippet}
+use Rattle.gabc_body.specs.Holding.{HoldsNoNotes, Holds, HoldsWithNotes, HoldsParts, lines_by, lines_of}
+use Rattle.gabc_body.specs.Score.{score_of}
+use Rattle.gabc_body.specs.Syllable.{UnplacedSyllable, PlacedSyllable}
+use Rattle.gabc_body.specs.SyllablesOfUnits.{ScoreUnit, NotesAre}
+use Rattle.gabc_body.specs.UnitRead.{HoldsSomeUnit}
 use Rattle.gabc_write.proofs.reading_again.ScoreIsPrinted.{UnitsAre}
 
 -- after n others stands this one

@@ -13,15 +13,15 @@ use Rattle.gabc_text.specs.Printed.{text_tokens, text_of_tokens}
 use Rattle.gabc_text.specs.TextRead.{view_in}
 use Rattle.gabc_text.specs.View.{PieceFacts}
 use Rattle.gabc_text.specs.ViewFacts.{ViewFacts, view_facts, StandsFor, StandsForView, kept_of_piece, ArePiecesOf, IsTranslation, span_tags, is_mark}
-use Rattle.gabc_score.specs.declared.snippets.Snippet.{Snippet}
-use Rattle.gabc_score.specs.declared.syllable.Position.{Position}
-use Rattle.gabc_score.specs.Canonical.{position_by}
-use Rattle.gabc_score.specs.Holding.{ReadSnippet}
-use Rattle.gabc_score.specs.Syllable.{PlacedSyllable, slice}
-use Rattle.gabc_score.specs.SyllablesOfUnits.{ScoreUnit, NotesAre, HoldsUnit, IsLeftOpen, AreSyllablesOf, begins_word, next_begins_word, tags_in}
+use Rattle.gabc_body.specs.declared.snippets.Snippet.{Snippet}
+use Rattle.gabc_body.specs.declared.syllable.Position.{Position}
+use Rattle.gabc_body.specs.Canonical.{position_by}
+use Rattle.gabc_body.specs.Holding.{ReadSnippet}
+use Rattle.gabc_body.specs.Syllable.{PlacedSyllable, slice}
+use Rattle.gabc_body.specs.SyllablesOfUnits.{ScoreUnit, NotesAre, HoldsUnit, IsLeftOpen, AreSyllablesOf, begins_word, next_begins_word, tags_in}
 use Rattle.gabc_write.specs.BodyAgain.{SyllableFacts, FirstBeginsWord, FirstTextBeginsWord, AreFactsOf}
 use Rattle.gabc_write.specs.SyllableMeaning.{PieceMeaning, meaning_of_piece, SyllableMeaning, meaning_of, AreSame}
-use Rattle.gabc_score.proofs.holding.SyllableHoldsPartByPart.{first_turn}
+use Rattle.gabc_body.proofs.holding.SyllableHoldsPartByPart.{first_turn}
 
 -- ---- what facts say
 

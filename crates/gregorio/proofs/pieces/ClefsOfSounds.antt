@@ -4,13 +4,13 @@ use Rattle.std.proofs.lemmas.Bool.{or_parts}
 use Rattle.gabc_headers.specs.declared.head_event.HeadEvent.{HeadEvent}
 use Rattle.gabc_neumes.specs.InForce.{InForce, passed}
 use Rattle.gabc_neumes.specs.declared.sound.Clef.{Clef}
-use Rattle.gabc_score.specs.declared.before.Preceding.{Preceding}
+use Rattle.gabc_score.specs.declared.preceding.Preceding.{Preceding}
 use Rattle.gabc_score.specs.declared.score_machine.ScorePart.{ScorePart}
 use Rattle.gabc_score.specs.declared.score_machine.ScorePart.TheVariants as score_part
 use Rattle.gabc_score.specs.Before.{sounds, with_placed}
-use Rattle.gabc_score.specs.ScoreEvents.{ScoreOutput, Syllable, syllables_in}
+use Rattle.gabc_body.specs.ScoreEvents.{ScoreOutput, Syllable, syllables_in}
 use Rattle.gabc_score.specs.ScoreStage.{part_past, preceding_past}
-use Rattle.gabc_score.specs.Syllable.{PlacedSyllable}
+use Rattle.gabc_body.specs.Syllable.{PlacedSyllable}
 use Rattle.gabc_score.specs.witness.ScoreStage.{ScoreStageState}
 use Rattle.gabc_write.specs.DumpOfSyllables.{steps_of_syllable}
 use Rattle.gregorio.specs.Streams.{force_after}

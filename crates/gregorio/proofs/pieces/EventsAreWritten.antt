@@ -3,7 +3,7 @@ use Rattle.std.proofs.Common.{◌≡◌, ℕ, List, [], ◌∷◌, ◌++◌, len
 use Rattle.std.proofs.lemmas.Bool.{or_parts}
 use Rattle.std.proofs.Math.Bool.{or-false}
 use Rattle.gabc_headers.specs.declared.head_event.HeadEvent.{HeadEvent}
-use Rattle.gabc_score.specs.ScoreEvents.{ScoreOutput}
+use Rattle.gabc_body.specs.ScoreEvents.{ScoreOutput}
 use Rattle.gabc_score.specs.witness.ScoreStage.{left_of}
 use Rattle.gabc_headers.proofs.stages.CharactersOfAStage.{nothing_added}
 use Rattle.gabc_score.proofs.score_events.OutputsOfLentSyllables.{then_more}

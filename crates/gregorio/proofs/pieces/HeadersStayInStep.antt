@@ -22,7 +22,7 @@ use Rattle.gabc_headers.specs.Lines.{bytes_len}
 use Rattle.gabc_score.specs.declared.score_machine.ScorePart.{ScorePart}
 use Rattle.gabc_score.specs.declared.score_machine.ScorePart.TheVariants as score_part
 use Rattle.gabc_score.specs.Before.{no_syllable, with_placed}
-use Rattle.gabc_score.specs.ScoreEvents.{ScoreOutput, syllables_in}
+use Rattle.gabc_body.specs.ScoreEvents.{ScoreOutput, syllables_in}
 use Rattle.gabc_score.specs.ScoreStage.{Counts, most_whole, part_past}
 use Rattle.gabc_score.specs.ReportedWithin.{whole_syllables}
 use Rattle.gregorio.specs.declared.run_ending.RunEnding.{RunEnding}

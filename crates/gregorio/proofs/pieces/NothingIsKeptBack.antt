@@ -3,7 +3,7 @@ use Rattle.std.proofs.Common.{rules, ◌≡◌, ℕ, ◌+◌, ◌-◌, ◌<◌, 
 use Rattle.std.proofs.lemmas.Bool.{or_parts}
 use Rattle.std.specs.List.{All, flat_map}
 use Rattle.gabc_places.proofs.NothingAfterAnEnd.{both_empty}
-use Rattle.gabc_score.specs.Syllable.{PlacedSyllable}
+use Rattle.gabc_body.specs.Syllable.{PlacedSyllable}
 use Rattle.gabc_write.specs.SyllableRead.{IsWrittenAsOne}
 use Rattle.gabc_places.specs.StageLaw.{concat_of}
 use Rattle.gabc_places.specs.declared.code.Fault.{Fault}
@@ -15,7 +15,7 @@ use Rattle.gabc_headers.specs.declared.heads.HeadFault.{HeadFault}
 use Rattle.gabc_headers.specs.declared.head_event.HeadEvent.{HeadEvent}
 use Rattle.gabc_headers.specs.declared.head_event.HeadEvent.TheVariants as head_event
 use Rattle.gabc_headers.specs.witness.HeadEvents.{HeadProgress, events_by, events_left, events_of_input, progress_after}
-use Rattle.gabc_score.specs.ScoreEvents.{HasNoEnd, ScoreOutput, Found, Stop, Syllable, End, has_end, syllables_in}
+use Rattle.gabc_body.specs.ScoreEvents.{HasNoEnd, ScoreOutput, Found, Stop, Syllable, End, has_end, syllables_in}
 use Rattle.gabc_score.specs.witness.ScoreStage.{ScoreStageState, left_of}
 use Rattle.gabc_places.specs.Message.{message_text}
 use Rattle.gregorio_jobs.specs.declared.job.Format.{Format}

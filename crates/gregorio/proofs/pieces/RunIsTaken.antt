@@ -19,10 +19,10 @@ use Rattle.gabc_headers.specs.declared.head_event.HeadEvent.{HeadEvent}
 use Rattle.gabc_headers.specs.witness.HeadEvents.{HeaderStageState, HeadProgress, IsAfterHeaders, after_headers}
 use Rattle.gabc_score.specs.GivesSyllables.{next_after}
 use Rattle.gabc_score.specs.ScoreStage.{Counts}
-use Rattle.gabc_score.specs.ScoreEvents.{Syllable}
-use Rattle.gabc_score.specs.Syllable.{PlacedSyllable}
+use Rattle.gabc_body.specs.ScoreEvents.{Syllable}
+use Rattle.gabc_body.specs.Syllable.{PlacedSyllable}
 use Rattle.gabc_score.specs.Before.{with_placed}
-use Rattle.gabc_score.specs.declared.before.Preceding.{Preceding}
+use Rattle.gabc_score.specs.declared.preceding.Preceding.{Preceding}
 use Rattle.gregorio.specs.Outcome.{is_whole}
 use Rattle.gregorio.specs.Streams.{after_bytes}
 use Rattle.gregorio.specs.declared.source_ending.SourceEnding.{SourceEnding}

@@ -10,9 +10,9 @@ use Rattle.gabc_neumes.specs.InForce.{passed}
 use Rattle.gabc_write.specs.DumpOfSyllables.{steps_of_syllable}
 use Rattle.gabc_score.specs.Before.{sounds, with_one, with_placed}
 use Rattle.gabc_score.specs.GivesSyllables.{text_inputs}
-use Rattle.gabc_score.specs.ScoreEvents.{ScoreOutput, Syllable, syllables_in}
-use Rattle.gabc_score.specs.Syllable.{PlacedSyllable}
-use Rattle.gabc_score.specs.declared.before.Preceding.{Preceding}
+use Rattle.gabc_body.specs.ScoreEvents.{ScoreOutput, Syllable, syllables_in}
+use Rattle.gabc_body.specs.Syllable.{PlacedSyllable}
+use Rattle.gabc_score.specs.declared.preceding.Preceding.{Preceding}
 use Rattle.gabc_score.specs.declared.score_machine.ScorePart.{ScorePart}
 use Rattle.gabc_score.specs.witness.ScoreStage.{left_of}
 use Rattle.gregorio_jobs.specs.declared.job.Format.{Format}

@@ -10,9 +10,9 @@ use Rattle.gabc_headers.specs.witness.HeadEvents.{HeadProgress, reading, after_h
 use Rattle.gabc_neumes.specs.InForce.{InForce}
 use Rattle.gabc_score.specs.ScoreStage.{AreInLine}
 use Rattle.gabc_score.specs.ScoreReports.{IsAt, before_of, before_with, held_of, openers_of}
-use Rattle.gabc_score.specs.Syllable.{UnplacedSyllable}
+use Rattle.gabc_body.specs.Syllable.{UnplacedSyllable}
 use Rattle.gabc_score.specs.ReportedWithin.{IsHeldWithin, ReportsWithin, written_after}
-use Rattle.gabc_score.specs.declared.before.Preceding.{Preceding}
+use Rattle.gabc_score.specs.declared.preceding.Preceding.{Preceding}
 use Rattle.gabc_score.specs.declared.score_machine.ScorePart.{ScorePart}
 use Rattle.gabc_score.specs.witness.ScoreStage.{ScoreStageState}
 use Rattle.gregorio_state.specs.Fields.{ScoreFields, StateFields, InScore}

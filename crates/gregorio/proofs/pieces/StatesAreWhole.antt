@@ -10,13 +10,13 @@ use Rattle.gabc_places.specs.declared.place.Place.{Place}
 use Rattle.gabc_places.proofs.texts.CharactersOfStrings.{chars-encode}
 use Rattle.gabc_headers.specs.HeldText.{IsHeld, IsWithinHeaders}
 use Rattle.gabc_headers.specs.witness.HeadEvents.{HeadProgress, reading, after_headers, over, IsInHeaders}
-use Rattle.gabc_score.proofs.score_events.TextsArePlain.{nothing_plain}
+use Rattle.gabc_body.proofs.units.CanonicalTextIsText.{nothing_plain}
 use Rattle.gabc_score.proofs.resuming.ScoresAgree.{reads_in_body}
 use Rattle.gabc_score.specs.ScoreReports.{before_of, before_with, held_in_body, held_of, in_body as in_body_of}
-use Rattle.gabc_score.specs.Syllable.{UnplacedSyllable}
+use Rattle.gabc_body.specs.Syllable.{UnplacedSyllable}
 use Rattle.gabc_score.specs.ReportedWithin as told
 use Rattle.gabc_score.specs.ReportedWithin.{ReportsWithin, ReportsText, whole_syllables, written_after}
-use Rattle.gabc_score.specs.declared.before.Preceding.{Preceding}
+use Rattle.gabc_score.specs.declared.preceding.Preceding.{Preceding}
 use Rattle.gabc_score.specs.declared.body_tells.Openers.{Openers}
 use Rattle.gabc_score.specs.declared.score_machine.ScorePart.{ScorePart}
 use Rattle.gabc_score.specs.declared.score_machine.ScorePart.TheVariants as score_part

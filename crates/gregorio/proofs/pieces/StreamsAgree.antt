@@ -12,7 +12,7 @@ use Rattle.gabc_places.specs.witness.DecoderEvents as decoder
 use Rattle.gabc_headers.specs.declared.head_event.HeadEvent.{HeadEvent}
 use Rattle.gabc_headers.specs.HeadEvents as heads
 use Rattle.gabc_headers.specs.witness.HeadEvents.{HeaderStageState, HeadProgress, IsAfterHeaders, book_at, events_left, events_of_end, events_of_input, progress_after, stage_past}
-use Rattle.gabc_score.specs.ScoreEvents.{ScoreOutput}
+use Rattle.gabc_body.specs.ScoreEvents.{ScoreOutput}
 use Rattle.gabc_score.specs.witness.ScoreStage.{left_of}
 use Rattle.gregorio.specs.declared.source_ending.SourceEnding.{SourceEnding}
 use Rattle.gregorio.specs.Outcome.{is_whole}

@@ -22,7 +22,7 @@ use Rattle.gabc_headers.specs.declared.heads.HeadFault.{HeadFault}
 use Rattle.gabc_headers.specs.Heads.{heads_of}
 use Rattle.gabc_headers.specs.HeldText.{IsHeld, findings_held}
 use Rattle.gabc_headers.specs.witness.HeadEvents.{HeaderStageState, HeadProgress, reading, over, events_by, events_of_input, fresh_stage, new_findings, progress_after, progress_by, stage_after}
-use Rattle.gabc_score.specs.ScoreEvents.{ScoreOutput}
+use Rattle.gabc_body.specs.ScoreEvents.{ScoreOutput}
 use Rattle.gabc_score.specs.declared.score_machine.ScorePart.{ScorePart}
 use Rattle.gregorio.specs.Outcome.{is_error_finding}
 use Rattle.gregorio.specs.machine.InStep.{AreInOnePart, PassesAll, written_at}

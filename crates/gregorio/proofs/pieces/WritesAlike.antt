@@ -4,9 +4,9 @@ use Rattle.gabc_places.specs.StageLaw.{concat_of}
 use Rattle.gabc_headers.specs.declared.head_event.HeadEvent.{HeadEvent}
 use Rattle.gabc_neumes.specs.InForce.{InForce}
 use Rattle.gabc_score.specs.HeldAside.{AreSameLists, AreSameOutputs, GiveTheSame, IsSameOutput}
-use Rattle.gabc_score.specs.ScoreEvents.{ScoreOutput, Found, Stop, Syllable, End}
-use Rattle.gabc_score.specs.Syllable.{PlacedSyllable, UnplacedSyllable}
-use Rattle.gabc_score.specs.declared.syllable.Position.{Position}
+use Rattle.gabc_body.specs.ScoreEvents.{ScoreOutput, Found, Stop, Syllable, End}
+use Rattle.gabc_body.specs.Syllable.{PlacedSyllable, UnplacedSyllable}
+use Rattle.gabc_body.specs.declared.syllable.Position.{Position}
 use Rattle.gabc_write.specs.SetDown.{AreWrittenAlike, IsWrittenAlike}
 use Rattle.gregorio_jobs.specs.declared.job.Format.{Format}
 use Rattle.gregorio.specs.Streams.{after_bytes, force_after, next_number, syllable_text}

@@ -6,7 +6,7 @@ use Rattle.gabc_places.specs.declared.limits.Limits.{Limits}
 use Rattle.gabc_places.specs.witness.DecoderEvents as decoder
 use Rattle.gabc_headers.specs.declared.head_event.HeadEvent.{HeadEvent}
 use Rattle.gabc_headers.specs.witness.HeadEvents.{fresh_stage}
-use Rattle.gabc_score.specs.ScoreEvents.{score_outputs}
+use Rattle.gabc_body.specs.ScoreEvents.{score_outputs}
 use Rattle.gabc_score.specs.ScoreStage.{AreCountsBelow}
 use Rattle.gabc_score.specs.witness.BodyStage.{texts_by_stage}
 use Rattle.gabc_score.specs.witness.ScoreStage.{left_of}

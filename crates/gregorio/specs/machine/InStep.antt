@@ -12,7 +12,7 @@ use Rattle.gabc_headers.specs.witness.HeadEvents.{HeaderStageState, HeadProgress
 use Rattle.gabc_neumes.specs.InForce.{nothing_in_force}
 use Rattle.gabc_score.specs.declared.score_machine.ScorePart.{ScorePart}
 use Rattle.gabc_score.specs.declared.score_machine.ScorePart.TheVariants as score_part
-use Rattle.gabc_score.specs.ScoreEvents.{ScoreOutput, Found, Stop, End, is_last, syllables_in}
+use Rattle.gabc_body.specs.ScoreEvents.{ScoreOutput, Found, Stop, End, is_last, syllables_in}
 use Rattle.gabc_score.specs.ScoreStage.{Counts, IsHere, is_final, most_borrowed, most_whole, part_past, place_after_input, preceding_past}
 use Rattle.gabc_score.specs.ReportedWithin.{whole_syllables}
 use Rattle.gabc_score.specs.witness.ScoreStage.{ScoreStageState, left_of}

@@ -1,8 +1,8 @@
 -- A writer that writes outputs one after another, and the syllables of a run.
 use Rattle.std.proofs.Common.{◌≡◌, ℕ, List, [], ◌∷◌, ◌++◌, sym, ap, ◌∙◌, append_assoc, append-nil}
 use Rattle.gabc_places.specs.BoundedList.{extended_by}
-use Rattle.gabc_score.specs.ScoreEvents.{ScoreOutput, Syllable}
-use Rattle.gabc_score.specs.Syllable.{PlacedSyllable}
+use Rattle.gabc_body.specs.ScoreEvents.{ScoreOutput, Syllable}
+use Rattle.gabc_body.specs.Syllable.{PlacedSyllable}
 use Rattle.gregorio.specs.witness.Engine.{after_output, lines_of_output, lines_of_outputs, text_of_output, texts_of_outputs}
 use Rattle.gregorio.specs.machine.RunWriter.{RunWriterState, outputs_of_syllables, past_output, past_outputs, past_syllables}
 

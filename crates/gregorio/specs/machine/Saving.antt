@@ -1,7 +1,7 @@
 -- The text of the syllable that is held, put by itself.
 use Rattle.std.specs.Prelude.{ℕ, ◌||◌, List, [], Bool, Option, Some, None}
-use Rattle.gabc_score.specs.Canonical.{canonical}
-use Rattle.gabc_score.specs.Syllable.{UnplacedSyllable}
+use Rattle.gabc_body.specs.Canonical.{canonical}
+use Rattle.gabc_body.specs.Syllable.{UnplacedSyllable}
 
 -- where it is the first one of the score or not
 abbrev pub text_when_held : Bool → Option UnplacedSyllable → List ℕ

@@ -13,7 +13,7 @@ use Rattle.gabc_headers.specs.witness.HeadEvents.{HeadProgress, events_of_end}
 use Rattle.gabc_score.specs.declared.score_machine.ScorePart.{ScorePart}
 use Rattle.gabc_score.specs.declared.score_machine.ScorePart.TheVariants as score_part
 use Rattle.gabc_score.specs.GivesSyllables.{Runs}
-use Rattle.gabc_score.specs.ScoreEvents.{ScoreOutput, Found, Stop, Syllable, End}
+use Rattle.gabc_body.specs.ScoreEvents.{ScoreOutput, Found, Stop, Syllable, End}
 use Rattle.gabc_score.specs.ScoreStage.{is_final, borrowed_in}
 use Rattle.gabc_places.specs.StageLaw.{concat_of}
 use Rattle.gabc_score.specs.witness.ScoreStage.{ScoreStageState, left_of}

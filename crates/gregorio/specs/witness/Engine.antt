@@ -12,7 +12,7 @@ use Rattle.gabc_headers.specs.witness.HeadEvents.{HeaderStageState, stage_past}
 use Rattle.gabc_headers.specs.HeadEvents as heads
 use Rattle.gabc_headers.specs.witness.HeadEvents as heads_left
 use Rattle.gabc_neumes.specs.InForce.{InForce}
-use Rattle.gabc_score.specs.ScoreEvents.{ScoreOutput, Found, Stop, Syllable, End}
+use Rattle.gabc_body.specs.ScoreEvents.{ScoreOutput, Found, Stop, Syllable, End}
 use Rattle.gabc_score.specs.witness.ScoreStage.{ScoreStageState, left_of}
 use Rattle.gregorio.specs.declared.run_ending.RunEnding.{RunEnding}
 use Rattle.gregorio.specs.declared.run_ending.RunEnding.TheVariants as run_ending

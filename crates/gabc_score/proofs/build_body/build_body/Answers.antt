@@ -15,8 +15,8 @@ use Rattle.gabc_score.specs.witness.ScoreStage.{left_of}
 use Rattle.gabc_score.specs.machine.Collected.{result_with, to_come}
 use Rattle.gabc_score.specs.machine.ScoreMachine.{shown}
 use Rattle.gabc_score.proofs.score_events.BodyIsCollected.{collects_on, counts_below, body_collected}
-use Rattle.gabc_score.proofs.score_events.ScoreOutputs.{characters_are}
-use Rattle.gabc_score.proofs.building.OneListEachCharacter.{events_each}
+use Rattle.gabc_body.proofs.score_events.ScoreOutputs.{characters_are}
+use Rattle.gabc_body.proofs.emitted.OneListEachCharacter.{events_each}
 use Rattle.gabc_score.proofs.build_body.build_body.Goals as goal
 
 pub loop-c-preserved : goal.loop-c-preserved
@@ -39,8 +39,8 @@ loop-c-preserved c =
       utf8 = IsUtf8-past_char rest next c.in-Some.c i.utf8 step;
       room = c.in_ok-add_all.ensures.room ∙ ap (λ n. record { items = []; limit = n }) room;
       rests = c.push.ensures.rests;
-      result_is = ap (λ p. result_with c.add_all.new.self (concat_of (left_of (shown c.push.new.self) (to_come ending (placed_characters_from p (chars next)))))) c.after-place.ensures.next
-          ∙ collects_on c.loop-c.result c.add_all.new.self _ (left_of (shown c.loop-c.machine)) (left_of (shown c.push.new.self)) (head_event.Body x) g.outputs xs (g.law xs) (c.in_ok-add_all.ensures.result_is g.outputs emitted_now g.emitted.lent)
+      result_is = ap (λ p. result_with c.add_all.new.said (concat_of (left_of (shown c.push.new.self) (to_come ending (placed_characters_from p (chars next)))))) c.after-place.ensures.next
+          ∙ collects_on c.loop-c.result c.add_all.new.said _ (left_of (shown c.loop-c.machine)) (left_of (shown c.push.new.self)) (head_event.Body x) g.outputs xs (g.law xs) (c.in_ok-add_all.ensures.result_is g.outputs emitted_now g.emitted.lent)
           (ap (λ cs. result_with c.loop-c.result (concat_of (left_of (shown c.loop-c.machine) (to_come ending (placed_characters_from c.loop-c.place cs))))) (sym past) ∙ i.result_is);
       line = omega (arith, fits.0);
       column = omega (arith, fits.1);

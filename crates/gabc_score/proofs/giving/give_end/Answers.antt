@@ -2,7 +2,7 @@ use Rattle.std.proofs.Common.{◌≤◌, length, [], ◌∷◌, ◌++◌, ◌||�
 use Rattle.gabc_places.specs.BoundedList.{extended_by}
 use Rattle.gabc_places.specs.declared.code.Code.TheVariants.{W9, W11}
 use Rattle.gabc_score.specs.declared.score_event.ScoreEvent.TheVariants as event
-use Rattle.gabc_score.specs.ScoreEvents.{End}
+use Rattle.gabc_body.specs.ScoreEvents.{End}
 use Rattle.gabc_score.specs.machine.SlotPair.{lent_of}
 use Rattle.gabc_score.proofs.score_events.FewAndShortAreLent.{few_lent}
 use Rattle.gabc_score.proofs.score_events.OutputsOfLentSyllables.{emitted, then_more, found_then, few_at_end, found_events}

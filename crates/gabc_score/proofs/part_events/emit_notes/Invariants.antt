@@ -1,6 +1,6 @@
 use Rattle.std.proofs.Common.{◌≡◌, ◌-◌, map, take, length}
 use Rattle.gabc_places.specs.BoundedList.{Fits, extended_by}
-use Rattle.gabc_score.specs.Events.{note_event as event_of_notes}
+use Rattle.gabc_body.specs.Events.{note_event as event_of_notes}
 use Rattle.gabc_score.proofs.part_events.emit_notes.Given as goal
 
 abbrev pub invariant-loop-item : goal.invariant-loop-item

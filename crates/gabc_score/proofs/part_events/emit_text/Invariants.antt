@@ -1,6 +1,6 @@
 use Rattle.std.proofs.Common.{◌≡◌, ◌-◌, map, take, length}
 use Rattle.gabc_places.specs.BoundedList.{Fits, extended_by}
-use Rattle.gabc_score.specs.declared.events.BodyEvent.TheVariants.{Text as of_text}
+use Rattle.gabc_body.specs.declared.events.BodyEvent.TheVariants.{Text as of_text}
 use Rattle.gabc_score.proofs.part_events.emit_text.Given as goal
 
 abbrev pub invariant-loop-item : goal.invariant-loop-item

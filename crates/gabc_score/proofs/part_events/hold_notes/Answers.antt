@@ -1,4 +1,4 @@
-use Rattle.gabc_score.specs.Events.{note_event as event_of_notes}
+use Rattle.gabc_body.specs.Events.{note_event as event_of_notes}
 use Rattle.gabc_score.proofs.building.EventsAreHeld.{holds_next, holds_on}
 use Rattle.gabc_score.proofs.part_events.hold_notes.Goals as goal
 

@@ -1,5 +1,5 @@
 use Rattle.std.proofs.Common.{◌<◌, map, take, drop, length}
-use Rattle.gabc_score.specs.Events.{note_event as event_of_notes}
+use Rattle.gabc_body.specs.Events.{note_event as event_of_notes}
 use Rattle.gabc_score.specs.machine.HoldsEvents.{CanHold, HoldsEvents}
 use Rattle.gabc_score.proofs.part_events.hold_notes.Given as goal
 

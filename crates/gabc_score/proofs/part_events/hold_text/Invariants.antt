@@ -1,5 +1,5 @@
 use Rattle.std.proofs.Common.{◌<◌, map, take, drop, length}
-use Rattle.gabc_score.specs.declared.events.BodyEvent.TheVariants.{Text as of_text}
+use Rattle.gabc_body.specs.declared.events.BodyEvent.TheVariants.{Text as of_text}
 use Rattle.gabc_score.specs.machine.HoldsEvents.{CanHold, HoldsEvents}
 use Rattle.gabc_score.proofs.part_events.hold_text.Given as goal
 

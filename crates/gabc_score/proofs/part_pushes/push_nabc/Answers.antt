@@ -1,5 +1,5 @@
 use Rattle.std.proofs.Common.{rules, ap}
-use Rattle.gabc_score.specs.Events.{is_next, is_close}
+use Rattle.gabc_body.specs.Events.{is_next, is_close}
 use Rattle.gabc_score.proofs.building.SyllableEndsLast.{next_ends, close_ends, pushed_last}
 use Rattle.gabc_score.proofs.part_pushes.push_nabc.Goals as goal
 

@@ -1,5 +1,5 @@
 use Rattle.std.proofs.Common.{ap}
-use Rattle.gabc_score.specs.Events.{is_text_end}
+use Rattle.gabc_body.specs.Events.{is_text_end}
 use Rattle.gabc_score.proofs.building.SyllableEndsLast.{text_end_ends, pushed_last}
 use Rattle.gabc_score.proofs.part_pushes.push_text.Goals as goal
 

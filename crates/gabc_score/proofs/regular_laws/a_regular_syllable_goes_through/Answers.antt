@@ -1,5 +1,5 @@
 use Rattle.gabc_score.proofs.regular_syllables.RegularSyllablePasses.{made_of, through, alone}
-use Rattle.gabc_score.proofs.resuming.OpenSpans.{opened, leaves_open}
+use Rattle.gabc_body.proofs.syllables_of_units.OpenSpans.{opened, leaves_open}
 use Rattle.gabc_score.proofs.regular_laws.a_regular_syllable_goes_through.Goals as goal
 
 pub returns : goal.returns

@@ -1,5 +1,5 @@
 use Rattle.std.proofs.Common.{ap, ◌∙◌}
-use Rattle.gabc_score.specs.ScoreEvents.{first_place}
+use Rattle.gabc_body.specs.ScoreEvents.{first_place}
 use Rattle.gabc_score.specs.ScoreReports.{is_in_comment}
 use Rattle.gabc_score.proofs.stage_laws.a_text_begins_outside_a_comment.Goals as goal
 

@@ -2,7 +2,7 @@ use Rattle.std.proofs.Common.{◌+◌, ap, sym, subst, ◌∙◌, arith, IsUtf8}
 use Rattle.std.specs.Str.{chars}
 use Rattle.gabc_headers.specs.Heads.{head_len}
 use Rattle.gabc_score.specs.witness.BodyStage.{running_events_left}
-use Rattle.gabc_score.specs.Score.{with_body}
+use Rattle.gabc_body.specs.Score.{with_body}
 use Rattle.gabc_score.proofs.texts_of_body.BodyAfterHeads.{boundary_here, chars_prefix, chars_after, utf8_here, body_is}
 use Rattle.gabc_score.proofs.texts_of_body.StageAndDefinitionAgree.{fits_after_prefix}
 use Rattle.gabc_score.proofs.whole.score_after.Goals as goal

@@ -1,6 +1,6 @@
 use Rattle.std.proofs.Common.{◌<◌, All, length, subst, IsUtf8, ap, arith}
-use Rattle.gabc_score.specs.Syllable.{placed_of}
-use Rattle.gabc_score.specs.declared.snippets.Snippet.{Snippet}
+use Rattle.gabc_body.specs.Syllable.{placed_of}
+use Rattle.gabc_body.specs.declared.snippets.Snippet.{Snippet}
 use Rattle.gabc_write.proofs.dump_syllables.dump_syllable.Goals as goal
 
 pub returns-clause-short : goal.returns-clause-short

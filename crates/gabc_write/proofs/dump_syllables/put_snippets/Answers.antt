@@ -3,7 +3,7 @@ use Rattle.std.proofs.Math.Seq.{drop-cons}
 use Rattle.std.proofs.lemmas.List.{take_more}
 use Rattle.std.proofs.lemmas.Grind.{flat_map-append}
 use Rattle.std.proofs.lemmas.List.Elements.{All-push}
-use Rattle.gabc_score.specs.declared.snippets.Snippet.{Snippet}
+use Rattle.gabc_body.specs.declared.snippets.Snippet.{Snippet}
 use Rattle.gabc_neumes.specs.InForce.{InForce, ScoreStep, passed}
 use Rattle.gabc_write.specs.DumpOfSyllables.{steps_of_snippet, steps_of_snippets, lines_of_snippet, lines_of_snippets}
 use Rattle.gabc_write.proofs.dump_syllables.put_snippets.Goals as goal

@@ -1,5 +1,5 @@
 use Rattle.gabc_places.specs.StageLaw.{concat_of}
-use Rattle.gabc_score.specs.ScoreEvents.{syllables_in}
+use Rattle.gabc_body.specs.ScoreEvents.{syllables_in}
 use Rattle.gabc_score.specs.ScoreReports.{held_of}
 use Rattle.gabc_score.specs.witness.ScoreStage.{left_of}
 use Rattle.gabc_write.proofs.reading_again.HeldIsReadAgain.{written_as_one}

@@ -1,8 +1,8 @@
 use Rattle.std.proofs.Common.{◌≡◌, ◌==◌}
-use Rattle.gabc_score.specs.SpansPast.{FollowsSpans}
-use Rattle.gabc_score.specs.Syllable.{UnplacedSyllable, unplaced_of}
+use Rattle.gabc_body.specs.SpansPast.{FollowsSpans}
+use Rattle.gabc_body.specs.Syllable.{UnplacedSyllable, unplaced_of}
 use Rattle.gabc_score.specs.ReportedWithin.{IsHeldWithin, written_after}
-use Rattle.gabc_score.specs.UnitRead.{HoldsSomeUnit}
+use Rattle.gabc_body.specs.UnitRead.{HoldsSomeUnit}
 use Rattle.gabc_write.specs.SetDown.{MayBeHeldByItsText}
 use Rattle.gabc_write.specs.SyllableRead.{IsReadWhereItStands}
 use Rattle.gabc_write.proofs.reading_again.StageHoldsAgain.{begins_with_one, is_held, some_held, told_before}

@@ -5,7 +5,7 @@ use Rattle.gabc_score.specs.declared.body_stage.BodyPart.TheVariants.{Text}
 use Rattle.gabc_score.specs.declared.body_tells.Openers.{Openers}
 use Rattle.gabc_score.specs.declared.score_machine.ScorePart.{ScorePart}
 use Rattle.gabc_score.specs.ReadAgain.{ComesBefore, ReportsReading}
-use Rattle.gabc_score.specs.ScoreEvents.{first_place}
+use Rattle.gabc_body.specs.ScoreEvents.{first_place}
 use Rattle.gabc_score.specs.ScoreReports.{before_of, in_body, is_in_comment, is_in_front, openers_of, reading_of}
 use Rattle.gabc_score.specs.witness.ScoreStage.{ScoreStageState}
 use Rattle.gabc_write.specs.machine.SetDown.{BeginsAlike}

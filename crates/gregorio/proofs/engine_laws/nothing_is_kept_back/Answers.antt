@@ -1,6 +1,6 @@
 use Rattle.std.proofs.Common.{◌≡◌, [], ◌≤◌, Option, IfSome, IsSome, length, subst, arith}
 use Rattle.gabc_places.specs.StageLaw.{concat_of}
-use Rattle.gabc_score.specs.ScoreEvents.{syllables_in}
+use Rattle.gabc_body.specs.ScoreEvents.{syllables_in}
 use Rattle.gabc_score.specs.witness.IsReachable.{IsReachable}
 use Rattle.gabc_score.specs.witness.ScoreStage.{ScoreStageState, left_of}
 use Rattle.gregorio.specs.declared.run_ending.RunEnding.{RunEnding}

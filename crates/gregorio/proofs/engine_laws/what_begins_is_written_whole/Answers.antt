@@ -2,7 +2,7 @@ use Rattle.std.proofs.Common.{ap, ◌∙◌}
 use Rattle.gabc_places.specs.witness.DecoderEvents as decoder
 use Rattle.gabc_headers.specs.HeadEvents.{emitted_by}
 use Rattle.gabc_headers.specs.witness.HeadEvents.{HeaderStageState, stage_past}
-use Rattle.gabc_score.specs.Events.{texts_by_definition}
+use Rattle.gabc_body.specs.Events.{texts_by_definition}
 use Rattle.gabc_score.specs.witness.ScoreStage.{left_of}
 use Rattle.gregorio.specs.Outcome.{is_whole}
 use Rattle.gregorio.specs.Streams.{Streams}

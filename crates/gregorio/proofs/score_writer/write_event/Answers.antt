@@ -1,7 +1,7 @@
 use Rattle.std.proofs.Common.{◌∷◌, refl, sym, subst, arith}
 use Rattle.gabc_score.specs.declared.score_event.ScoreEvent.{ScoreEvent}
-use Rattle.gabc_score.specs.ScoreEvents.{Found, Stop, Syllable, End}
-use Rattle.gabc_score.specs.Syllable.{PlacedSyllable, placed_of}
+use Rattle.gabc_body.specs.ScoreEvents.{Found, Stop, Syllable, End}
+use Rattle.gabc_body.specs.Syllable.{PlacedSyllable, placed_of}
 use Rattle.gregorio.specs.machine.RunWriter.{RunWriterState, IsInRoom}
 use Rattle.gregorio.specs.machine.ScoreWriter.{output_of_event}
 use Rattle.gregorio.proofs.WritingStaysInRoom.{output_in_room, syllable_is_short}

@@ -2,7 +2,7 @@ use Rattle.std.proofs.Common.{◌≡◌, ℕ, ◌+◌, ◌<◌, List, ◌∷◌,
 use Rattle.std.proofs.lemmas.List.{at_drop_more}
 use Rattle.gabc_score.specs.declared.score_event.ScoreEvent.{ScoreEvent}
 use Rattle.gabc_score.specs.witness.ScoreStage.{ScoreStageState}
-use Rattle.gabc_score.specs.ScoreEvents.{ScoreOutput}
+use Rattle.gabc_body.specs.ScoreEvents.{ScoreOutput}
 use Rattle.gabc_score.specs.declared.score_event.ScoreEvent.TheVariants.{Found}
 use Rattle.gabc_places.specs.declared.code.Code.TheVariants.{E1}
 use Rattle.gabc_places.specs.declared.limits.Limits.{Limits}

@@ -1,6 +1,6 @@
 use Rattle.std.proofs.Common.{refl, subst}
 use Rattle.gabc_score.specs.Resumed.{IsAfterSyllables}
-use Rattle.gabc_score.specs.declared.before.Before.{Before}
+use Rattle.gabc_body.specs.declared.before.Before.{Before}
 use Rattle.gregorio_state.specs.Fields.{fields_of, score_of}
 use Rattle.gregorio.specs.SavedState.{before_held}
 use Rattle.gregorio.proofs.setting_down.StateIsRead.{counts_within}

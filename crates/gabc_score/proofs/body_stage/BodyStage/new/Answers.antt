@@ -1,4 +1,4 @@
-use Rattle.gabc_score.specs.Events.{InComment}
+use Rattle.gabc_body.specs.Events.{InComment}
 use Rattle.gabc_score.proofs.texts_of_body.StageAndDefinitionAgree.{same_emitted}
 use Rattle.gabc_score.proofs.body_stage.BodyStage.new.Goals as goal
 

@@ -1,6 +1,6 @@
 use Rattle.std.proofs.Common.{sym, ap, ◌∙◌}
 use Rattle.std.specs.List.{list_any}
-use Rattle.gabc_score.specs.Events.{is_close, is_next, is_text_end}
+use Rattle.gabc_body.specs.Events.{is_close, is_next, is_text_end}
 use Rattle.gabc_score.specs.machine.PartSteps.{in_gabc, in_nabc, text_goes, text_ends, snippet_goes, snippet_next, snippet_closes}
 use Rattle.gabc_score.proofs.body_stage.BodyStage.push_part.Goals as goal
 

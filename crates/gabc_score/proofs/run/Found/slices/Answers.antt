@@ -1,5 +1,5 @@
 use Rattle.std.proofs.Common.{refl, ap, ◌∙◌}
-use Rattle.gabc_score.specs.Canonical.{position_by}
+use Rattle.gabc_body.specs.Canonical.{position_by}
 use Rattle.gabc_score.proofs.runs.SlicesOfFound.{cut, slices_spell, syllable_spelled}
 use Rattle.gabc_score.proofs.run.Found.slices.Goals as goal
 

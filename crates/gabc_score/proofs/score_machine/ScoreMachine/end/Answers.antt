@@ -3,14 +3,14 @@ use Rattle.std.specs.List.{All}
 use Rattle.gabc_places.specs.BoundedList.{BoundedList}
 use Rattle.gabc_places.specs.declared.code.Finding.{Finding}
 use Rattle.gabc_headers.specs.declared.head_event.HeadEvent.TheVariants as head_event
-use Rattle.gabc_score.specs.declared.events.BodyEvent.{BodyEvent}
+use Rattle.gabc_body.specs.declared.events.BodyEvent.{BodyEvent}
 use Rattle.gabc_score.specs.declared.score_machine.ScoreMachine.{ScoreMachine}
 use Rattle.gabc_score.specs.declared.score_machine.ScorePart.{ScorePart}
-use Rattle.gabc_score.specs.ScoreEvents.{Stop, End, outputs_of}
+use Rattle.gabc_body.specs.ScoreEvents.{Stop, End, outputs_of}
 use Rattle.gabc_score.specs.NoNotes.{OnlyFirstHasNotes}
-use Rattle.gabc_score.specs.Syllable.{UnplacedSyllable}
-use Rattle.gabc_score.specs.machine.BodyBuilder.{code_in, end_fault, end_findings, with_all, with_found}
-use Rattle.gabc_score.specs.machine.Gatherer.{Gathered, with_last}
+use Rattle.gabc_body.specs.Syllable.{UnplacedSyllable}
+use Rattle.gabc_body.specs.witness.BodyBuilder.{code_in, end_fault, end_findings, with_all, with_found}
+use Rattle.gabc_body.specs.witness.Gatherer.{Gathered, with_last}
 use Rattle.gabc_score.specs.machine.ScoreMachine.{IsAtRest, IsScoreAt, IsShort}
 use Rattle.gabc_score.specs.machine.ScoreStage.{placed_after}
 use Rattle.gabc_score.proofs.building.EventsAreHeld.{never_lent}

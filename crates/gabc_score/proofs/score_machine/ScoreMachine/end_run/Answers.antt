@@ -1,5 +1,5 @@
 use Rattle.std.proofs.Common.{rules, ◌∙◌, subst}
-use Rattle.gabc_score.specs.declared.before.Preceding.{Preceding}
+use Rattle.gabc_score.specs.declared.preceding.Preceding.{Preceding}
 use Rattle.gabc_score.specs.machine.Run.{GoesBefore}
 use Rattle.gabc_score.proofs.runs.RunIsTaken.{cut_before, start_is, within_is, plain_there, next_there, rests_on, alone_on, rests_after, gives_after}
 use Rattle.gabc_score.proofs.score_machine.ScoreMachine.end_run.Goals as goal

@@ -2,8 +2,8 @@ use Rattle.std.proofs.Common.{◌≡◌, ◌≤◌, ◌+◌, not, ◌||◌, List
 use Rattle.std.specs.List.{All}
 use Rattle.std.proofs.lemmas.List.Elements.{All-head}
 use Rattle.gabc_places.specs.declared.limits.Limits.{Limits}
-use Rattle.gabc_score.specs.Canonical.{canonical_in_place, position_by}
-use Rattle.gabc_score.specs.Syllable.{UnplacedSyllable, PlacedSyllable}
+use Rattle.gabc_body.specs.Canonical.{canonical_in_place, position_by}
+use Rattle.gabc_body.specs.Syllable.{UnplacedSyllable, PlacedSyllable}
 use Rattle.gabc_score.specs.machine.ScoreMachine.{IsShort}
 use Rattle.gabc_score.proofs.score_events.FewAndShortAreLent.{short_within}
 use Rattle.gabc_score.proofs.score_machine.ScoreMachine.give_held.Goals as goal

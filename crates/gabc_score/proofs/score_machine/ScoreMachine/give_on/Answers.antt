@@ -2,11 +2,11 @@ use Rattle.std.proofs.Common.{◌≡◌, ℕ, ◌+◌, ◌<◌, ◌≤◌, nat_l
 use Rattle.std.specs.Str.{IsUtf8}
 use Rattle.std.proofs.lemmas.Bool.Decides.{nat_tests}
 use Rattle.gabc_places.specs.declared.place.Place.{Place}
-use Rattle.gabc_score.specs.declared.before.Spans.{Spans}
+use Rattle.gabc_body.specs.declared.before.Spans.{Spans}
 use Rattle.gabc_score.specs.declared.run.Reached.{Reached}
 use Rattle.gabc_score.specs.declared.waiting.Waiting.{Waiting}
 use Rattle.gabc_score.specs.GivesSyllables.{spelled_canonical}
-use Rattle.gabc_score.specs.Syllable.{PlacedSyllable}
+use Rattle.gabc_body.specs.Syllable.{PlacedSyllable}
 use Rattle.gabc_score.specs.machine.RegularLen.{BeginsRegularly, past_mark}
 use Rattle.gabc_score.specs.machine.Run.{AreBefore, IsFound, IsSteady, RunsMore, RunsOn, RunsTo, SpellsFound, len_of, mark_of}
 use Rattle.gabc_score.proofs.runs.MoreIsTaken.{none_waits, one_is_taken, one_waits, those_are_joined, those_are_taken, waiting_are_joined, waiting_are_taken}

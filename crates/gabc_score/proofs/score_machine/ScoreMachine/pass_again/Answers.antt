@@ -2,11 +2,11 @@ use Rattle.std.proofs.Common.{Bool, List, length, nat_lt, refl, sym, ap, subst, 
 use Rattle.std.proofs.Math.Bool.{or-false}
 use Rattle.gabc_places.specs.BoundedList.{BoundedList}
 use Rattle.gabc_places.specs.declared.code.Finding.{Finding}
-use Rattle.gabc_score.specs.Syllable.{UnplacedSyllable}
+use Rattle.gabc_body.specs.Syllable.{UnplacedSyllable}
 use Rattle.gabc_score.specs.declared.score_machine.ScoreMachine.{ScoreMachine}
 use Rattle.gabc_score.specs.declared.score_machine.ScorePart.{ScorePart}
 use Rattle.gabc_score.specs.declared.score_machine.ScorePart.TheVariants as score_part
-use Rattle.gabc_score.specs.machine.BodyBuilder.{code_in, with_all}
+use Rattle.gabc_body.specs.witness.BodyBuilder.{code_in, with_all}
 use Rattle.gabc_score.specs.machine.ReadAgain.{PassesAgain}
 use Rattle.gabc_score.specs.machine.ScoreMachine.{IsInBody, IsScoreAt}
 use Rattle.gabc_score.specs.witness.BodyStage.{BodyStageState}

@@ -1,5 +1,5 @@
 use Rattle.std.proofs.Common.{rules, ◌++◌, [], ◌∷◌, refl, arith}
-use Rattle.gabc_score.specs.ScoreEvents.{Found, Stop, outputs_of}
+use Rattle.gabc_body.specs.ScoreEvents.{Found, Stop, outputs_of}
 use Rattle.gabc_score.specs.machine.ScoreStage.{placed_after}
 use Rattle.gabc_score.proofs.score_events.CharactersAreRead.{character_gives, character_rests}
 use Rattle.gabc_score.proofs.score_events.FewAndShortAreLent.{held_lends, lends_none}

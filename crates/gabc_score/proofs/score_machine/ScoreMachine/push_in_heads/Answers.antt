@@ -1,9 +1,9 @@
 use Rattle.std.proofs.Common.{rules, [], ◌∷◌, refl, ap, sym, subst, ◌∙◌, arith}
 use Rattle.std.proofs.lemmas.Bool.{false≢true}
-use Rattle.gabc_score.specs.ScoreEvents.{Found, Stop, End}
+use Rattle.gabc_body.specs.ScoreEvents.{Found, Stop, End}
 use Rattle.gabc_score.specs.declared.bounds.Bounds.{Bounds}
 use Rattle.gabc_score.specs.ScoreStage.{EndsLine, is_final}
-use Rattle.gabc_score.specs.machine.Gatherer.{Gathered}
+use Rattle.gabc_body.specs.witness.Gatherer.{Gathered}
 use Rattle.gabc_score.specs.machine.SlotPair.{SlotPairState}
 use Rattle.gabc_score.specs.witness.BodyStage.{BodyStageState}
 use Rattle.gabc_score.proofs.score_events.UnitsAreHeld.{none_held}

@@ -6,11 +6,11 @@ use Rattle.gabc_places.specs.Place.{saturating_next_place}
 use Rattle.gabc_places.specs.declared.code.Finding.{Finding}
 use Rattle.gabc_places.specs.declared.place.Place.{Place}
 use Rattle.gabc_notes.specs.declared.item.ItemKind.{ItemKind}
-use Rattle.gabc_score.specs.Body.{fault_at}
-use Rattle.gabc_score.specs.NoteBeforeClef.{found_first}
+use Rattle.gabc_body.specs.Body.{fault_at}
+use Rattle.gabc_body.specs.NoteBeforeClef.{found_first}
 use Rattle.gabc_score.specs.declared.score_machine.ScoreMachine.{ScoreMachine}
 use Rattle.gabc_score.specs.declared.bounds.Bounds.{Bounds}
-use Rattle.gabc_score.specs.machine.BodyBuilder.{code_in}
+use Rattle.gabc_body.specs.witness.BodyBuilder.{code_in}
 use Rattle.gabc_score.specs.machine.ReadsChar.{ReadsChar, StopsWith, GivesPoint, stops, goes, found_past, past_char}
 use Rattle.gabc_score.specs.machine.SlotPair.{SlotPairState}
 use Rattle.gabc_score.proofs.building.EventsAreHeld.{never_lent}

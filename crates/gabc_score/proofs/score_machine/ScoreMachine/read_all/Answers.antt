@@ -10,10 +10,10 @@ use Rattle.gabc_places.proofs.texts.CharactersOfStrings.{chars-none}
 use Rattle.gabc_places.specs.StageLaw.{concat_of}
 use Rattle.gabc_places.specs.declared.place.Place.{Place}
 use Rattle.gabc_places.proofs.PlacesOfAText.{within_on, shorter}
-use Rattle.gabc_score.specs.Body.{is_none}
+use Rattle.gabc_body.specs.Body.{is_none}
 use Rattle.gabc_score.specs.declared.score_machine.ScorePart.{ScorePart}
 use Rattle.gabc_places.specs.TextOfAnInput.{IsPlain}
-use Rattle.gabc_score.specs.machine.BodyBuilder.{with_all}
+use Rattle.gabc_body.specs.witness.BodyBuilder.{with_all}
 use Rattle.gabc_score.specs.machine.PartOnly.{HoldsTexts, kept_codes}
 use Rattle.gabc_score.specs.machine.ReadAlone.{is_alone, lists_from}
 use Rattle.gabc_score.specs.machine.ScoreMachine.{IsScoreAt}

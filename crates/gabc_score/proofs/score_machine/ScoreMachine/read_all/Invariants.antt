@@ -4,13 +4,13 @@ use Rattle.std.specs.Str.{chars}
 use Rattle.std.specs.Str.Iter.{chars_rest}
 use Rattle.gabc_places.specs.StageLaw.{concat_of}
 use Rattle.gabc_score.specs.declared.score_machine.ScorePart.TheVariants as score_part
-use Rattle.gabc_score.specs.Body.{is_none}
+use Rattle.gabc_body.specs.Body.{is_none}
 use Rattle.gabc_places.specs.TextOfAnInput.{IsPlain, IsText}
-use Rattle.gabc_score.specs.machine.BodyBuilder.{with_all}
+use Rattle.gabc_body.specs.witness.BodyBuilder.{with_all}
 use Rattle.gabc_score.specs.machine.PartOnly.{HoldsTexts}
 use Rattle.gabc_score.specs.machine.ReadAlone.{is_alone, lists_from}
 use Rattle.gabc_score.specs.machine.ScoreMachine.{IsInBody}
-use Rattle.gabc_score.specs.machine.SyllableBuilder.{nothing_open}
+use Rattle.gabc_body.specs.witness.SyllableBuilder.{nothing_open}
 use Rattle.gabc_score.proofs.score_machine.ScoreMachine.read_all.Given as goal
 
 abbrev pub invariant-loop-c : goal.invariant-loop-c

@@ -4,10 +4,10 @@ use Rattle.std.proofs.lemmas.Bool.{true≢false}
 use Rattle.std.proofs.lemmas.List.Elements.{All-nil}
 use Rattle.gabc_places.specs.BoundedList.{BoundedList}
 use Rattle.gabc_places.specs.declared.code.Finding.{Finding}
-use Rattle.gabc_score.specs.declared.before.Preceding.{Preceding}
+use Rattle.gabc_score.specs.declared.preceding.Preceding.{Preceding}
 use Rattle.gabc_score.specs.Before.{preceding_of, with_each}
 use Rattle.gabc_score.specs.ScoreReports.{is_in_front}
-use Rattle.gabc_score.specs.machine.Gatherer.{Gathered, nothing_gathered}
+use Rattle.gabc_body.specs.witness.Gatherer.{Gathered, nothing_gathered}
 use Rattle.gabc_score.specs.machine.PartCounts.{CountsHold}
 use Rattle.gabc_score.specs.machine.PartKeeps.{IsReading}
 use Rattle.gabc_score.specs.machine.Preceded.{IsPreceded}
@@ -16,7 +16,7 @@ use Rattle.gabc_score.specs.machine.ScoreMachine.{IsShort}
 use Rattle.gabc_score.specs.machine.SlotPair.{SlotPairState, is_made}
 use Rattle.gabc_score.specs.witness.BodyStage.{BodyStageState}
 use Rattle.gabc_score.specs.ReportedWithin.{IsAtOutset}
-use Rattle.gabc_score.specs.machine.BodyBuilder.{code_in}
+use Rattle.gabc_body.specs.witness.BodyBuilder.{code_in}
 use Rattle.gabc_score.proofs.score_events.HeldWithinLimits.{within_none}
 use Rattle.gabc_score.proofs.score_events.UnitsAreHeld.{none_held}
 use Rattle.gabc_score.proofs.resuming.AfterSyllables.{nothing_passes, preceded_after, reads_after}
@@ -31,7 +31,7 @@ returns-clause-rests c =
     let limit = c.args.limits.syllable in
     let gathered : c.follow.new.self.gathered ≡ gathered_after b (nothing_gathered limit 0) = ap (λ (s : SlotPairState). s.gathered) c.follow.ensures ∙ ap (gathered_after b) c.in_ok-pair.ensures.gathered in
     let used = ap (λ (s : SlotPairState). s.used) c.follow.ensures ∙ c.in_ok-pair.ensures.used in
-    let before : c.preceding-preceding.result ≡ preceding_of b = c.preceding-preceding.ensures in
+    let before : c.of-preceding.result ≡ preceding_of b = c.of-preceding.ensures in
     let kept = ap (λ (g : Gathered). length g.builder.kept) gathered in
     record {
       rests = record {
@@ -45,12 +45,12 @@ returns-clause-rests c =
       counts = subst (λ (g : Gathered). CountsHold c.begin_text.new.self.part g.builder) (sym gathered) c.begin_text.ensures.counts;
       kept = omega (arith, kept);
       preceded = subst (λ (p : Preceding). IsPreceded p c.follow.new.self.gathered) (sym before) (subst (IsPreceded (preceding_of b)) (sym gathered) (preceded_after b limit));
-      after = ap (λ (g : Gathered). with_each c.preceding-preceding.result g.made) (sym gathered);
+      after = ap (λ (g : Gathered). with_each c.of-preceding.result g.made) (sym gathered);
       lent = ap (λ (p : Preceding). nat_lt 0 p.syllables) (sym before);
       code = ap (code_in c.args.limits) gathered ∙ nothing_passes c.args.limits b limit;
       reading = subst (λ (p : Preceding). IsReading c.begin_text.new.self.nabc_lines c.begin_text.new.self.macros c.begin_text.new.self.part p.spans c.follow.new.self.gathered) (sym before)
           (subst (IsReading c.begin_text.new.self.nabc_lines c.begin_text.new.self.macros c.begin_text.new.self.part b.spans) (sym gathered) (reads_after _ _ limit c.begin_text.new.self.part b (c.begin_text.ensures.keeps _ _)));
-      units = none_held c.begin_text.new.self.nabc_lines c.preceding-preceding.result c.follow.new.self.gathered.made (ap (λ (g : Gathered). g.made) gathered);
-      within = within_none c.args.limits c.preceding-preceding.result c.follow.new.self.gathered (subst IsAtOutset (sym before) c.requires) (ap (λ (g : Gathered). g.made) gathered);
+      units = none_held c.begin_text.new.self.nabc_lines c.of-preceding.result c.follow.new.self.gathered.made (ap (λ (g : Gathered). g.made) gathered);
+      within = within_none c.args.limits c.of-preceding.result c.follow.new.self.gathered (subst IsAtOutset (sym before) c.requires) (ap (λ (g : Gathered). g.made) gathered);
       front = λ e. absurd (true≢false (sym e ∙ ap (λ (b : BodyStageState). is_in_front b.part) c.begin_text.ensures.text));
     }

@@ -8,8 +8,8 @@ use Rattle.gabc_places.specs.TextOfAnInput.{IsPlain}
 use Rattle.gabc_places.specs.declared.place.Place.{Place}
 use Rattle.gabc_score.specs.GivesSyllables.{GivesSyllables}
 use Rattle.gabc_score.specs.witness.ScoreStage.{ScoreStageState}
-use Rattle.gabc_score.specs.machine.Gatherer.{Gathered}
-use Rattle.gabc_score.specs.Syllable.{PlacedSyllable}
+use Rattle.gabc_body.specs.witness.Gatherer.{Gathered}
+use Rattle.gabc_body.specs.Syllable.{PlacedSyllable}
 use Rattle.gabc_score.specs.declared.run.Found.{Found}
 use Rattle.gabc_score.specs.declared.score_machine.ScoreMachine.{ScoreMachine}
 use Rattle.gabc_score.specs.machine.RegularLen.{BeginsRegularly}

@@ -1,5 +1,5 @@
 use Rattle.std.proofs.Common.{sym}
-use Rattle.gabc_score.proofs.building.FirstKinds.{none_in_empty}
+use Rattle.gabc_body.proofs.gathering.FirstKinds.{none_in_empty}
 use Rattle.gabc_score.proofs.slot.Slot.first_sound_in.Goals as goal
 
 pub returns-then-span : goal.returns-then-span

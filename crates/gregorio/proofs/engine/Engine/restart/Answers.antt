@@ -1,7 +1,7 @@
 use Rattle.std.proofs.Common.{◌≡◌, ap, sym, ◌∙◌}
 use Rattle.gabc_places.specs.declared.limits.Limits.{Limits}
 use Rattle.gabc_headers.specs.witness.HeadEvents.{HeaderStageState, fresh_stage}
-use Rattle.gabc_score.specs.ScoreEvents.{score_outputs}
+use Rattle.gabc_body.specs.ScoreEvents.{score_outputs}
 use Rattle.gabc_score.specs.witness.BodyStage.{texts_by_stage}
 use Rattle.gabc_score.specs.witness.ScoreStage.{ScoreStageState}
 use Rattle.gregorio.specs.Outcome.{outcome_of}

@@ -1,9 +1,9 @@
 use Rattle.std.proofs.Common.{◌≤◌, ◌∙◌, ap, length, string_bytes, sym, subst, arith}
 use Rattle.gabc_places.specs.BoundedList.{Fits}
-use Rattle.gabc_score.specs.Canonical.{canonical_in_place}
+use Rattle.gabc_body.specs.Canonical.{canonical_in_place}
 use Rattle.gabc_score.specs.NoNotes.{has_no_notes}
-use Rattle.gabc_score.specs.ScoreEvents.{Syllable}
-use Rattle.gabc_score.specs.Syllable.{placed_of}
+use Rattle.gabc_body.specs.ScoreEvents.{Syllable}
+use Rattle.gabc_body.specs.Syllable.{placed_of}
 use Rattle.gregorio.specs.witness.Engine.{Written, text_of_output}
 use Rattle.gregorio.specs.machine.RunWriter.{RunWriterState, past_output, syllable_len}
 use Rattle.gregorio.proofs.DumpedSyllable.{dump_in_len, dump_is_written}

@@ -1,0 +1,13 @@
+pub mod SnippetsAsKept
+pub mod SnippetsWithBars
+pub mod emitted
+pub mod gathering
+pub mod holding
+pub mod order
+pub mod score_events
+pub mod snippets_of_body
+pub mod stopped_scores
+pub mod syllables_of_units
+pub mod texts_of_body
+pub mod units
+pub mod within_limits

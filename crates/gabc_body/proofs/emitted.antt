@@ -1,0 +1,4 @@
+pub mod EndsOfSnippets
+pub mod EventsOfSyllableParts
+pub mod OneListEachCharacter
+pub mod StopIsFirst

@@ -1,0 +1,8 @@
+pub mod ClosedWithin
+pub mod NothingIsKeptAtTheEnd
+pub mod PrefixesAreReadAlike
+pub mod ScoreOfThePrefix
+pub mod StoppedScoreIsThatOfItsPrefix
+pub mod StoppedScores
+pub mod WholePrefixesAreFronts
+pub mod WholeScores

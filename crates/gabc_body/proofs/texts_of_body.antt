@@ -1,0 +1,4 @@
+pub mod SeamsOfCharacters
+pub mod SlicesOfTexts
+pub mod TextEmitsThroughEnd
+pub mod ViewStandsInLongerText

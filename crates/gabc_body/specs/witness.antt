@@ -1,0 +1,4 @@
+pub mod BodyBuilder
+pub mod Gatherer
+pub mod SyllableBuilder
+pub mod TextEvents

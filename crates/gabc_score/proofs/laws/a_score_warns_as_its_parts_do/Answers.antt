@@ -1,5 +1,0 @@
-use Rattle.gabc_score.proofs.order.PartsThatWarn.{score_warns}
-use Rattle.gabc_score.proofs.laws.a_score_warns_as_its_parts_do.Goals as goal
-
-pub returns : goal.returns
-returns c = score_warns c.findings_lie_within.ensures.all

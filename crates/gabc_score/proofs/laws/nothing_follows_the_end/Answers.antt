@@ -1,5 +1,0 @@
-use Rattle.gabc_score.proofs.score_events.NothingAfterTheEnd.{nothing_follows}
-use Rattle.gabc_score.proofs.laws.nothing_follows_the_end.Goals as goal
-
-pub returns : goal.returns
-returns c = nothing_follows

@@ -1,6 +1,0 @@
-use Rattle.std.proofs.Common.{[]}
-use Rattle.gabc_score.proofs.building.StopIsFirst.{stop_is_first}
-use Rattle.gabc_score.proofs.laws.the_stop_is_the_first_point.Goals as goal
-
-pub returns : goal.returns
-returns c limits head = stop_is_first limits head []

@@ -1,7 +1,0 @@
-pub mod LastTagOpensTheSpan
-pub mod SpansFollowOneAnother
-pub mod SyllablesAreThoseOfUnits
-mod SyllablesOfUnitsExamples
-pub mod UnitGivesOneSyllable
-mod UnitReadExamples
-pub mod UnitsGiveSyllables

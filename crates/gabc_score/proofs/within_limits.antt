@@ -1,8 +1,0 @@
-pub mod CodesOfLimits
-pub mod GivenAreWithin
-pub mod KeptOfCharacters
-pub mod KeptSoFar
-pub mod LargerLimits
-pub mod NoLimitIsPassed
-pub mod SyllablesAreFew
-pub mod UnitsKeepFew
