@@ -7,3 +7,4 @@ pub mod Kept
 pub mod Pattern
 pub mod LongestItems
 pub mod LongestPrefix
+pub mod Reads

@@ -3,13 +3,14 @@
 //! A law of tables holds for rows of any type `K` of kinds. `¬ IsItem rows []` says that no row
 //! spells the empty text.
 
-ghost use Rattle.std.specs.Prelude.{◌≡◌, ◌↔◌, ℕ, List, [], ◌∷◌, ◌++◌, map, Decides};
+ghost use Rattle.std.specs.Prelude.{◌≡◌, ◌↔◌, ℕ, List, [], ◌∷◌, ◌++◌, true, map, Decides};
 ghost use Rattle.gabc_patterns.specs.Pattern.{Pattern, Spells};
 ghost use Rattle.gabc_patterns.specs.LongestItems.{Table, Longest, IsItem, IsReading, OneKind, IsSnippet, IsViable};
 ghost use Rattle.gabc_patterns.specs.ItemsRead.{ReadsTo};
 ghost use Rattle.gabc_patterns.specs.Kept.{Keeps, Trims, IsKeptText};
 ghost use Rattle.gabc_patterns.specs.Derivative.{may_end, derivative, is_snippet, is_viable};
 ghost use Rattle.gabc_patterns.specs.Function.{items, keep, more_kept, trim, kept_text};
+ghost use Rattle.gabc_patterns.specs.Reads.{spells, items_by, is_read, goes_on, whole_front};
 
 /// Law: the derivative of a pattern spells what may follow a character, and a test shows whether it
 /// spells the empty text.
@@ -107,4 +108,31 @@ pub fn kept_text_is_kept_again<K>()
 pub fn prefixes_of_kept_are_viable<K>()
     ensures { (rows : Table K) (t all prefix rest : List ℕ) → Keeps rows [] t all →
         all ≡ prefix ++ rest → IsViable rows prefix }
+{}
+
+/// Law: a test shows whether a pattern spells a text, by what may follow each character.
+pub fn spelling_is_decided()
+    ensures { (p : Pattern) (t : List ℕ) → Decides (spells p t) (Spells p t) }
+{}
+
+/// Law: the items, each the longest beginning that a row spells, are those of the function `items`,
+/// if no text is spelled by rows of two kinds.
+pub fn items_are_longest_parts<K>()
+    ensures { (rows : Table K) → ¬ IsItem rows [] → OneKind rows → (t : List ℕ) →
+        items_by rows t ≡ items rows t }
+{}
+
+/// Law: whether such items make up a text decides which texts are snippets, and a text that they
+/// make up with something after it is viable.
+pub fn reading_is_decided<K>()
+    ensures snippet { (rows : Table K) → ¬ IsItem rows [] → OneKind rows → (t : List ℕ) →
+        Decides (is_read rows t) (IsSnippet rows t) }
+    ensures viable { (rows : Table K) → ¬ IsItem rows [] → OneKind rows →
+        (ends : List (List ℕ)) (t : List ℕ) → goes_on rows ends t ≡ true → IsViable rows t }
+{}
+
+/// Law: the longest beginning of a text that such items make up is what the function `trim` leaves.
+pub fn whole_front_is_trimmed_to<K>()
+    ensures { (rows : Table K) → ¬ IsItem rows [] → OneKind rows → (t : List ℕ) →
+        whole_front rows t ≡ trim rows t }
 {}

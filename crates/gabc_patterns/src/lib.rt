@@ -10,8 +10,9 @@
 //!
 //! - definitions, in `specs/`: `Pattern` (what a pattern spells), `LongestItems` (tables, the
 //!   longest item, readings, snippets), `Kept` (what is kept), `Items` (items by the places where
-//!   they begin and end). The same as functions that compute: `Derivative` (whether a text is a
-//!   snippet, and viable), `Function` (items, the kept text);
+//!   they begin and end). The same as functions that compute: `Reads` (what a pattern spells, the
+//!   longest items of a text, whether they make it up), and by derivatives `Derivative` (whether a
+//!   text is a snippet, and viable) and `Function` (items, the kept text);
 //! - [`laws`], each the contract of a function that does nothing;
 //! - lemmas for the crates above, in `proofs/`. A crate describes its automaton by a record of its
 //!   functions and an example text of each state (`AutomatonsByTests`); two tests of each state,
