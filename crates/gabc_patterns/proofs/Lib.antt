@@ -16,6 +16,7 @@ pub mod ItemsFunctionReads
 pub mod ItemsOneByOne
 pub mod ItemsOneMore
 pub mod KeptTextIsKeptAgain
+pub mod KindsByDerivatives
 pub mod LongestMunchByCharacter
 pub mod LongestPrefixIsFound
 pub mod LongestPrefixIsOne

@@ -1,12 +1,17 @@
 -- Whether items make up a text decides whether it is a snippet; with an end, whether it is viable.
-use Rattle.std.proofs.Common.{◌≡◌, ℕ, List, [], ◌∷◌, ◌++◌, ◌||◌, Bool, true, false, refl, ap, subst, length, ◌+◌, arith, length-append, Decides}
+use Rattle.std.proofs.Common.{◌≡◌, ℕ, List, [], ◌∷◌, ◌++◌, ◌||◌, Bool, true, false, inl, inr, refl, ap, subst, length, ◌+◌, arith, length-append, Decides}
 use Rattle.std.specs.Prelude.{sum_by}
+use Rattle.std.specs.List.{list_any}
+use Rattle.std.proofs.lemmas.Bool.{or_cases, or_left, or_right}
+use Rattle.std.proofs.lemmas.Bool.Decides.{same_from_decides}
 use Rattle.std.proofs.lemmas.List.Sums.{sum_by-cons}
 use Rattle.gabc_patterns.specs.LongestItems.{Table, OneKind, IsSnippet, IsViable}
 use Rattle.gabc_patterns.specs.ItemsRead.{ReadsTo}
-use Rattle.gabc_patterns.specs.Derivative.{rows_end}
+use Rattle.gabc_patterns.specs.Derivative.{same_texts, rows_end, is_snippet, is_viable}
 use Rattle.gabc_patterns.proofs.ItemsAsFarAsOneBegins.{one_read_on, reading_read_on, read_to_the_end}
 use Rattle.gabc_patterns.specs.Reads.{items_by, is_read, goes_on}
+use Rattle.gabc_patterns.proofs.EqualPatterns.{same_texts_equal}
+use Rattle.gabc_patterns.proofs.FunctionsMeetRelations.{snippet_decides, viable_decides}
 use Rattle.gabc_patterns.proofs.ItemsBy.{within_read}
 
 module _ {K : Type 0} (table : Table K) where
@@ -48,3 +53,22 @@ module _ {K : Type 0} (table : Table K) where
         go : (b : Bool) → is_read table (t ++ end) ≡ b → (goes_on table ends t ≡ true → IsViable table t) → b || goes_on table ends t ≡ true → IsViable table t
         go true f F e = (end, read_to (t ++ end) f)
         go false f F e = F e
+
+    goes_from : (ends : List (List ℕ)) (t u : List ℕ) → IsSnippet table (t ++ u) → list_any (same_texts u) ends ≡ true → goes_on table ends t ≡ true
+    goes_from [] t u s e = absurd (cc)
+    goes_from (end ∷ ends) t u s e = elim (or_cases (same_texts u end) (list_any (same_texts u) ends) e) [
+      | inl x ↦ or_left (is_read table (t ++ end)) (goes_on table ends t) (read_from (t ++ end) (subst (λ (v : List ℕ). IsSnippet table (t ++ v)) (same_texts_equal u end x) s))
+      | inr x ↦ or_right (is_read table (t ++ end)) (goes_on table ends t) (goes_from ends t u s x)
+    ]
+
+    -- if each viable text is completed by one of these ends
+    pub goes_decides : (ends : List (List ℕ)) → ((t : List ℕ) → IsViable table t → (u : List ℕ) × IsSnippet table (t ++ u) × (list_any (same_texts u) ends ≡ true))
+        → (t : List ℕ) → Decides (goes_on table ends t) (IsViable table t)
+    goes_decides ends completed t = (goes_to ends t, λ v. let y = completed t v in goes_from ends t y.0 y.1 y.2)
+
+    -- the tests are those by derivatives
+    pub read_same : (t : List ℕ) → is_read table t ≡ is_snippet table t
+    read_same t = same_from_decides (is_read table t) (is_snippet table t) (read_decides t) (snippet_decides table none_empty t)
+
+    pub goes_same : (ends : List (List ℕ)) → ((t : List ℕ) → Decides (goes_on table ends t) (IsViable table t)) → (t : List ℕ) → goes_on table ends t ≡ is_viable table t
+    goes_same ends decides t = same_from_decides (goes_on table ends t) (is_viable table t) (decides t) (viable_decides table none_empty t)
