@@ -1,3 +1,4 @@
+pub mod by_kept
 pub mod grammar
 pub mod items_of_text
 pub mod machine
@@ -5,5 +6,6 @@ pub mod order
 pub mod resuming
 pub mod FoundOnce
 pub mod KeptChars
+pub mod KeptExamples
 pub mod KeptText
 pub mod Stopping

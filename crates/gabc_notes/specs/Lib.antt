@@ -2,9 +2,11 @@ pub mod machine
 pub mod witness
 pub mod Ends
 pub mod Events
+pub mod FirstSound
 pub mod FirstNoteOrClef
 pub mod FoundAt
 pub mod Items
+pub mod KeptNotes
 pub mod Notes
 pub mod NotesEmitted
 pub mod NotesRead

@@ -1,3 +1,4 @@
 pub mod ItemMachine
 pub mod Keeps
+pub mod NotesByKept
 pub mod StageEvents

@@ -1,9 +1,9 @@
 //! Laws of the definitions that contracts speak of. Each function is there for its clauses: all but
 //! one do nothing, and that one drives a fresh stage.
 
-ghost use Rattle.std.specs.Prelude.{◌≡◌, ◌↔◌, ◌≤◌, ◌+◌, ◌*◌, ℕ, List, [], ◌∷◌, ◌++◌, Bool, true, length, take, drop, map, sum_by, codes, false, Some, is_some, Decides};
+ghost use Rattle.std.specs.Prelude.{◌≡◌, ◌↔◌, ◌≤◌, ◌+◌, ◌*◌, ℕ, List, [], ◌∷◌, ◌++◌, Bool, true, false, not, ◌&&◌, ◌==◌, length, take, drop, map, sum_by, codes, Some, is_some, Decides};
 ghost use Rattle.std.specs.Char.{len_utf8};
-ghost use Rattle.std.specs.Str.{IsUtf8};
+ghost use Rattle.std.specs.Str.{IsUtf8, chars};
 ghost use Rattle.gabc_places.specs.declared.place.Char.{Char};
 ghost use Rattle.gabc_places.specs.declared.place.Place.{Place};
 ghost use Rattle.gabc_places.specs.Findings.{AreInOrder, LieBetween};
@@ -11,9 +11,13 @@ ghost use Rattle.gabc_places.specs.BoundedList.{Fits, extended_by};
 ghost use Rattle.gabc_places.specs.StageLaw.{concat_of};
 ghost use Rattle.gabc_patterns.specs.LongestItems.{IsReading, IsItem, OneKind, IsSnippet, IsViable};
 ghost use Rattle.gabc_patterns.specs.Kept.{Keeps as KeepsOf, Trims};
+ghost use Rattle.gabc_patterns.specs.Reads.{items_by};
 ghost use Rattle.gabc_notes.specs.Table.{gabc};
 ghost use Rattle.gabc_notes.specs.Items.{IsKept, AreItemsOf, MakeUp, items_of};
-ghost use Rattle.gabc_notes.specs.Events.{in_raw, Point, outside_comments, with_comments, is_comment, is_over, kept, bytes_of, events_at, cut_events, note_events};
+ghost use Rattle.gabc_notes.specs.Events.{ItemText, in_raw, Point, outside_comments, with_comments, ends_in_comment, is_comment, is_end, is_over, is_fused, kept, bytes_of, macro_in, events_at, cut_events, note_events};
+ghost use Rattle.gabc_notes.specs.FirstNoteOrClef.{first_note_or_clef};
+ghost use Rattle.gabc_notes.specs.FirstSound.{first_sound, is_note};
+ghost use Rattle.gabc_notes.specs.KeptNotes.{is_snippet, is_viable, in_raw as in_raw_by_items, is_fused as is_fused_by_items, items_back, fate_in_notes};
 ghost use Rattle.gabc_notes.specs.SnippetRead.{kept_of, kept_chars_of, kept_chars_in, findings_of, ends_of, stop_after, kept_by, end_by, IsComputed};
 ghost use Rattle.gabc_notes.specs.NotesRead.{AreKeptChars, IsSnippetRead};
 ghost use Rattle.gabc_notes.specs.NotesEmitted.{AreNoteEvents};
@@ -28,6 +32,7 @@ ghost use Rattle.gabc_notes.specs.declared.stage.NoteEnd.{NoteEnd};
 ghost use Rattle.gabc_notes.specs.declared.stage.NoteEvent.{NoteEvent};
 ghost use Rattle.gabc_notes.specs.witness.ItemMachine.{events_left};
 ghost use Rattle.gabc_notes.specs.witness.Keeps.{Begins, IsCutAtOpener, Keeps, OpensThere, Takes, set_down, OpensAt, IsKeptAgain};
+ghost use Rattle.gabc_notes.specs.witness.NotesByKept.{kept_by as kept_by_fate, opens, ends, events_past};
 ghost use Rattle.gabc_notes.specs.StageReports.{opener_of, comment_of, told};
 
 use crate::stage::{NoteEvent, NoteStage};
@@ -254,4 +259,55 @@ pub fn a_kept_text_gives_the_stage_back(stage: &NoteStage)
         Keeps split macros stage.now k → OpensAt at stage.now →
         (xs : List Char) → let down = set_down at k (comment_of stage.now) in
         drop (length down) (note_events split macros (down ++ xs)) ≡ events_left stage.now xs }
+{}
+
+/// Law: the tests by longest items decide which texts are snippets and which are viable, and say
+/// which lie inside raw.
+pub fn notes_are_decided()
+    ensures snippet { (t : List ℕ) → Decides (is_snippet t) (IsSnippet gabc t) }
+    ensures viable { (t : List ℕ) → Decides (is_viable t) (IsViable gabc t) }
+    ensures raw { (t : List ℕ) → in_raw_by_items t ≡ in_raw t }
+{}
+
+/// Law: outside comments, the fate of a character after what is kept says whether it ends the
+/// snippet, whether it begins a comment, and what is kept then.
+pub fn fates_in_notes()
+    ensures ends { (split : Bool) (back : List Char) (x : Char) →
+        (ends_in_comment (with_comments back) && not (x.c == 10)) ≡ false →
+        is_end split (record { back = back; here = x })
+        ≡ ends (fate_in_notes split (kept back) x.c) }
+    ensures opens { (split : Bool) (back : List Char) (x : Char) →
+        (ends_in_comment (with_comments back) && not (x.c == 10)) ≡ false →
+        is_comment (record { back = back; here = x })
+        ≡ opens (fate_in_notes split (kept back) x.c) }
+    ensures kept { (split : Bool) (back : List Char) (x : Char) →
+        (ends_in_comment (with_comments back) && not (x.c == 10)) ≡ false →
+        kept (x ∷ back) ≡ kept_by_fate (fate_in_notes split (kept back) x.c) (kept back) x.c }
+{}
+
+/// Law: whether an `@[` is open is said by the items of what is kept.
+pub fn fusion_is_by_kept()
+    ensures { (back : List Char) → is_fused back ≡ is_fused_by_items (items_back (kept back)) }
+{}
+
+/// Law: all that is emitted of a snippet is said by what is kept before each character, whether a
+/// comment is open, and the place of the bracket that is open.
+pub fn note_events_are_by_kept()
+    ensures { (split : Bool) (macros : ℕ) (xs : List Char) →
+        note_events split macros xs
+        ≡ events_past split macros [] (record { line = 0; column = 0 }) false xs }
+{}
+
+/// Law: an item that uses a macro ends inside raw: with the `]` of a bracket that is open before
+/// it.
+pub fn a_macro_ends_inside_raw()
+    ensures { (front : List ItemText) (i : ItemText) (t : List ℕ) (c digit : ℕ) →
+        IsReading gabc (front ++ i ∷ []) (t ++ c ∷ []) → macro_in i.1 ≡ Some digit →
+        in_raw_by_items t ≡ true }
+{}
+
+/// Law: which comes first in a kept text, a note or a clef, is said by the items that make it up.
+pub fn the_first_sound_is_by_kept()
+    ensures { (bytes : List ℕ) →
+        first_sound (items_by gabc (chars bytes)) ≡ is_note (first_note_or_clef (items_of bytes)) }
 {}

@@ -44,7 +44,7 @@ abbrev pub whole_or_raw : Option ItemState → Bool
 whole_or_raw None = false
 whole_or_raw (Some s) = whole_at s || raw_state s
 
-none_walks : (u : List ℕ) → walk_from None u ≡ None
+pub none_walks : (u : List ℕ) → walk_from None u ≡ None
 none_walks [] = refl
 none_walks (c ∷ u) = refl
 
@@ -78,7 +78,7 @@ whole_walk o = grind arith
 whole_emitted : (t : List ℕ) → is_snippet gabc t ≡ is_whole_state (walk_from (Some Start) t)
 whole_emitted t = ap is_whole (walked t) ∙ whole_walk (walk_from (Some Start) t)
 
-walk_append : (o : Option ItemState) (t u : List ℕ) → walk_from o (t ++ u) ≡ walk_from (walk_from o t) u
+pub walk_append : (o : Option ItemState) (t u : List ℕ) → walk_from o (t ++ u) ≡ walk_from (walk_from o t) u
 walk_append o [] u = refl
 walk_append None (c ∷ t) u = sym (none_walks u)
 walk_append (Some s) (c ∷ t) u = walk_append (on s c) t u

@@ -34,7 +34,7 @@ completion Raw = codes "]"
 completion SlashRaw = codes "]"
 completion _ = []
 
-completed : (s : ItemState) → is_whole (run gabc (reading gabc machine s) (completion s)) ≡ true
+pub completed : (s : ItemState) → is_whole (run gabc (reading gabc machine s) (completion s)) ≡ true
 completed s = grind arith
 
 short : (s : ItemState) → length (completion s) ≤ 1
