@@ -1,8 +1,10 @@
+pub mod by_kept
 pub mod glyphs
 pub mod grammar
 pub mod machine
 pub mod order
 pub mod parts_of_text
+pub mod KeptExamples
 pub mod KeptText
 pub mod StagesKeep
 pub mod Stopping

@@ -3,6 +3,7 @@ pub mod witness
 pub mod CharClass
 pub mod Codes
 pub mod Events
+pub mod KeptNabc
 pub mod KnownNames
 pub mod NabcEmitted
 pub mod NabcRead

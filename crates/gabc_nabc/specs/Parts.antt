@@ -2,9 +2,9 @@
 use Rattle.std.specs.Prelude.{◌≡◌, ℕ, ◌+◌, ◌≤◌, List, [], ◌∷◌, Bool, All, map, slice_range, length, encode_utf8_all}
 use Rattle.std.specs.Str.{chars}
 use Rattle.gabc_patterns.specs.LongestItems.{IsReading, IsSnippet}
-use Rattle.gabc_patterns.specs.Function.{items}
 use Rattle.gabc_patterns.specs.Items.{FollowOn, ItemSpan}
 use Rattle.gabc_patterns.specs.ItemsRead.{ReadsTo}
+use Rattle.gabc_patterns.specs.Reads.{items_by}
 use Rattle.gabc_nabc.specs.Table.{nabc}
 use Rattle.gabc_nabc.specs.declared.descriptor.Descriptor.{Descriptor}
 
@@ -48,7 +48,7 @@ pub record AreDescriptorsOf (bytes : List ℕ) (parts : List Descriptor) : Type 
 -- the descriptors and spaces of what is left of a text from that byte on, each the longest that
 -- begins at its place, as far as one begins
 abbrev pub parts_from : ℕ → List ℕ → List Descriptor
-parts_from at rest = placed_parts at (items nabc (chars rest))
+parts_from at rest = placed_parts at (items_by nabc (chars rest))
 
 -- the descriptors and spaces of a text: of a snippet all
 abbrev pub parts_of : List ℕ → List Descriptor

@@ -1,2 +1,3 @@
 pub mod DescriptorMachine
 pub mod Keeps
+pub mod NabcByKept

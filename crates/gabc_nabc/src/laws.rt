@@ -1,7 +1,7 @@
 //! Laws of the definitions that contracts speak of. Each function is there for its clauses: all but
 //! one do nothing, and that one drives a fresh stage.
 
-ghost use Rattle.std.specs.Prelude.{◌≡◌, ◌≤◌, ◌+◌, ◌*◌, ℕ, List, [], ◌∷◌, ◌++◌, Bool, length, take, drop, map, true, Some, encode_utf8_all, IsTrue, ◌↔◌};
+ghost use Rattle.std.specs.Prelude.{◌≡◌, ◌≤◌, ◌+◌, ◌*◌, ℕ, List, [], ◌∷◌, ◌++◌, Bool, length, take, drop, map, true, false, Some, encode_utf8_all, IsTrue, ◌↔◌, Decides};
 ghost use Rattle.gabc_places.specs.Findings.{AreInOrder, LieBetween};
 ghost use Rattle.gabc_places.specs.BoundedList.{Fits, extended_by};
 ghost use Rattle.gabc_places.specs.StageLaw.{concat_of};
@@ -15,7 +15,7 @@ ghost use Rattle.gabc_nabc.specs.Codes.{HasCodesOfGlyphs};
 ghost use Rattle.gabc_nabc.specs.Names.{name_by};
 ghost use Rattle.gabc_nabc.specs.declared.descriptor.Descriptor.{Descriptor};
 ghost use Rattle.gabc_nabc.specs.Parts.{IsNabc, AreDescriptorsOf, MakeUp, AreWithin, parts_of};
-ghost use Rattle.gabc_nabc.specs.Events.{bytes_in, has_end, is_code, kept_of, nabc_events, events_at, nabc_events_after, cut_events};
+ghost use Rattle.gabc_nabc.specs.Events.{bytes_in, in_comment, has_end, is_end, is_code, kept_of, nabc_events, events_at, nabc_events_after, cut_events};
 ghost use Rattle.gabc_notes.specs.SnippetRead.{ends_of, findings_of, kept_of as kept_in};
 ghost use Rattle.gabc_notes.specs.Ends.{IsMarkOf, EndAtMost, AreCutAtMost};
 ghost use Rattle.gabc_notes.specs.declared.stage.NoteEnd.{NoteEnd};
@@ -25,6 +25,9 @@ ghost use Rattle.gabc_notes.specs.witness.Keeps.{set_down};
 ghost use Rattle.gabc_nabc.specs.witness.DescriptorMachine.{events_left};
 ghost use Rattle.gabc_nabc.specs.declared.stage.NabcStage.{NabcStage};
 ghost use Rattle.gabc_nabc.specs.witness.Keeps.{comment_of, Begins, IsKeptAgain, Keeps, Takes};
+ghost use Rattle.gabc_nabc.specs.KeptNabc.{is_snippet, is_viable, fate_in_nabc};
+ghost use Rattle.gabc_notes.specs.witness.NotesByKept.{kept_by, opens, ends};
+ghost use Rattle.gabc_nabc.specs.witness.NabcByKept.{events_past};
 ghost use Rattle.gabc_nabc.specs.ReadAgain.{IsNabcReadAgain};
 ghost use Rattle.gabc_nabc.specs.SnippetRead.{before_end, from_end, kept_before, kept_chars_in, end_before, AreAtMostOne, IsComputed};
 ghost use Rattle.gabc_nabc.specs.NabcRead.{AreKeptChars, IsNabcRead};
@@ -204,4 +207,27 @@ pub fn a_kept_text_gives_the_stage_back(stage: &NabcStage)
     ensures back { (k : List ℕ) (at : Place) → Keeps stage.now k →
         (xs : List Char) → let down = set_down at k (comment_of stage.now) in
         drop (length down) (nabc_events (down ++ xs)) ≡ events_left stage.now xs }
+{}
+
+/// Law: the tests by longest items decide which texts are snippets and which are viable.
+pub fn nabc_is_decided()
+    ensures snippet { (t : List ℕ) → Decides (is_snippet t) (IsSnippet nabc t) }
+    ensures viable { (t : List ℕ) → Decides (is_viable t) (IsViable nabc t) }
+{}
+
+/// Law: outside comments, the fate of a character after what is kept says whether it ends the
+/// snippet, whether it begins a comment, and if it does not end the snippet, what is kept then.
+pub fn fates_in_nabc()
+    ensures ends { (t : List ℕ) (c : ℕ) → in_comment t ≡ false →
+        is_end t c ≡ ends (fate_in_nabc (kept_of t) c) }
+    ensures opens { (t : List ℕ) (c : ℕ) → in_comment t ≡ false →
+        in_comment (t ++ c ∷ []) ≡ opens (fate_in_nabc (kept_of t) c) }
+    ensures kept { (t : List ℕ) (c : ℕ) → in_comment t ≡ false → is_end t c ≡ false →
+        kept_of (t ++ c ∷ []) ≡ kept_by (fate_in_nabc (kept_of t) c) (kept_of t) c }
+{}
+
+/// Law: all that is emitted of a snippet is said by what is kept before each character, and whether
+/// a comment is open.
+pub fn nabc_events_are_by_kept()
+    ensures { (xs : List Char) → nabc_events xs ≡ events_past [] false xs }
 {}

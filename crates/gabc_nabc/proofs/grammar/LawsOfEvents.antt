@@ -42,16 +42,16 @@ pub none_empty : (k : Bool) → ¬ IsItemOf nabc k []
 none_empty k h = (let f = rows_end_to nabc k h in absurd (cc))
 
 -- what completes a state: the second letter of a code, a whole one, a pitch, or what points and letters lack
-abbrev completion : DescriptorState → List ℕ
-completion CodeL = codes "i"
-completion CodeP = codes "i"
-completion CodeS = codes "i"
-completion Code = codes "i"
+abbrev pub completion : DescriptorState → List ℕ
+completion CodeL = codes "a"
+completion CodeP = codes "a"
+completion CodeS = codes "a"
+completion Code = codes "a"
 completion GlyphH = codes "a"
-completion Joined = codes "vi"
-completion TailL = codes "i"
-completion TailP = codes "i"
-completion TailS = codes "i"
+completion Joined = codes "aa"
+completion TailL = codes "a"
+completion TailP = codes "a"
+completion TailS = codes "a"
 completion Points = codes "1"
 completion PointsLetter = codes "1"
 completion Letters = codes "a1"
@@ -59,7 +59,7 @@ completion LettersMore = codes "1"
 completion CountedH = codes "a"
 completion _ = []
 
-completed : (s : DescriptorState) → is_whole (run nabc (reading nabc machine s) (completion s)) ≡ true
+pub completed : (s : DescriptorState) → is_whole (run nabc (reading nabc machine s) (completion s)) ≡ true
 completed s = grind arith
 
 -- it is no longer than two characters

@@ -2,7 +2,7 @@ use Rattle.std.proofs.Common.{ℕ, ◌+◌, List, ◌∷◌, ap, sym, ◌∙◌,
 use Rattle.std.proofs.lemmas.Str.{IsCharBoundary-from_drop}
 use Rattle.gabc_nabc.specs.Parts.{parts_from}
 use Rattle.gabc_nabc.specs.declared.descriptor.Descriptor.{Descriptor}
-use Rattle.gabc_nabc.proofs.parts_of_text.PartsByBytes.{part_at, after_first}
+use Rattle.gabc_nabc.proofs.parts_of_text.PartsByBytes.{part_at, after_first, none_left}
 use Rattle.gabc_nabc.proofs.descriptors.PartReaderIterator.next.Goals as goal
 
 pub range_from-self-inside-requires : goal.range_from-self-inside-requires
@@ -16,6 +16,11 @@ overflow_add-span c =
     let fits = c.self.invariant.1 in
     let within = here.within in
     omega (arith, fits, within)
+
+pub returns-in_err-space-clause-steps : goal.returns-in_err-space-clause-steps
+returns-in_err-space-clause-steps c =
+    let none = none_left c.self.inside.rest.now c.self.inside.at in
+    grind (arith, none)
 
 pub returns-clause-steps : goal.returns-clause-steps
 returns-clause-steps c =
