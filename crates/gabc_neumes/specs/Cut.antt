@@ -1,7 +1,7 @@
 -- The glyphs of a segment, as a function of its notes.
-use Rattle.std.specs.Prelude.{ℕ, zero, suc, ◌+◌, List, [], ◌∷◌, length, take, drop, Option, Some, None}
+use Rattle.std.specs.Prelude.{ℕ, zero, suc, ◌+◌, List, [], ◌∷◌, length, drop, Option, Some, None}
 use Rattle.gabc_notes.specs.declared.note.Note.{Note}
-use Rattle.gabc_patterns.specs.Derivative.{rows_run, end_kind}
+use Rattle.gabc_patterns.specs.Reads.{kind_of, longest}
 use Rattle.gabc_neumes.specs.Letters.{letters}
 use Rattle.gabc_neumes.specs.Table.{neumes}
 use Rattle.gabc_neumes.specs.declared.glyph.Glyph.{Glyph}
@@ -9,16 +9,12 @@ use Rattle.gabc_neumes.specs.declared.glyph.GlyphKind.{GlyphKind}
 
 -- the kind of the glyph that all of the notes are
 abbrev pub kind_by : List Note → Option GlyphKind
-kind_by notes = end_kind (rows_run neumes (letters notes))
+kind_by notes = kind_of neumes (letters notes)
 
 -- the longest of the glyphs of at most n notes with which the notes begin: its kind, and its number
 -- of notes
 abbrev pub longest_glyph : ℕ → List Note → Option (GlyphKind × ℕ)
-longest_glyph zero notes = None
-longest_glyph (suc n) notes = elim (kind_by (take (suc n) notes)) as (λ _. Option (GlyphKind × ℕ)) [
-  | None ↦ longest_glyph n notes
-  | Some kind ↦ Some (kind, suc n)
-]
+longest_glyph n notes = longest kind_by n notes
 
 -- at most n glyphs of notes that stand in their segment from that index on, each the longest at its
 -- place

@@ -5,7 +5,7 @@ use native.Mathlib.Decide.{dec_lt}
 use Rattle.gabc_notes.specs.declared.note.Note.{Note}
 use Rattle.gabc_patterns.specs.LongestItems.{IsReadingBy, HasSome, Longest}
 use Rattle.gabc_patterns.proofs.ReadingExists.{reading_exists}
-use Rattle.gabc_patterns.proofs.RowsRun.{item_at_end, no_item_at_end}
+use Rattle.gabc_patterns.proofs.Spelled.{kind_is as kind_of_is, none_is}
 use Rattle.gabc_neumes.specs.Cut.{kind_by, longest_glyph, glyphs_within, glyphs_of}
 use Rattle.gabc_neumes.specs.Glyphs.{HasKind, AreGlyphsOf}
 use Rattle.gabc_neumes.specs.Letters.{letters}
@@ -21,8 +21,8 @@ pub kind_is : (k : GlyphKind) (ns : List Note) → HasKind k ns → kind_by ns �
 kind_is k ns h = go (kind_by ns) refl
   where
     go : (o : Option GlyphKind) → kind_by ns ≡ o → o ≡ Some k
-    go None e = absurd (no_item_at_end neumes (letters ns) e (k, h))
-    go (Some j) e = ap (λ (x : GlyphKind). Some x) (kinds_are_one (letters ns) j k (item_at_end neumes (letters ns) j e) h)
+    go None e = absurd (none_is neumes (letters ns) k e h)
+    go (Some j) e = ap (λ (x : GlyphKind). Some x) (kinds_are_one (letters ns) j k (kind_of_is neumes (letters ns) j e) h)
 
 -- and of notes that are none
 pub kind_none : (ns : List Note) → ¬ HasSome HasKind ns → kind_by ns ≡ None
@@ -30,7 +30,7 @@ kind_none ns h = go (kind_by ns) refl
   where
     go : (o : Option GlyphKind) → kind_by ns ≡ o → o ≡ None
     go None e = refl
-    go (Some j) e = absurd (h (j, item_at_end neumes (letters ns) j e))
+    go (Some j) e = absurd (h (j, kind_of_is neumes (letters ns) j e))
 
 some_notes : (k : GlyphKind) (ns : List Note) → HasKind k ns → 0 < length ns
 some_notes k [] h = absurd (none_empty k h)

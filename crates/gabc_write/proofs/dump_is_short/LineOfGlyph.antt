@@ -1,5 +1,5 @@
 -- The lines of the glyphs of a segment are short: of notes with b bytes in all, at most 19 * b.
-use Rattle.std.proofs.Common.{◌≡◌, ℕ, zero, suc, ◌+◌, ◌*◌, ◌≤◌, ◌<◌, ◌^◌, ◌-◌, ◌&&◌, inl, inr, nat_le, min, List, [], ◌∷◌, Bool, true, Option, Some, None, length, length-append, take, drop, arith, refl, ap, ◌∙◌, subst}
+use Rattle.std.proofs.Common.{◌≡◌, ℕ, zero, suc, ◌+◌, ◌*◌, ◌≤◌, ◌<◌, ◌^◌, ◌-◌, ◌&&◌, inl, inr, nat_le, min, List, [], ◌∷◌, Bool, true, Option, Some, None, length, length-append, take, drop, arith, refl, sym, ap, ◌∙◌, subst}
 use Rattle.std.proofs.lemmas.Fmt.{length-decimal-le_succ}
 use Rattle.gabc_notes.specs.declared.note.Note.{Note}
 use Rattle.gabc_notes.specs.declared.note.Shape.{Shape}
@@ -12,7 +12,8 @@ use Rattle.gabc_neumes.specs.declared.glyph.GlyphKind.{GlyphKind}
 use Rattle.gabc_patterns.specs.Derivative.{rows_run, end_kind}
 use Rattle.gabc_patterns.specs.Pattern.{Pattern, Spells, never, nothing, one_of, any_but, ◌·◌, ◌or◌, many}
 use Rattle.gabc_patterns.specs.LongestItems.{Table, IsItemOf}
-use Rattle.gabc_patterns.proofs.RowsRun.{item_at_end}
+use Rattle.gabc_patterns.proofs.KindsByDerivatives.{kind_is_end_kind}
+use Rattle.gabc_patterns.proofs.Spelled.{kind_is}
 use Rattle.std.proofs.lemmas.Bool.{leb-true, and_parts}
 use Rattle.std.proofs.Math.Nat.{min-le_left, min-le_right}
 use Rattle.gabc_neumes.proofs.glyphs_of_notes.LettersOfNotes.{many as letters_count}
@@ -107,10 +108,10 @@ split (suc m) (n ∷ ns) = omega (arith, split m ns)
 -- the word of the kind of these notes
 word_short : (n : Note) (ns : List Note) (k : GlyphKind) → kind_by (n ∷ ns) ≡ Some k → AreSized (n ∷ ns)
     → length (kind_word k) + (length ns + 10) ≤ 20 * sizes_of (n ∷ ns)
-word_short n [] k e ((a, b), h) = omega (arith, one_short n.shape k e, a, b)
+word_short n [] k e ((a, b), h) = omega (arith, one_short n.shape k (sym (kind_is_end_kind neumes (shape_letter n.shape ∷ [])) ∙ e), a, b)
 word_short n (m ∷ ns) k e h =
     let t = letters (n ∷ m ∷ ns) in
-    let word = word_by_rows neumes k t all_short (item_at_end neumes t k e) in
+    let word = word_by_rows neumes k t all_short (kind_is neumes t k e) in
     omega (arith, word, letters_count None (n ∷ m ∷ ns), few (n ∷ m ∷ ns) h)
 
 pub line_short : (n : Note) (ns : List Note) (k : GlyphKind) (first : ℕ) → kind_by (n ∷ ns) ≡ Some k → AreSized (n ∷ ns) → length ns + 1 < 2 ^ 64
