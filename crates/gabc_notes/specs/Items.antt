@@ -3,9 +3,9 @@ use Rattle.std.specs.Prelude.{◌≡◌, ℕ, ◌+◌, ◌≤◌, List, [], ◌�
 use Rattle.std.specs.Str.{chars}
 use Rattle.std.specs.List.{All}
 use Rattle.gabc_patterns.specs.LongestItems.{IsReading, IsSnippet}
-use Rattle.gabc_patterns.specs.Function.{items}
 use Rattle.gabc_patterns.specs.Items.{FollowOn, ItemSpan}
 use Rattle.gabc_patterns.specs.ItemsRead.{ReadsTo}
+use Rattle.gabc_patterns.specs.Reads.{items_by}
 use Rattle.gabc_notes.specs.Table.{gabc}
 use Rattle.gabc_notes.specs.declared.item.Item.{Item}
 use Rattle.gabc_notes.specs.declared.item.ItemKind.{ItemKind}
@@ -54,7 +54,7 @@ pub record AreItemsOf (bytes : List ℕ) (items : List Item) : Type 0 where
 -- the items of what is left of a text from that byte on, each the longest that begins at its place,
 -- as far as an item begins
 abbrev pub items_from : ℕ → List ℕ → List Item
-items_from at rest = placed_items at (items gabc (chars rest))
+items_from at rest = placed_items at (items_by gabc (chars rest))
 
 -- the items of a text: of a snippet all
 abbrev pub items_of : List ℕ → List Item

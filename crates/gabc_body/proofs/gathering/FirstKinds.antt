@@ -10,7 +10,7 @@ use Rattle.gabc_text.specs.declared.text_event.TextEvent.TheVariants as text
 use Rattle.gabc_notes.specs.FirstNoteOrClef.{first_note_or_clef}
 use Rattle.gabc_notes.specs.Items.{placed_items, items_of}
 use Rattle.gabc_notes.specs.Table.{gabc}
-use Rattle.gabc_patterns.specs.Function.{items}
+use Rattle.gabc_patterns.specs.Reads.{items_by}
 use Rattle.gabc_notes.specs.declared.item.Item.{Item}
 use Rattle.gabc_notes.specs.declared.item.ItemKind.{ItemKind}
 use Rattle.gabc_notes.specs.declared.stage.NoteEnd.TheVariants as note_end
@@ -103,7 +103,7 @@ unfolding slice
 empty_slice span kept l = ap (λ n. take n (drop span.from kept)) (let none : span.to - span.from ≡ 0 = omega (arith, l) in none)
 
 no_items : first_note_or_clef (items_of []) ≡ None
-no_items = ap (λ (t : List ℕ). first_note_or_clef (placed_items 0 (items gabc t))) (chars-encodes [] refl)
+no_items = ap (λ (t : List ℕ). first_note_or_clef (placed_items 0 (items_by gabc t))) (chars-encodes [] refl)
 
 none_in : (b : Bool) (t : List ℕ) → t ≡ [] → first_note_or_clef (items_of (cond b t [])) ≡ None
 none_in b t e = grind (arith, no_items)

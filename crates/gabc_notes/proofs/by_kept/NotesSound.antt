@@ -1,16 +1,13 @@
 -- Which comes first, a note or a clef, is the same by the texts of items and by their spans.
-use Rattle.std.proofs.Common.{◌≡◌, ℕ, ◌+◌, List, [], ◌∷◌, length, cond, refl, sym, ap, ◌∙◌, chars, Some}
+use Rattle.std.proofs.Common.{◌≡◌, ℕ, ◌+◌, List, [], ◌∷◌, length, cond, refl, sym, chars, Some}
 use Rattle.std.specs.Prelude.{encode_utf8_all}
-use Rattle.gabc_patterns.specs.Function.{items}
 use Rattle.gabc_notes.specs.Table.{gabc}
 use Rattle.gabc_notes.specs.Items.{placed_items, items_of}
 use Rattle.gabc_notes.specs.FirstNoteOrClef.{is_note_or_clef, first_note_or_clef}
 use Rattle.gabc_notes.specs.declared.item.ItemKind.{ItemKind}
 use Rattle.gabc_notes.specs.declared.item.ItemKind.TheVariants as kind
-use Rattle.gabc_notes.proofs.grammar.LawsOfKeptTexts.{kinds_are_one}
 use Rattle.gabc_patterns.specs.Reads.{items_by}
 use Rattle.gabc_notes.specs.FirstSound.{first_sound, is_note}
-use Rattle.gabc_patterns.proofs.ItemsBy.{items_by_are_items}
 
 placed_sound : (is : List (ItemKind × List ℕ)) (at : ℕ) → is_note (first_note_or_clef (placed_items at is)) ≡ first_sound is
 placed_sound [] at = refl
@@ -29,4 +26,4 @@ placed_sound ((k, t) ∷ is) at = by k (placed_sound is (at + length (encode_utf
     by kind.Fusion h = h
 
 pub sound_is : (bytes : List ℕ) → first_sound (items_by gabc (chars bytes)) ≡ is_note (first_note_or_clef (items_of bytes))
-sound_is bytes = ap first_sound (items_by_are_items gabc refl kinds_are_one (chars bytes)) ∙ sym (placed_sound (items gabc (chars bytes)) 0)
+sound_is bytes = sym (placed_sound (items_by gabc (chars bytes)) 0)

@@ -7,7 +7,7 @@ use Rattle.std.proofs.lemmas.Fmt.{length-decimal-le}
 use Rattle.std.proofs.lemmas.List.FromFn.{length-range_with_len}
 use Rattle.std.proofs.lemmas.Str.{encodes-chars, length-encode}
 use lib.Utf8.{encodes}
-use Rattle.gabc_patterns.specs.Function.{items}
+use Rattle.gabc_patterns.specs.Reads.{items_by}
 use Rattle.gabc_notes.specs.Items.{placed_items, items_of}
 use Rattle.gabc_notes.specs.Table.{gabc}
 use Rattle.gabc_notes.specs.declared.item.ItemKind.{ItemKind}
@@ -34,7 +34,7 @@ items_have at (i ∷ is) (a, h) = grind (arith, items_have (at + length (encodes
 pub notes_short : (outset : InForce) (kept : List ℕ) → IsUtf8 kept → length kept < 2 ^ 64 → length (lines_of_notes outset kept) ≤ 63 * length kept + 7
 notes_short outset kept u l =
     let p = pieces_have gabc (length (chars kept)) (chars kept) in
-    let h = items_have 0 (items gabc (chars kept)) p.0 in
+    let h = items_have 0 (items_by gabc (chars kept)) p.0 in
     let size = h.1 in
     let few = p.1 in
     let whole = ap (length {A = ℕ}) (encodes-chars kept u) in
@@ -98,7 +98,7 @@ module _ (short : NamesAreShort) where
   pub nabc_short : (line : ℕ) (kept : List ℕ) → line < 256 → IsUtf8 kept → length (lines_of_nabc line kept) ≤ 38 * length kept + 10
   nabc_short line kept l u =
       let p = pieces_have nabc (length (chars kept)) (chars kept) in
-      let h = parts_have 0 (items nabc (chars kept)) p.0 in
+      let h = parts_have 0 (items_by nabc (chars kept)) p.0 in
       let size = h.1 in
       let few = p.1 in
       let whole = ap (length {A = ℕ}) (encodes-chars kept u) in

@@ -2,11 +2,16 @@ use Rattle.std.proofs.Common.{ℕ, ◌+◌, List, ◌∷◌, ap, sym, ◌∙◌,
 use Rattle.std.proofs.lemmas.Str.{IsCharBoundary-from_drop}
 use Rattle.gabc_notes.specs.Items.{items_from}
 use Rattle.gabc_notes.specs.declared.item.Item.{Item}
-use Rattle.gabc_notes.proofs.items_of_text.ItemsByBytes.{item_at, first_from}
+use Rattle.gabc_notes.proofs.items_of_text.ItemsByBytes.{item_at, first_from, none_left}
 use Rattle.gabc_notes.proofs.items.ItemReaderIterator.next.Goals as goal
 
 pub range_from-self-inside-requires : goal.range_from-self-inside-requires
 range_from-self-inside-requires c = let first = c.in_ok-kind.ensures.found in λ l. IsCharBoundary-from_drop c.self.inside.rest.now c.in_ok-kind.len first.within first.utf8
+
+pub returns-in_err-kind-clause-steps : goal.returns-in_err-kind-clause-steps
+returns-in_err-kind-clause-steps c =
+    let none = none_left c.self.inside.rest.now c.self.inside.at in
+    grind (arith, none)
 
 pub returns-clause-steps : goal.returns-clause-steps
 returns-clause-steps c =
