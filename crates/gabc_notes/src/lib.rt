@@ -16,6 +16,8 @@
 //! - `NoteStage` reads the characters of a snippet one at a time: it emits those that are kept, the
 //!   findings, and the end. What it emits is `note_events` of `specs/Events.antt`, a definition
 //!   without states: what is emitted of a character depends on it and on the characters before it.
+//!   The same is said by what is kept of these: what becomes of a character, and what is found with
+//!   it, by `specs/KeptNotes.antt`.
 //!   `NoteStage::opener` and `NoteStage::in_comment` report what matters of a stage beside the text
 //!   that it kept (`specs/witness/Keeps.antt`).
 //! - `laws` has what follows of the definitions.

@@ -44,12 +44,9 @@ character_is t c n = ap (λ (b : Bool). not b && not (is_in c (37 ∷ 32 ∷ 9 �
 end_is : (t : List ℕ) (c : ℕ) → in_comment t ≡ false → is_end t c ≡ is_mark c
 end_is t c n = ap (λ (b : Bool). not b && is_mark c) n
 
--- a `%` is no mark and no blank, nor is a mark a blank
+-- a `%` is no mark and no blank
 apart_percent : (c : ℕ) → (c == 37) ≡ true → (is_mark c ≡ false) × (is_blank c ≡ false)
 apart_percent c e = grind (arith, nat_tests)
-
-apart_mark : (c : ℕ) → is_mark c ≡ true → is_blank c ≡ false
-apart_mark c e = grind (arith, nat_tests)
 
 fate_is : (kept : List ℕ) (c : ℕ) → fate_in_nabc kept c ≡ fate_of (c == 37) (is_mark c) (is_blank c) (viable_by_steps nabc (kept ++ c ∷ []))
 fate_is kept c = ap (fate_of (c == 37) (is_mark c) (is_blank c)) (viable_same (kept ++ c ∷ []))
