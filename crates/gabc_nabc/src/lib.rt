@@ -13,9 +13,9 @@
 //!   spaces, and `codes_in` over the codes of one of them; `descriptors_whole`, `descriptors_into`
 //!   and `codes_into` gather them. Spans count its bytes. `name_of` names a code. `regular_nabc`
 //!   says how far a text is an NABC snippet in which nothing is left out or found.
-//! - `NabcStage` reads the characters of a snippet one at a time. `NabcStage::in_comment` says
-//!   what matters of a stage beside the text that it kept (`specs/witness/Keeps.antt`). What becomes
-//!   of a character, and what is found with it, is said by what is kept before it in
+//! - `NabcStage` reads the characters of a snippet one at a time. `NabcStage::in_comment` says what
+//!   matters of a stage beside the text that it kept (`specs/witness/Keeps.antt`). What becomes of
+//!   a character, and what is found with it, is said by what is kept before it in
 //!   `specs/KeptNabc.antt`.
 //! - `laws` has what follows of the definitions.
 //!
