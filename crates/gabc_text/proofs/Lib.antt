@@ -1,3 +1,4 @@
+pub mod by_kept
 pub mod events
 pub mod machine
 pub mod order

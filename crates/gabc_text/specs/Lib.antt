@@ -6,6 +6,7 @@ pub mod End
 pub mod Ends
 pub mod Events
 pub mod ExampleTexts
+pub mod KeptText
 pub mod PiecesOwed
 pub mod Printed
 pub mod PrintedView

@@ -1,5 +1,6 @@
 pub mod EventsLeft
 pub mod FactsPast
+pub mod FatesOfTokens
 pub mod Keeps
 pub mod PiecesOwed
 pub mod SaidInFull

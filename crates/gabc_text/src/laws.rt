@@ -1,7 +1,7 @@
 //! Laws of the definitions that contracts speak of. Each function is there for its clauses: all but
 //! two do nothing, and these drive a fresh stage.
 
-ghost use Rattle.std.specs.Prelude.{◌≡◌, ℕ, ◌+◌, ◌<◌, List, [], ◌∷◌, ◌++◌, length, take, drop, true, false, cond, codes, Decides, None, encode_utf8_all};
+ghost use Rattle.std.specs.Prelude.{◌≡◌, ℕ, ◌+◌, ◌<◌, List, [], ◌∷◌, ◌++◌, length, take, drop, true, false, cond, codes, Decides, None, encode_utf8_all, reverse};
 ghost use Rattle.gabc_places.specs.StageLaw.{concat_of};
 ghost use Rattle.std.specs.List.{All};
 ghost use Rattle.gabc_places.specs.Findings.{AreInOrder, LieBetween};
@@ -13,8 +13,12 @@ ghost use Rattle.gabc_places.specs.declared.code.Finding.{Finding};
 ghost use Rattle.gabc_text.specs.TextStage.{fresh_stage};
 ghost use Rattle.gabc_text.specs.witness.EventsLeft.{events_left, characters_left};
 ghost use Rattle.gabc_text.specs.Events.{CountsFit, codes_of, events_of, events_by_point, after_tokens, no_events_each};
-ghost use Rattle.gabc_text.specs.View.{kept, findings};
+ghost use Rattle.gabc_text.specs.View.{kept, findings, codes_at_end, late_codes, early_codes, effect};
 ghost use Rattle.gabc_text.specs.TextRead.{view_in};
+ghost use Rattle.gabc_text.specs.KeptText.{view_of_kept, belongs, fate_in_text, codes_with};
+ghost use Rattle.gabc_text.specs.witness.FatesOfTokens.{fate_of_token};
+ghost use Rattle.gabc_text.specs.Token.{Token, tokens};
+ghost use Rattle.gabc_text.specs.declared.token.TokenKind.TheVariants as kind;
 ghost use Rattle.gabc_text.specs.ViewFacts.{StandsForView, StandsFor, view_facts, has_error};
 ghost use Rattle.gabc_text.specs.Printed.{print, text_tokens, translation_tokens, text_of_tokens};
 ghost use Rattle.gabc_text.specs.PrintedView.{printed_view};
@@ -211,6 +215,25 @@ pub fn a_kept_text_is_read_again()
     ensures begins { (t : List ℕ) → (view_facts (10 ∷ t)).word_start ≡ true }
     ensures kept { (t : List ℕ) → kept (kept t) ≡ kept t }
     ensures facts { (t : List ℕ) → view_facts (kept t) ≡ view_facts t }
+{}
+
+/// Law: a text says what its kept text says, each span of it too.
+pub fn a_text_says_what_is_kept()
+    ensures { (t : List ℕ) → view_of_kept (kept t) ≡ view_in t }
+{}
+
+/// Law: what becomes of a character that begins a token, and what is found with a tag, with the `[`
+/// of a translation and at the end, follows from what is kept of the text before.
+pub fn fates_in_text()
+    ensures fate { (t : List ℕ) (c : ℕ) → let before = reverse (tokens (kept t)) in
+        belongs before c ≡ false → fate_in_text before c ≡ fate_of_token (reverse (tokens t)) c }
+    ensures tag { (t : List ℕ) (k : Token) → k.kind ≡ kind.Tag →
+        codes_with (k ∷ reverse (tokens (kept t)))
+        ≡ late_codes (reverse (tokens t)) k.kind (effect k) }
+    ensures translation { (t : List ℕ) (k : Token) → k.kind ≡ kind.OpenTranslation → k.more ≡ [] →
+        codes_with (k ∷ reverse (tokens (kept t))) ≡ early_codes (reverse (tokens t)) k.kind }
+    ensures end { (t : List ℕ) →
+        codes_at_end (reverse (tokens (kept t))) ≡ codes_at_end (reverse (tokens t)) }
 {}
 
 /// Law: an LF before a text makes it begin a word. Nothing else that the text says changes by it.

@@ -62,7 +62,7 @@ left_still b k e = grind arith
 -- ---- a blank after a blank
 
 -- a blank that is kept was one of words, or begins one
-spaced : (b : List Token) → follows_space b ≡ true → (follows_blank b ≡ true) × ((has_word b || starts_word b) ≡ true)
+pub spaced : (b : List Token) → follows_space b ≡ true → (follows_blank b ≡ true) × ((has_word b || starts_word b) ≡ true)
 spaced [] e = absurd (cc)
 spaced (k ∷ b) e = by (is_space k.kind) (is_left_out b k.kind) refl refl e (λ f. spaced b f)
   where
@@ -81,7 +81,7 @@ pub record AreTokensAlike (b c ks : List Token) : Type 0 where
   pub kept : along kept_at b ks ≡ along kept_at c (along kept_token b ks)
   pub after : Same (onto ks b) (onto (along kept_token b ks) c)
 
-blank_is : (k : Token) → is_space k.kind ≡ true → k.kind ≡ kind.Blank
+pub blank_is : (k : Token) → is_space k.kind ≡ true → k.kind ≡ kind.Blank
 blank_is k e = grind arith
 
 -- a blank, as it is kept, says the same
