@@ -94,6 +94,18 @@ fate_in_text before c =
     (cond (is_unmatched before c) (LeaveOut (Some W4))
     (cond (is_blank c && ends_blank before) (LeaveOut None) Keep)))))
 
+-- a blank is kept as U+0020, if it is no part of a longer token
+abbrev pub kept_char : List Token → ℕ → ℕ
+kept_char before c = cond (belongs before c) c (cond (is_blank c) 32 c)
+
+abbrev pub kept_by : Fate → ℕ → List ℕ
+kept_by Keep c = c ∷ []
+kept_by _ c = []
+
+-- what is kept of the character after these tokens
+abbrev pub kept_after : List Token → ℕ → List ℕ
+kept_after before c = kept_by (fate_in_text before c) (kept_char before c)
+
 -- what is found with the last character of these tokens, which is kept
 abbrev pub codes_by : List Token → TokenKind → List ℕ → TagEffect → List Code
 codes_by before Tag more s = tag_codes_by (λ r. is_open r before) s

@@ -6,3 +6,4 @@ pub mod PiecesOwed
 pub mod SaidInFull
 pub mod StageReports
 pub mod Steps
+pub mod TextByKept

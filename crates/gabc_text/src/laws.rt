@@ -15,7 +15,9 @@ ghost use Rattle.gabc_text.specs.witness.EventsLeft.{events_left, characters_lef
 ghost use Rattle.gabc_text.specs.Events.{CountsFit, codes_of, events_of, events_by_point, after_tokens, no_events_each};
 ghost use Rattle.gabc_text.specs.View.{kept, findings, codes_at_end, late_codes, early_codes, effect};
 ghost use Rattle.gabc_text.specs.TextRead.{view_in};
-ghost use Rattle.gabc_text.specs.KeptText.{view_of_kept, belongs, fate_in_text, codes_with};
+ghost use Rattle.gabc_places.specs.Fate.{Comment, Ends};
+ghost use Rattle.gabc_text.specs.KeptText.{view_of_kept, belongs, fate_in_text, kept_after, codes_with};
+ghost use Rattle.gabc_text.specs.witness.TextByKept.{kept_past};
 ghost use Rattle.gabc_text.specs.witness.FatesOfTokens.{fate_of_token};
 ghost use Rattle.gabc_text.specs.Token.{Token, tokens};
 ghost use Rattle.gabc_text.specs.declared.token.TokenKind.TheVariants as kind;
@@ -295,6 +297,25 @@ pub fn a_kept_character_is_kept_again()
         kept_with a c ≡ c ∷ [] }
     ensures comments { (k : List ℕ) → begins_comment k ≡ true → kept_with k 37 ≡ [] }
     ensures ends { (k : List ℕ) → ends_after_it k ≡ true → kept_with k 40 ≡ [] }
+{}
+
+/// Law: of a text that a stage keeps all is kept. What becomes of a character after it is what the
+/// stage does with it: whether a `%` begins a comment, whether a `(` ends the text, and what is
+/// kept of any character.
+pub fn a_stage_follows_fates()
+    ensures whole { (s : TextStage) (k : List ℕ) → Keeps s k → kept k ≡ k }
+    ensures comment { (s : TextStage) (k : List ℕ) → Keeps s k →
+        Decides (begins_comment k) (fate_in_text (reverse (tokens k)) 37 ≡ Comment) }
+    ensures end { (s : TextStage) (k : List ℕ) → Keeps s k →
+        Decides (ends_after_it k) (fate_in_text (reverse (tokens k)) 40 ≡ Ends) }
+    ensures kept { (s : TextStage) (k : List ℕ) (c : ℕ) → Keeps s k →
+        kept_with k c ≡ kept_after (reverse (tokens k)) c }
+{}
+
+/// Law: what is kept of a text is what is kept a character after the other: by the fate of each
+/// after what is kept before it, and by whether a comment is open.
+pub fn a_text_is_kept_by_fates()
+    ensures { (t : List ℕ) → kept t ≡ kept_past [] false t }
 {}
 
 /// Law: a stage that has not ended takes each character: it emits some events, and from then on

@@ -46,7 +46,7 @@ translation_same : (b c : List Token) (s : TagEffect) → Alike b c → by_kept.
 translation_same b c s h = ap (λ (t : Bool). cond t (W5 ∷ []) []) (sym (translated_same b c h))
 
 -- by what was seen
-abbrev by_facts : Bool → Bool → Bool → ℕ → Fate
+abbrev pub by_facts : Bool → Bool → Bool → ℕ → Fate
 by_facts begun ended blank c =
     cond (c == 40) Ends
     (cond (c == 37) Comment
@@ -60,7 +60,7 @@ all_by b c = go (has_begin b) (has_end b) (follows_space b) refl refl refl
     go : (g e s : Bool) → has_begin b ≡ g → has_end b ≡ e → follows_space b ≡ s → fate_of_token b c ≡ by_facts g e s c
     go g e s i j k = grind (arith, nat_tests)
 
-kept_by : (c : List Token) (d : ℕ) → by_kept.belongs c d ≡ false → by_kept.fate_in_text c d ≡ by_facts (has_begin c) (has_end c) (by_kept.ends_blank c) d
+pub kept_by : (c : List Token) (d : ℕ) → by_kept.belongs c d ≡ false → by_kept.fate_in_text c d ≡ by_facts (has_begin c) (has_end c) (by_kept.ends_blank c) d
 kept_by c d e = rw e refl
 
 fate_same : (b c : List Token) (d : ℕ) → Alike b c → by_kept.belongs c d ≡ false → by_kept.fate_in_text c d ≡ fate_of_token b d

@@ -8,7 +8,7 @@ use Rattle.gabc_text.specs.declared.view.Piece.{Piece}
 use Rattle.gabc_text.specs.declared.view.PieceKind.{PieceKind}
 use Rattle.gabc_text.specs.declared.view.PieceKind.TheVariants as piece
 use Rattle.gabc_text.specs.Token.{tokens}
-use Rattle.gabc_text.specs.KeptText.{view_of_kept, fate_in_text, codes_with}
+use Rattle.gabc_text.specs.KeptText.{view_of_kept, fate_in_text, kept_after, codes_with}
 use Rattle.gabc_text.specs.TextSpan.{no_styles}
 
 abbrev span : ℕ → ℕ → Span
@@ -68,6 +68,13 @@ late_brace = refl
 
 second_blank : fate (codes "a ") 10 ≡ LeaveOut None
 second_blank = refl
+
+-- a line end is kept as a blank, but not within a translation
+line_end : kept_after (reverse (tokens (codes "a"))) 10 ≡ codes " "
+line_end = refl
+
+line_end_within : kept_after (reverse (tokens (codes "[a"))) 10 ≡ 10 ∷ []
+line_end_within = refl
 
 -- ---- what is found with its last character
 

@@ -14,7 +14,7 @@ use Rattle.gabc_text.proofs.by_kept.ViewOfKept.{Alike, AreAlike, GoesOn, view_al
 use Rattle.gabc_text.proofs.by_kept.CutTokens.{tokens_cut}
 use Rattle.gabc_text.proofs.printing.TokensOfKeptText.{tokens_kept}
 
-turned : (ks : List Token) → onto ks [] ≡ reverse ks
+pub turned : (ks : List Token) → onto ks [] ≡ reverse ks
 turned ks = sym (reverse_push ks []) ∙ append-nil (reverse ks)
 
 begins : (ks : List Token) → (a : Alike [] []) → AreAlike [] [] ks → (b : List Token) → onto ks [] ≡ b → (c : List Token) → onto (along kept_token [] ks) [] ≡ c

@@ -51,7 +51,7 @@ events_more : (s : TextStage) (k : List ℕ) (d : ℕ) → events_of_pushes s (k
 events_more s [] d = append-nil (events_of_push s d)
 events_more s (c ∷ k) d = simp (append_assoc, events_more (push_stage s c) k d)
 
-alike_done : (s r : TextStage) → IsAlike s r → r.ended ≡ s.ended
+pub alike_done : (s r : TextStage) → IsAlike s r → r.ended ≡ s.ended
 alike_done s r a = ap (λ (x : TextStage). x.ended) a.same
 
 -- ---- what follows from a kept text
@@ -206,7 +206,7 @@ moved_keeps at s k h = record { goes_on = h.goes_on; reached = moved_reached at 
 
 -- ---- what is open
 
-state_alike : (s : TextStage) (k : List ℕ) → Keeps s k → (stage_after k).state ≡ outside s.state
+pub state_alike : (s : TextStage) (k : List ℕ) → Keeps s k → (stage_after k).state ≡ outside s.state
 state_alike s k h = ap (λ (x : TextStage). x.state) h.alike.same
 
 pub opener_open : (s : TextStage) (k : List ℕ) → Keeps s k → is_some (opener_of s) ≡ is_open_after_text k
