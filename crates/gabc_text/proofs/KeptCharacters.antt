@@ -15,7 +15,7 @@ use Rattle.gabc_text.specs.View.{kept}
 use Rattle.gabc_text.proofs.events.EventsByPointAreEvents.{points_joined}
 use Rattle.gabc_text.proofs.events.EventsBuildText.{kept_whole}
 
-kept_append : (a b : List TextEvent) → kept_chars_in (a ++ b) ≡ kept_chars_in a ++ kept_chars_in b
+pub kept_append : (a b : List TextEvent) → kept_chars_in (a ++ b) ≡ kept_chars_in a ++ kept_chars_in b
 kept_append [] b = refl
 kept_append (out.Kept c ∷ a) b = ap (λ (v : List Char). c ∷ v) (kept_append a b)
 kept_append (_ ∷ a) b = kept_append a b

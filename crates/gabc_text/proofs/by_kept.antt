@@ -1,8 +1,12 @@
+pub mod CodesByKept
 pub mod CutTokens
+pub mod EmittedByStages
+pub mod EventsAreByKept
 pub mod FatesInText
 pub mod FatesOfStages
 pub mod KeptByFates
 pub mod KeptTextExamples
 pub mod StageAfterText
+pub mod TextEventsByKept
 pub mod ViewIsKept
 pub mod ViewOfKept

@@ -1,3 +1,4 @@
+pub mod EmittedByKept
 pub mod EventsLeft
 pub mod FactsPast
 pub mod FatesOfTokens

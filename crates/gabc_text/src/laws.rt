@@ -1,7 +1,7 @@
 //! Laws of the definitions that contracts speak of. Each function is there for its clauses: all but
 //! two do nothing, and these drive a fresh stage.
 
-ghost use Rattle.std.specs.Prelude.{◌≡◌, ℕ, ◌+◌, ◌<◌, List, [], ◌∷◌, ◌++◌, length, take, drop, true, false, cond, codes, Decides, None, encode_utf8_all, reverse};
+ghost use Rattle.std.specs.Prelude.{◌≡◌, ℕ, ◌+◌, ◌<◌, List, [], ◌∷◌, ◌++◌, length, take, drop, true, false, cond, codes, Decides, None, encode_utf8_all, reverse, map};
 ghost use Rattle.gabc_places.specs.StageLaw.{concat_of};
 ghost use Rattle.std.specs.List.{All};
 ghost use Rattle.gabc_places.specs.Findings.{AreInOrder, LieBetween};
@@ -18,6 +18,7 @@ ghost use Rattle.gabc_text.specs.TextRead.{view_in};
 ghost use Rattle.gabc_places.specs.Fate.{Comment, Ends};
 ghost use Rattle.gabc_text.specs.KeptText.{view_of_kept, belongs, fate_in_text, kept_after, codes_with};
 ghost use Rattle.gabc_text.specs.witness.TextByKept.{kept_past};
+ghost use Rattle.gabc_text.specs.witness.EmittedByKept.{emitted, emitted_past, text_begins};
 ghost use Rattle.gabc_text.specs.witness.FatesOfTokens.{fate_of_token};
 ghost use Rattle.gabc_text.specs.Token.{Token, tokens};
 ghost use Rattle.gabc_text.specs.declared.token.TokenKind.TheVariants as kind;
@@ -316,6 +317,13 @@ pub fn a_stage_follows_fates()
 /// after what is kept before it, and by whether a comment is open.
 pub fn a_text_is_kept_by_fates()
     ensures { (t : List ℕ) → kept t ≡ kept_past [] false t }
+{}
+
+/// Law: what is emitted of a text with each character, but for the parts of its view, follows from
+/// what is kept of the text before, whether a comment is open, and the place of what is open.
+pub fn text_events_are_by_kept()
+    ensures { (at : Place) (t : List ℕ) → CountsFit at t →
+        map emitted (events_by_point at t) ≡ emitted_past text_begins at t }
 {}
 
 /// Law: a stage that has not ended takes each character: it emits some events, and from then on

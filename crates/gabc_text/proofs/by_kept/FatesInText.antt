@@ -18,7 +18,7 @@ use Rattle.gabc_text.specs.witness.FatesOfTokens.{fate_of_token}
 use Rattle.gabc_text.proofs.by_kept.ViewOfKept.{Alike}
 use Rattle.gabc_text.proofs.by_kept.ViewIsKept.{tokens_alike}
 
-open_by : (b : List Token) (s : Style) → is_open s b ≡ has_style (facts_of b).styles s
+pub open_by : (b : List Token) (s : Style) → is_open s b ≡ has_style (facts_of b).styles s
 open_by b s = grind arith
 
 open_same : (b c : List Token) (s : Style) → Alike b c → is_open s b ≡ is_open s c

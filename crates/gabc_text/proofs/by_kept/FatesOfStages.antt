@@ -47,7 +47,7 @@ pub record IsFate (b : List Token) (f : TextFacts) (m : TokenState) (c : ℕ) : 
 between : (b : List Token) (f : TextFacts) (c : ℕ) → f ≡ facts_of b → follows_space b ≡ ends_blank b → belongs b c ≡ false → IsFate b f Plain c
 between b f c e s q = record { fate = kept_by b c q ∙ rw (e, s) refl; part = q }
 
-part_kept : (b : List Token) (c : ℕ) → belongs b c ≡ true → fate_in_text b c ≡ Keep
+pub part_kept : (b : List Token) (c : ℕ) → belongs b c ≡ true → fate_in_text b c ≡ Keep
 part_kept b c e = rw e refl
 
 after_dollar : (before : List Token) (f : TextFacts) (k : Token) (c : ℕ) → f ≡ facts_of before → k.kind ≡ kind.Letter → spelling k ≡ 36 ∷ [] → IsFate (k ∷ before) f Dollar c
@@ -63,17 +63,17 @@ after_dollar before f k c e g h = by (is_special c) refl
 inside : (before : List Token) (k : Token) (c : ℕ) → is_open_kind k.kind ≡ true → (fate_in_text (k ∷ before) c ≡ Keep) × (belongs (k ∷ before) c ≡ true)
 inside before k c e = (rw e refl, rw e refl)
 
+pub tokens_are : (s : TextStage) (k : List ℕ) (h : Stands s k) → reverse (tokens k) ≡ onto (tokens h.held) h.before
+tokens_are s k h = sym (turned (tokens k)) ∙ ap (λ (x : List ℕ). onto (tokens x) []) (sym (append-nil k)) ∙ h.cuts [] ∙ ap (λ (x : List ℕ). onto (tokens x) h.before) (append-nil h.held)
+
 pub fate_there : (s : TextStage) (k : List ℕ) → Stands s k → kept k ≡ k → is_comment s.state ≡ false → (c : ℕ) → IsFate (reverse (tokens k)) s.facts s.state c
 fate_there s k h whole apart c = by s.state refl apart (ends s.state h.held h.holds)
   where
-    tokens_are : reverse (tokens k) ≡ onto (tokens h.held) h.before
-    tokens_are = sym (turned (tokens k)) ∙ ap (λ (x : List ℕ). onto (tokens x) []) (sym (append-nil k)) ∙ h.cuts [] ∙ ap (λ (x : List ℕ). onto (tokens x) h.before) (append-nil h.held)
-
     blank : follows_space (reverse (tokens k)) ≡ ends_blank (reverse (tokens k))
     blank = (tokens_alike k).blank ∙ ap (λ (x : List ℕ). ends_blank (reverse (tokens x))) whole
 
     one : (token : Token) → tokens h.held ≡ token ∷ [] → reverse (tokens k) ≡ token ∷ h.before
-    one token e = tokens_are ∙ ap (λ (ks : List Token). onto ks h.before) e
+    one token e = tokens_are s k h ∙ ap (λ (ks : List Token). onto ks h.before) e
 
     within : (m : TokenState) (token : Token) → belongs_by m c ≡ true → fate_by s.facts m c ≡ Keep → is_open_kind token.kind ≡ true → tokens h.held ≡ token ∷ [] → IsFate (reverse (tokens k)) s.facts m c
     within m token b f i e =
@@ -82,7 +82,7 @@ fate_there s k h whole apart c = by s.state refl apart (ends s.state h.held h.ho
 
     by : (m : TokenState) → s.state ≡ m → is_comment m ≡ false → EndsAs (kind_at_end m) h.held → IsFate (reverse (tokens k)) s.facts m c
     by Plain e a g =
-        let same : reverse (tokens k) ≡ h.before = tokens_are ∙ ap (λ (ks : List Token). onto ks h.before) g in
+        let same : reverse (tokens k) ≡ h.before = tokens_are s k h ∙ ap (λ (ks : List Token). onto ks h.before) g in
         between (reverse (tokens k)) s.facts c (h.facts ∙ ap facts_of (sym same)) blank (ap (λ (ks : List Token). belongs ks c) same ∙ h.quiet (ap is_plain e) c)
     by Dollar e a g =
         subst (λ (ks : List Token). IsFate ks s.facts Dollar c) (sym (one g.0 g.3))
@@ -172,7 +172,7 @@ module _ (s : TextStage) (k : List ℕ) (keeps : Keeps s k) where
   pub after_goes : (stage_after k).ended ≡ false
   after_goes = alike_done s (stage_after k) keeps.alike ∙ keeps.goes_on
 
-  stands : Stands (stage_after k) k
+  pub stands : Stands (stage_after k) k
   stands = stands_past (fresh_stage nowhere) [] k (stands_fresh nowhere) after_goes
 
   pub whole_kept : kept k ≡ k

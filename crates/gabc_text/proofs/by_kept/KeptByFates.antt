@@ -51,7 +51,7 @@ read_more s p c h on = record {
 held_none : (m : TokenState) (held : List ℕ) → is_plain m ≡ true → Holds m held → (held ≡ []) × (kept_held m held ≡ [])
 held_none m held e h = grind arith
 
-and_both : (a b : Bool) → (a && b) ≡ true → (a ≡ true) × (b ≡ true)
+pub and_both : (a b : Bool) → (a && b) ≡ true → (a ≡ true) × (b ≡ true)
 and_both a b e = grind arith
 
 pub kept_at_end : (s : TextStage) (p : List ℕ) (c : ℕ) (t : List ℕ) → Stands s p → (push_stage s c).ended ≡ true → kept (p ++ c ∷ t) ≡ kept p
@@ -107,7 +107,7 @@ opens_by f Translation c a = refl
 -- ---- one character
 
 module _ (s : TextStage) (p : List ℕ) (c : ℕ) (h : HasRead s p) where
-  abbrev last : List Token
+  abbrev pub last : List Token
   last = reverse (tokens (kept p))
 
   pub fate_now : IsFate last s.facts (outside s.state) c
@@ -117,17 +117,17 @@ module _ (s : TextStage) (p : List ℕ) (c : ℕ) (h : HasRead s p) where
   pub ends_now : ends (fate_in_text last c) ≡ (is_plain (outside s.state) && c == 40)
   ends_now = ap ends fate_now.fate ∙ ends_by s.facts (outside s.state) c (never_open s.state)
 
-  opens_now : opens (fate_in_text last c) ≡ (is_plain (outside s.state) && c == 37)
+  pub opens_now : opens (fate_in_text last c) ≡ (is_plain (outside s.state) && c == 37)
   opens_now = ap opens fate_now.fate ∙ opens_by s.facts (outside s.state) c (never_open s.state)
 
-  after_now : kept_after last c ≡ kept_by_state s.facts (outside s.state) c
+  pub after_now : kept_after last c ≡ kept_by_state s.facts (outside s.state) c
   after_now = let f = fate_now in rw (f.fate, f.part) refl
 
   -- where a comment goes on
-  abbrev is_passed : Bool
+  abbrev pub is_passed : Bool
   is_passed = comment_in s && not (c == 10)
 
-  passed_none : is_passed ≡ true → option_to_list (kept_at s c) ≡ []
+  pub passed_none : is_passed ≡ true → option_to_list (kept_at s c) ≡ []
   passed_none e =
       let b = and_both (comment_in s) (not (c == 10)) e in
       ap option_to_list (comment_kept s c (comment_is s.state b.0) (falsely (c == 10) b.1))
@@ -135,14 +135,14 @@ module _ (s : TextStage) (p : List ℕ) (c : ℕ) (h : HasRead s p) where
       falsely : (b : Bool) → not b ≡ true → b ≡ false
       falsely b e = grind arith
 
-  passed_stays : (push_stage s c).ended ≡ false → is_passed ≡ true → comment_in (push_stage s c) ≡ comment_in s
+  pub passed_stays : (push_stage s c).ended ≡ false → is_passed ≡ true → comment_in (push_stage s c) ≡ comment_in s
   passed_stays on e = let b = and_both (comment_in s) (not (c == 10)) e in comment_goes s c h.stands.going on ∙ by (comment_in s) b.0 b.1
     where
       by : (x : Bool) → x ≡ true → not (c == 10) ≡ true → (if x then not (c == 10) else (c == 37 && is_plain s.state)) ≡ x
       by x e f = grind arith
 
   -- and where none is open, or it ends
-  going_kept : (push_stage s c).ended ≡ false → is_passed ≡ false → option_to_list (kept_at s c) ≡ kept_by_state s.facts (outside s.state) c
+  pub going_kept : (push_stage s c).ended ≡ false → is_passed ≡ false → option_to_list (kept_at s c) ≡ kept_by_state s.facts (outside s.state) c
   going_kept on e = by s.state refl e
     where
       by : (m : TokenState) → s.state ≡ m → (is_comment m && not (c == 10)) ≡ false → option_to_list (kept_at s c) ≡ kept_by_state s.facts (outside m) c
@@ -153,13 +153,13 @@ module _ (s : TextStage) (p : List ℕ) (c : ℕ) (h : HasRead s p) where
       by (Raw raw n) f e = kept_going s c h.stands.going on (ap is_comment f) ∙ ap (λ (m : TokenState). kept_by_state s.facts m c) f
       by Translation f e = kept_going s c h.stands.going on (ap is_comment f) ∙ ap (λ (m : TokenState). kept_by_state s.facts m c) f
 
-  going_comment : (push_stage s c).ended ≡ false → is_passed ≡ false → comment_in (push_stage s c) ≡ (is_plain (outside s.state) && c == 37)
+  pub going_comment : (push_stage s c).ended ≡ false → is_passed ≡ false → comment_in (push_stage s c) ≡ (is_plain (outside s.state) && c == 37)
   going_comment on e = comment_goes s c h.stands.going on ∙ by s.state refl e
     where
       by : (m : TokenState) → s.state ≡ m → (is_comment m && not (c == 10)) ≡ false → (if is_comment m then not (c == 10) else (c == 37 && is_plain m)) ≡ (is_plain (outside m) && c == 37)
       by m f e = grind (arith, nat_tests)
 
-  going_on : (push_stage s c).ended ≡ false → is_passed ≡ false → (is_plain (outside s.state) && c == 40) ≡ false
+  pub going_on : (push_stage s c).ended ≡ false → is_passed ≡ false → (is_plain (outside s.state) && c == 40) ≡ false
   going_on on e = by s.state refl e
     where
       by : (m : TokenState) → s.state ≡ m → (is_comment m && not (c == 10)) ≡ false → (is_plain (outside m) && c == 40) ≡ false

@@ -56,7 +56,7 @@ pub record Settled (s : TextStage) (p : List ℕ) (c : ℕ) : Type 0 where
   pub cuts : (u : List ℕ) → onto (tokens (p ++ c ∷ u)) [] ≡ onto (tokens (held ++ c ∷ u)) before
   pub facts : s.facts ≡ facts_of before
 
-token_facts : (before : List Token) (facts : TextFacts) (k : TokenKind) (so : TagEffect) (token : Token) → facts ≡ facts_of before → token.kind ≡ k → effect token ≡ so → facts_after facts k so ≡ facts_of (token ∷ before)
+pub token_facts : (before : List Token) (facts : TextFacts) (k : TokenKind) (so : TagEffect) (token : Token) → facts ≡ facts_of before → token.kind ≡ k → effect token ≡ so → facts_after facts k so ≡ facts_of (token ∷ before)
 token_facts before facts k so token e f g = rw (e, ← f, ← g) (facts_more before token)
 
 token_is_kept : (before : List Token) (facts : TextFacts) (k : TokenKind) (token : Token) → facts ≡ facts_of before → token.kind ≡ k → token_kept before token ≡ kept_by facts k (spelling token)
@@ -170,10 +170,10 @@ read s p c h apart = by (next_step s.state c) refl (goes s.state h.held c h.hold
 apart_from_notes : (r : TextStage) (c : ℕ) → (settled_push_stage r c).ended ≡ false → is_plain r.state ≡ true → c == 40 ≡ false
 apart_from_notes r c e f = grind arith
 
-goes_so : (r : TextStage) (c : ℕ) → (settled_push_stage r c).ended ≡ false → settled_push_stage r c ≡ read_stage r c
+pub goes_so : (r : TextStage) (c : ℕ) → (settled_push_stage r c).ended ≡ false → settled_push_stage r c ≡ read_stage r c
 goes_so r c e = grind arith
 
-pushed : (s : TextStage) (c : ℕ) → s.ended ≡ false → push_stage s c ≡ settled_push_stage (settle_stage s c) c
+pub pushed : (s : TextStage) (c : ℕ) → s.ended ≡ false → push_stage s c ≡ settled_push_stage (settle_stage s c) c
 pushed s c e = rw e refl
 
 -- one character more

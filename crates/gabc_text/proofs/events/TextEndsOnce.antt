@@ -19,7 +19,7 @@ use Rattle.gabc_text.proofs.tokens.TextIsTokensAndRest.{AllGo, parted}
 use Rattle.gabc_text.proofs.tokens.TokensSpellPrefix.{left_of}
 use Rattle.gabc_text.proofs.order.FindingsLieWithin.{many_lists, events_parted}
 
-ends_more : (xs ys : List TextEvent) → ends_in (xs ++ ys) ≡ ends_in xs ++ ends_in ys
+pub ends_more : (xs ys : List TextEvent) → ends_in (xs ++ ys) ≡ ends_in xs ++ ends_in ys
 ends_more [] ys = refl
 ends_more (out.Ended e ∷ xs) ys = ap (λ (x : List TextEnd). e ∷ x) (ends_more xs ys)
 ends_more (_ ∷ xs) ys = ends_more xs ys

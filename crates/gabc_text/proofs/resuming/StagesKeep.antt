@@ -39,7 +39,7 @@ use Rattle.gabc_text.proofs.resuming.WhatStagesTell.{next_goes, opener_goes, com
 
 -- ---- one character more
 
-past_more : (s : TextStage) (k : List ℕ) (d : ℕ) → stage_past s (k ++ d ∷ []) ≡ push_stage (stage_past s k) d
+pub past_more : (s : TextStage) (k : List ℕ) (d : ℕ) → stage_past s (k ++ d ∷ []) ≡ push_stage (stage_past s k) d
 past_more s [] d = refl
 past_more s (c ∷ k) d = past_more (push_stage s c) k d
 

@@ -24,7 +24,7 @@ use Rattle.gabc_text.proofs.resuming.KeptCharactersSuffice.{tag_on, raw_on, tran
 read_next : (u : TextStage) (c : ℕ) (st : Step) → next_of (stage_after_step (stage_past_char u c) st) ≡ saturating_next_place (next_of u) c
 read_next u c st = grind arith
 
-settled_next : (s : TextStage) (o : Option TokenKind) → next_of (settle_stage_by s o) ≡ next_of s
+pub settled_next : (s : TextStage) (o : Option TokenKind) → next_of (settle_stage_by s o) ≡ next_of s
 settled_next s o = grind arith
 
 pub next_goes : (s : TextStage) (c : ℕ) → s.ended ≡ false → (push_stage s c).ended ≡ false → next_of (push_stage s c) ≡ saturating_next_place (next_of s) c
