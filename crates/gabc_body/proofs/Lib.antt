@@ -1,5 +1,6 @@
 pub mod SnippetsAsKept
 pub mod SnippetsWithBars
+pub mod by_kept
 pub mod emitted
 pub mod gathering
 pub mod holding

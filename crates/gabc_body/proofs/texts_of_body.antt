@@ -1,3 +1,4 @@
+pub mod BodyFits
 pub mod SeamsOfCharacters
 pub mod SlicesOfTexts
 pub mod TextEmitsThroughEnd

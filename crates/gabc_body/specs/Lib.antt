@@ -8,6 +8,7 @@ pub mod Holding
 pub mod Marks
 pub mod NoteBeforeClef
 pub mod OpenSpans
+pub mod Reading
 pub mod Score
 pub mod ScoreEvents
 pub mod SpansPast

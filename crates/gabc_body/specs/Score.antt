@@ -13,8 +13,7 @@ use Rattle.gabc_body.specs.declared.ending.InputEnding.{InputEnding}
 use Rattle.gabc_body.specs.declared.ending.InputEnding.TheVariants.{Whole, Broken, At}
 use Rattle.gabc_body.specs.declared.body_result.BodyResult.{BodyResult}
 use Rattle.gabc_body.specs.declared.score.Score.{Score}
-use Rattle.gabc_body.specs.Body.{body_of}
-use Rattle.gabc_body.specs.NoteBeforeClef.{score_events}
+use Rattle.gabc_body.specs.Reading.{body_by}
 
 -- the text through the `%%` that ends the headers, and the body after it
 abbrev pub heads_text : List ℕ → List ℕ
@@ -26,8 +25,8 @@ after_heads t = drop (head_len t + 2) t
 -- the body of a text with these headers, which ended so
 abbrev pub body_in : Limits → InputEnding → List ℕ → Heads → BodyResult
 body_in limits ending t heads =
-    let xs = placed_characters_after (heads_text t) (after_heads t) in
-    body_of limits (bytes_len (canonical_heads heads.book)) heads.findings (place_after t) ending xs (score_events (nabc_lines_of heads.book) (macros_of heads.book) xs)
+    body_by limits (bytes_len (canonical_heads heads.book)) (nabc_lines_of heads.book) (macros_of heads.book) heads.findings (place_after t) ending
+    (placed_characters_after (heads_text t) (after_heads t))
 
 abbrev pub with_body : Heads → BodyResult → Score
 with_body heads body = record { book = Some heads.book; syllables = body.syllables; findings = body.findings; fault = body.fault }

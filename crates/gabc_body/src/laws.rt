@@ -26,7 +26,8 @@ ghost use Rattle.gabc_body.specs.FoundInParts.{TextWarns, UnitsWarn};
 ghost use Rattle.gabc_headers.specs.Canonical.{canonical_heads};
 ghost use Rattle.gabc_text.specs.Events.{codes_of};
 ghost use Rattle.gabc_body.specs.declared.ending.InputEnding.TheVariants.{Whole, Broken, At};
-ghost use Rattle.gabc_body.specs.Score.{score_of};
+ghost use Rattle.gabc_body.specs.Score.{body_in, score_of};
+ghost use Rattle.gabc_body.specs.witness.EmittedScore.{emitted_body, emitted_score};
 ghost use Rattle.gabc_body.specs.SyllablesOfUnits.{ScoreUnit, unit_characters, closed_units, score_units, units_within, whole_prefix, AreSyllablesOf, IsBodyCut, AreBeforeBodyStop};
 ghost use Rattle.gabc_body.specs.Body.{events_to_stop, events_onto, code_at};
 ghost use Rattle.gabc_body.specs.Stops.{StopsAt, NeverStops};
@@ -85,7 +86,7 @@ pub fn units_end_at_their_marks()
 /// one place by their codes, and none stands twice.
 pub fn findings_in_order()
     ensures { (limits : Limits) (ending : InputEnding) (t : List ℕ) → length t < 2 ^ 63 →
-        AreInOrder (score_of limits ending t).findings }
+        AreInOrder (emitted_score limits ending t).findings }
 {
     gabc_headers::laws::findings_in_order();
     gabc_headers::laws::findings_lie_before_the_body();
@@ -99,6 +100,23 @@ pub fn findings_in_order()
     gabc_nabc::laws::findings_are_in_order();
     gabc_nabc::laws::findings_lie_within();
     gabc_nabc::laws::a_snippet_ends_at_its_mark();
+}
+
+/// Law: what is read of a text by what is kept of it is what the score says by all that its body
+/// emits, if its characters are Unicode scalar values and it has fewer than 2^63 bytes.
+pub fn a_score_says_what_is_kept()
+    ensures body { (limits : Limits) (ending : InputEnding) (t : List ℕ) (heads : Heads) →
+        All IsScalar t → length (encode_utf8_all t) < 2 ^ 63 →
+        body_in limits ending t heads ≡ emitted_body limits ending t heads }
+    ensures score { (limits : Limits) (ending : InputEnding) (t : List ℕ) →
+        All IsScalar t → length (encode_utf8_all t) < 2 ^ 63 →
+        score_of limits ending t ≡ emitted_score limits ending t }
+{
+    gabc_text::laws::text_events_are_by_kept();
+    gabc_text::laws::a_text_says_what_is_kept();
+    gabc_text::laws::events_build_the_text();
+    gabc_text::laws::events_by_point_are_the_events();
+    gabc_text::laws::a_text_ends_once();
 }
 
 /// Law: the reading of a body stops at the first character at which a limit is passed, if there is
@@ -120,11 +138,11 @@ pub fn the_stop_is_the_first_point()
 pub fn a_syllable_holds_its_parts()
     ensures held { (limits : Limits) (ending : InputEnding) (t : List ℕ) →
         length (encode_utf8_all t) < 2 ^ 63 →
-        (let score = score_of limits ending t in
+        (let score = emitted_score limits ending t in
         All (λ (s : PlacedSyllable). HoldsParts t (lines_of score) s.made) score.syllables) }
     ensures noted { (limits : Limits) (ending : InputEnding) (t : List ℕ) →
         length (encode_utf8_all t) < 2 ^ 63 →
-        (let score = score_of limits ending t in
+        (let score = emitted_score limits ending t in
         (before after : List PlacedSyllable) (s next : PlacedSyllable) →
         score.syllables ≡ before ++ s ∷ next ∷ after → HoldsWithNotes t (lines_of score) s.made) }
     ensures bytes { (text : List ℕ) (span : Span) (part : List ℕ) → StandsFor text span part →
@@ -141,7 +159,7 @@ pub fn a_syllable_holds_its_parts()
 pub fn snippets_stand_between_characters()
     ensures { (limits : Limits) (ending : InputEnding) (t : List ℕ) →
         length (encode_utf8_all t) < 2 ^ 63 →
-        All (λ (s : PlacedSyllable). HasWholeSnippets s.made) (score_of limits ending t).syllables }
+        All (λ (s : PlacedSyllable). HasWholeSnippets s.made) (emitted_score limits ending t).syllables }
 {
     a_syllable_holds_its_parts();
 }
@@ -149,7 +167,7 @@ pub fn snippets_stand_between_characters()
 /// Law: what a score finds is an error or a warning: no finding is a fault.
 pub fn findings_are_no_faults()
     ensures { (limits : Limits) (ending : InputEnding) (t : List ℕ)
-        → All (λ (f : Finding). severity_of f.code ≢ Fatal) (score_of limits ending t).findings }
+        → All (λ (f : Finding). severity_of f.code ≢ Fatal) (emitted_score limits ending t).findings }
 {
     gabc_text::laws::findings_lie_within();
 }
@@ -163,7 +181,7 @@ pub fn a_score_warns_as_its_parts_do()
         → cut.units ≡ Some (record { closed = units; last = JustText last })
         → All IsWarning heads.findings
         → UnitsWarn (nabc_lines_of heads.book) (macros_of heads.book) units (JustText last)
-        → TextWarns (codes_of last) → All IsWarning (score_of limits ending t).findings }
+        → TextWarns (codes_of last) → All IsWarning (emitted_score limits ending t).findings }
 {
     gabc_text::laws::findings_lie_within();
 }
@@ -192,13 +210,13 @@ pub fn the_syllables_are_those_of_the_units()
         → IsCut texts lines macros xs cut → xs ≡ cut.comment ++ unit_characters cut.units }
     ensures whole { (limits : Limits) (t : List ℕ) (book : List (List ℕ × List ℕ))
         (cut : BodyCutting) → length (encode_utf8_all t) < 2 ^ 63
-        → (let score = score_of limits Whole t in
+        → (let score = emitted_score limits Whole t in
         score.book ≡ Some book → IsBodyCut book t cut → score.fault ≡ None
         → AreSyllablesOf (nabc_lines_of book) (score_units cut.units) score.syllables) }
     ensures stopped { (limits : Limits) (ending : InputEnding) (t : List ℕ)
         (book : List (List ℕ × List ℕ)) (cut : BodyCutting) (n : ℕ)
         → length (encode_utf8_all t) < 2 ^ 63
-        → (let score = score_of limits ending t in
+        → (let score = emitted_score limits ending t in
         score.book ≡ Some book → IsBodyCut book t cut → AreBeforeBodyStop limits book t n
         → ¬ ((ending ≡ Whole) × (score.fault ≡ None))
         → AreSyllablesOf (nabc_lines_of book)
@@ -229,8 +247,8 @@ pub fn a_stopped_score_is_that_of_its_prefix()
     ensures { (limits : Limits) (ending : InputEnding) (t : List ℕ)
         (book : List (List ℕ × List ℕ)) (cut : BodyCutting) (n : ℕ)
         → length (encode_utf8_all t) < 2 ^ 63
-        → (let score = score_of limits ending t in
-        let again = score_of limits Whole (whole_prefix t cut n) in
+        → (let score = emitted_score limits ending t in
+        let again = emitted_score limits Whole (whole_prefix t cut n) in
         score.book ≡ Some book → IsBodyCut book t cut → AreBeforeBodyStop limits book t n
         → ¬ ((ending ≡ Whole) × (score.fault ≡ None))
         → (again.book ≡ score.book)
@@ -254,7 +272,7 @@ pub fn a_stopped_score_is_that_of_its_prefix()
 pub fn given_syllables_are_within_the_limits()
     ensures { (limits : Limits) (ending : InputEnding) (t : List ℕ)
         (book : List (List ℕ × List ℕ))
-        → (let score = score_of limits ending t in
+        → (let score = emitted_score limits ending t in
         score.book ≡ Some book
         → AreWithin limits (length (encode_utf8_all (canonical_heads book))) score.syllables) }
 {
@@ -266,7 +284,7 @@ pub fn given_syllables_are_within_the_limits()
 /// two bytes of the canonical file.
 pub fn syllables_are_fewer_than_bytes()
     ensures { (limits : Limits) (ending : InputEnding) (t : List ℕ) →
-        2 * length (score_of limits ending t).syllables ≤ limits.input }
+        2 * length (emitted_score limits ending t).syllables ≤ limits.input }
 {
     given_syllables_are_within_the_limits();
 }
@@ -277,7 +295,7 @@ pub fn syllables_are_fewer_than_bytes()
 pub fn no_limit_is_passed_by_short_units()
     ensures { (limits : Limits) (t : List ℕ) (book : List (List ℕ × List ℕ)) (cut : BodyCutting)
         (units : List BodyUnit) (last : List Char) → length (encode_utf8_all t) < 2 ^ 63
-        → (let score = score_of limits Whole t in
+        → (let score = emitted_score limits Whole t in
         score.book ≡ Some book → IsBodyCut book t cut
         → cut.units ≡ Some (record { closed = units; last = JustText last })
         → codes_of last ≡ 10 ∷ []
@@ -299,8 +317,8 @@ pub fn no_limit_is_passed_by_short_units()
 pub fn larger_limits_change_no_score()
     ensures { (limits larger : Limits) (ending : InputEnding) (t : List ℕ)
         → AreNoLess limits larger → limits.input ≡ larger.input
-        → is_stopped_too_long (score_of limits ending t).fault ≡ false
-        → score_of larger ending t ≡ score_of limits ending t }
+        → is_stopped_too_long (emitted_score limits ending t).fault ≡ false
+        → emitted_score larger ending t ≡ emitted_score limits ending t }
 {
     gabc_headers::laws::larger_limits_change_no_headers();
 }
@@ -310,14 +328,14 @@ pub fn larger_limits_change_no_score()
 /// fault. The end is emitted where the input has ended and nothing stopped the reading.
 pub fn a_score_says_what_it_emits()
     ensures findings { (limits : Limits) (ending : InputEnding) (t : List ℕ) →
-        findings_in (outputs_of_text limits ending t) ≡ (score_of limits ending t).findings }
+        findings_in (outputs_of_text limits ending t) ≡ (emitted_score limits ending t).findings }
     ensures syllables { (limits : Limits) (ending : InputEnding) (t : List ℕ) →
-        syllables_in (outputs_of_text limits ending t) ≡ (score_of limits ending t).syllables }
+        syllables_in (outputs_of_text limits ending t) ≡ (emitted_score limits ending t).syllables }
     ensures fault { (limits : Limits) (ending : InputEnding) (t : List ℕ) →
-        fault_in (outputs_of_text limits ending t) ≡ (score_of limits ending t).fault }
+        fault_in (outputs_of_text limits ending t) ≡ (emitted_score limits ending t).fault }
     ensures end { (limits : Limits) (ending : InputEnding) (t : List ℕ) →
         has_end (outputs_of_text limits ending t)
-        ≡ is_whole ending (score_of limits ending t).fault }
+        ≡ is_whole ending (emitted_score limits ending t).fault }
 {}
 
 /// Law: the events that a score takes of a text are those that a stage of headers emits of it,

@@ -7,7 +7,7 @@ use Rattle.gabc_notes.specs.ReadAgain.{IsWarning}
 use Rattle.gabc_headers.specs.Book.{nabc_lines_of}
 use Rattle.gabc_body.specs.declared.ending.InputEnding.TheVariants.{Whole}
 use Rattle.gabc_body.specs.declared.score.Score.{Score}
-use Rattle.gabc_body.specs.Score.{score_of}
+use Rattle.gabc_body.specs.witness.EmittedScore.{emitted_score}
 use Rattle.gabc_body.specs.Syllable.{PlacedSyllable}
 use Rattle.gabc_body.specs.SyllablesOfUnits.{ScoreUnit, AreSyllablesOf}
 use Rattle.gabc_write.specs.BodyAgain.{SyllableFacts, AreSyllables, FirstBeginsWord, AreFactsOf, ArePrintedTexts}
@@ -49,8 +49,8 @@ pub record IsScoreAgain (limits : Limits) (input : List ℕ) (book : List (List 
   pub fits : length (score_text book syllables) ≤ limits.input
   pub decoded : (ended : Bool) → decoded_of limits ended (score_text book syllables) ≡ record { text = printed_file book printed.facts; fault = None }
   pub file : IsFileAgain limits book printed.facts
-  pub no_fault : (score_of limits Whole (printed_file book printed.facts)).fault ≡ None
-  pub warnings : All IsWarning (score_of limits Whole (printed_file book printed.facts)).findings
-  pub same : IsSameScore book printed.facts (score_of limits Whole (printed_file book printed.facts))
-  pub same_meaning : AreSame (score_of limits Whole (printed_file book printed.facts)).syllables syllables
-  pub same_file : score_text book (score_of limits Whole (printed_file book printed.facts)).syllables ≡ score_text book syllables
+  pub no_fault : (emitted_score limits Whole (printed_file book printed.facts)).fault ≡ None
+  pub warnings : All IsWarning (emitted_score limits Whole (printed_file book printed.facts)).findings
+  pub same : IsSameScore book printed.facts (emitted_score limits Whole (printed_file book printed.facts))
+  pub same_meaning : AreSame (emitted_score limits Whole (printed_file book printed.facts)).syllables syllables
+  pub same_file : score_text book (emitted_score limits Whole (printed_file book printed.facts)).syllables ≡ score_text book syllables

@@ -15,7 +15,7 @@ ghost use Rattle.gabc_neumes.specs.InForce.{InForce, passed};
 ghost use Rattle.gabc_text.specs.ViewFacts.{view_facts};
 ghost use Rattle.gabc_body.specs.Events.{texts_by_definition};
 ghost use Rattle.gabc_body.specs.declared.ending.InputEnding.{InputEnding};
-ghost use Rattle.gabc_body.specs.Score.{score_of};
+ghost use Rattle.gabc_body.specs.witness.EmittedScore.{emitted_score};
 ghost use Rattle.gabc_score.specs.Before.{sounds};
 ghost use Rattle.gabc_body.specs.Syllable.{UnplacedSyllable, PlacedSyllable};
 ghost use Rattle.gabc_body.specs.Canonical.{canonical, starts_word};
@@ -160,7 +160,7 @@ pub fn file_again()
 pub fn score_is_printed()
     ensures { (limits : Limits) (ending : InputEnding) (t : List ℕ) (book : List (List ℕ × List ℕ))
         → length (encode_utf8_all t) < 2 ^ 63
-        → (let score = score_of limits ending t in
+        → (let score = emitted_score limits ending t in
         score.book ≡ Some book → IsPrintedScore t book score.syllables) }
 {
     gabc_score::laws::a_body_has_one_cutting();
@@ -174,13 +174,13 @@ pub fn score_is_printed()
 pub fn syllables_hold_units()
     ensures each { (limits : Limits) (ending : InputEnding) (t : List ℕ)
         (book : List (List ℕ × List ℕ)) → length (encode_utf8_all t) < 2 ^ 63
-        → (let score = score_of limits ending t in
+        → (let score = emitted_score limits ending t in
         score.book ≡ Some book → (before after : List PlacedSyllable) (s : PlacedSyllable)
         → score.syllables ≡ before ++ s ∷ after
         → HoldsSomeUnit (nabc_lines_of book) s.made ⊎ Holds HoldsNoNotes t s.made) }
     ensures earlier { (limits : Limits) (ending : InputEnding) (t : List ℕ)
         (book : List (List ℕ × List ℕ)) → length (encode_utf8_all t) < 2 ^ 63
-        → (let score = score_of limits ending t in
+        → (let score = emitted_score limits ending t in
         score.book ≡ Some book → (before after : List PlacedSyllable) (s next : PlacedSyllable)
         → score.syllables ≡ before ++ s ∷ next ∷ after
         → HoldsSomeUnit (nabc_lines_of book) s.made) }
@@ -202,7 +202,7 @@ pub fn score_again()
     ensures { (limits larger : Limits) (ending : InputEnding) (t : List ℕ)
         (book : List (List ℕ × List ℕ)) → AreNoLess limits larger
         → length (encode_utf8_all t) < 2 ^ 63 → IsText t
-        → (let score = score_of limits ending t in
+        → (let score = emitted_score limits ending t in
         score.book ≡ Some book → IsScoreAgain larger t book score.syllables) }
 {
     gabc_places::laws::text_again();

@@ -23,7 +23,8 @@ use Rattle.gabc_body.specs.Events.{texts_by_definition}
 use Rattle.gabc_body.specs.declared.ending.InputEnding.{InputEnding}
 use Rattle.gabc_body.specs.declared.ending.InputEnding.TheVariants as score_ending
 use Rattle.gabc_body.specs.declared.score.Score.{Score}
-use Rattle.gabc_body.specs.Score.{score_of, score_by}
+use Rattle.gabc_body.specs.Score.{score_of}
+use Rattle.gabc_body.specs.witness.EmittedScore.{emitted_score, emitted_score_by}
 use Rattle.gabc_body.specs.ScoreEvents.{ScoreOutput, findings_in, syllables_in, fault_in, has_end, head_events, outputs_of_text, score_outputs, is_whole as is_whole_score}
 use Rattle.gabc_score.specs.ScoreStage.{AreCountsBelow}
 use Rattle.gabc_score.specs.witness.ScoreStage.{ScoreStageState, left_of}
@@ -34,6 +35,7 @@ use Rattle.gregorio.specs.Outcome.{is_whole, is_cut_short, ending_by, outcome_of
 use Rattle.gregorio.specs.witness.Engine.{head_events_left, streams_from, text_of_heads}
 use Rattle.gregorio.specs.Streams.{Streams, after_bytes, streams_of_outcome}
 use Rattle.gregorio.specs.machine.ScoreWriter.{fresh_writer}
+use Rattle.gregorio.proofs.OutcomeIsEmitted.{outcome_is}
 use Rattle.gregorio.proofs.HeadersComeFirst.{NothingAfter, heads_first, nothing_after}
 use Rattle.gregorio.proofs.StreamsOfAFreshEngine.{SaysScore, stops_at, streams_same}
 use Rattle.gregorio.proofs.StreamsOfOutputs.{EndsAtLast, outputs_are_said}
@@ -57,7 +59,7 @@ given_are limits hasher ending t stop g = grind (arith, append-nil)
 
 -- the book is that of the headers
 book_by : (limits : Limits) (e : InputEnding) (t : List ℕ) (r : Result Heads HeadFault) (read : List (List ℕ × List ℕ)) → ((heads : Heads) → r ≡ Ok heads → read ≡ heads.book)
-    → IfSome (score_by limits e t r).book (λ book. read ≡ book)
+    → IfSome (emitted_score_by limits e t r).book (λ book. read ≡ book)
 book_by limits e t r read is = grind arith
 
 -- what holds of a text and a stage of scores that has taken nothing
@@ -65,9 +67,9 @@ pub record ReadsText (limits : Limits) (score : ScoreStageState) (e : InputEndin
   pub fresh : (xs : List HeadEvent) → AreCountsBelow xs → left_of score xs ≡ score_outputs texts_by_stage limits xs
   pub counts : AreCountsBelow (head_events limits e t)
   pub outputs : score_outputs texts_by_stage limits (head_events limits e t) ≡ score_outputs texts_by_definition limits (head_events limits e t)
-  pub score_is : SaysScore e (outputs_of_text limits e t) (score_of limits e t)
+  pub score_is : SaysScore e (outputs_of_text limits e t) (emitted_score limits e t)
   pub ends : EndsAtLast (Unit {0}) (outputs_of_text limits e t)
-  pub few : length (score_of limits e t).syllables < 2 ^ 64
+  pub few : length (emitted_score limits e t).syllables < 2 ^ 64
 
 module _ (job : Job) (limits : Limits) (score : ScoreStageState) (ending : SourceEnding) (decoded : Decoded) (r : ReadsText limits score (ending_by ending decoded.fault) decoded.text)
     (read : List (List ℕ × List ℕ)) (book : (heads : Heads) → heads_of limits decoded.text ≡ Ok heads → read ≡ heads.book) where
@@ -78,7 +80,7 @@ module _ (job : Job) (limits : Limits) (score : ScoreStageState) (ending : Sourc
   from_heads = head_events limits e decoded.text
 
   abbrev made : Score
-  made = score_of limits e decoded.text
+  made = emitted_score limits e decoded.text
 
   pub says_outcome : streams_from (fresh_writer job) read from_heads (left_of score from_heads) ≡ streams_of_outcome job (record { score = made; broken = is_cut_short ending made.fault })
   says_outcome =
@@ -102,12 +104,13 @@ pub record LawsBelow : Type 0 where
   pub counts : (limits : Limits) (e : InputEnding) (t : List ℕ) → length (encode_utf8_all t) < 2 ^ 63 → AreCountsBelow (head_events limits e t)
   pub outputs : (limits : Limits) (e : InputEnding) (t : List ℕ) → length (encode_utf8_all t) < 2 ^ 63
       → score_outputs texts_by_stage limits (head_events limits e t) ≡ score_outputs texts_by_definition limits (head_events limits e t)
-  pub findings : (limits : Limits) (e : InputEnding) (t : List ℕ) → findings_in (outputs_of_text limits e t) ≡ (score_of limits e t).findings
-  pub syllables : (limits : Limits) (e : InputEnding) (t : List ℕ) → syllables_in (outputs_of_text limits e t) ≡ (score_of limits e t).syllables
-  pub fault : (limits : Limits) (e : InputEnding) (t : List ℕ) → fault_in (outputs_of_text limits e t) ≡ (score_of limits e t).fault
+  pub findings : (limits : Limits) (e : InputEnding) (t : List ℕ) → findings_in (outputs_of_text limits e t) ≡ (emitted_score limits e t).findings
+  pub syllables : (limits : Limits) (e : InputEnding) (t : List ℕ) → syllables_in (outputs_of_text limits e t) ≡ (emitted_score limits e t).syllables
+  pub fault : (limits : Limits) (e : InputEnding) (t : List ℕ) → fault_in (outputs_of_text limits e t) ≡ (emitted_score limits e t).fault
   pub nothing_after : (limits : Limits) (xs : List HeadEvent) → NothingAfter (concat_of (score_outputs texts_by_definition limits xs))
-  pub end : (limits : Limits) (e : InputEnding) (t : List ℕ) → has_end (outputs_of_text limits e t) ≡ is_whole_score e (score_of limits e t).fault
-  pub few : (limits : Limits) (e : InputEnding) (t : List ℕ) → 2 * length (score_of limits e t).syllables ≤ limits.input
+  pub end : (limits : Limits) (e : InputEnding) (t : List ℕ) → has_end (outputs_of_text limits e t) ≡ is_whole_score e (emitted_score limits e t).fault
+  pub emitted : (limits : Limits) (e : InputEnding) (t : List ℕ) → All IsScalar t → length (encode_utf8_all t) < 2 ^ 63 → score_of limits e t ≡ emitted_score limits e t
+  pub few : (limits : Limits) (e : InputEnding) (t : List ℕ) → 2 * length (emitted_score limits e t).syllables ≤ limits.input
 
 module _ (below : LawsBelow) (job : Job) (limits : Limits) (hasher : DefaultHasher) (d : DecoderState) (score : ScoreStageState)
     (known : (bytes more : List ℕ) → concat_of (take (length bytes) (decoder.events_left d (bytes ++ more))) ≡ known_of limits bytes)
@@ -130,4 +133,5 @@ module _ (below : LawsBelow) (job : Job) (limits : Limits) (hasher : DefaultHash
       ap (λ (items : List (Result Char Fault)). let from_heads = head_events_left (fresh_stage limits hasher) ending items in
       streams_from (fresh_writer job) (stage_past (fresh_stage limits hasher) items).book from_heads (left_of score from_heads)) (items_are d limits known at_end ending bytes)
       ∙ (ap (λ (from_heads : List HeadEvent). streams_from (fresh_writer job) (stage_past (fresh_stage limits hasher) xs).book from_heads (left_of score from_heads)) (given_are limits hasher ending t decoded.fault step)
-      ∙ says_outcome job limits score ending decoded (reads (ending_by ending decoded.fault) bytes) (stage_past (fresh_stage limits hasher) xs).book (λ heads h. below.book limits hasher t heads decoded.fault scalars h))
+      ∙ says_outcome job limits score ending decoded (reads (ending_by ending decoded.fault) bytes) (stage_past (fresh_stage limits hasher) xs).book (λ heads h. below.book limits hasher t heads decoded.fault scalars h)
+      ∙ ap (streams_of_outcome job) (sym (outcome_is (record { scalars = below.scalars; short = below.short; emitted = below.emitted }) limits ending bytes)))

@@ -12,7 +12,7 @@ use Rattle.gabc_headers.specs.declared.head_event.HeadEvent.TheVariants as head_
 use Rattle.gabc_headers.specs.HeadEvents.{event_of_book}
 use Rattle.gabc_body.specs.Events.{Texts}
 use Rattle.gabc_body.specs.declared.ending.InputEnding.{InputEnding}
-use Rattle.gabc_body.specs.Score.{score_by}
+use Rattle.gabc_body.specs.witness.EmittedScore.{emitted_score_by}
 use Rattle.gabc_body.specs.ScoreEvents.{ScoreOutput, Found, Stop, Syllable, End, score_outputs, stop_events, head_events_by, is_last}
 use Rattle.gregorio.specs.Outcome.{shown_line, is_error_finding}
 use Rattle.gregorio.specs.Streams.{Streams, after_bytes, heads_text}
@@ -63,6 +63,6 @@ module _ (texts : Texts) (limits : Limits) (read : List (List ℕ × List ℕ)) 
 
   pub heads_first : (w : Written) (ending : InputEnding) (t : List ℕ) (r : Result Heads HeadFault)
       → (let from_heads = head_events_by ending t r in
-      let headed = is_some (score_by limits ending t r).book in
+      let headed = is_some (emitted_score_by limits ending t r).book in
       streams_from (going_on false w) read from_heads (says from_heads) ≡ after_bytes (text_of_heads w read headed) [] (streams_in (going_on headed w) (concat_of (says from_heads))))
   heads_first w ending t r = grind (arith, heads_and_rest, without_heads, no_heads)

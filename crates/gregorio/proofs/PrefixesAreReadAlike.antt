@@ -10,7 +10,7 @@ use Rattle.gabc_body.specs.declared.ending.InputEnding.{InputEnding}
 use Rattle.gabc_body.specs.declared.ending.InputEnding.TheVariants.{Whole as WholeInput}
 use Rattle.gabc_headers.specs.Book.{nabc_lines_of, macros_of}
 use Rattle.gabc_body.specs.Events.{Texts, texts_by_definition}
-use Rattle.gabc_body.specs.Score.{score_of}
+use Rattle.gabc_body.specs.witness.EmittedScore.{emitted_score}
 use Rattle.gabc_body.specs.SyllablesOfUnits.{body_characters, whole_prefix, IsBodyCut, AreBeforeBodyStop}
 use Rattle.gabc_body.specs.Syllable.{PlacedSyllable}
 use Rattle.gabc_body.specs.Units.{BodyCutting, IsCut}
@@ -21,6 +21,8 @@ use Rattle.gregorio.specs.declared.source_ending.SourceEnding.{SourceEnding}
 use Rattle.gregorio.specs.declared.source_ending.SourceEnding.TheVariants.{Whole as Ended}
 use Rattle.gregorio.specs.PrefixOfAStop.{IsPrefixBeforeStop, IsOutcomeOfPrefix}
 use Rattle.gregorio.specs.Outcome.{ending_by, is_cut_short, is_read_whole, is_whole, outcome_of, output_by}
+use Rattle.gregorio.specs.witness.EmittedOutcome.{emitted_outcome}
+use Rattle.gregorio.proofs.OutcomeIsEmitted.{ScoresAreRead, outcome_is}
 use Rattle.gregorio.proofs.OutputIsCompiledAgain.{made_of}
 
 -- ---- a stopped run
@@ -44,12 +46,12 @@ module _ (prefixes : (limits : Limits) (ended whole : Bool) (bytes : List ℕ) (
     (is_front : (book : List (List ℕ × List ℕ)) (t : List ℕ) (cut : BodyCutting) (n : ℕ) → IsBodyCut book t cut → (m : ℕ) × (whole_prefix t cut n ≡ take m t))
     (stop : (limits : Limits) (book : List (List ℕ × List ℕ)) (t : List ℕ) → (n : ℕ) × AreBeforeBodyStop limits book t n)
     (prefix : (limits : Limits) (ending : InputEnding) (t : List ℕ) (book : List (List ℕ × List ℕ)) (cut : BodyCutting) (n : ℕ) → length (encodes t) < 2 ^ 63
-    → (let score = score_of limits ending t in let again = score_of limits WholeInput (whole_prefix t cut n) in
+    → (let score = emitted_score limits ending t in let again = emitted_score limits WholeInput (whole_prefix t cut n) in
     score.book ≡ Some book → IsBodyCut book t cut → AreBeforeBodyStop limits book t n → ¬ ((ending ≡ WholeInput) × (score.fault ≡ None))
     → (again.book ≡ score.book) × ((again.syllables ≡ score.syllables) × (again.fault ≡ None))))
-    (limits : Limits) (ending : SourceEnding) (bytes : List ℕ) where
+    (read : ScoresAreRead) (limits : Limits) (ending : SourceEnding) (bytes : List ℕ) where
   abbrev first : Outcome
-  first = outcome_of limits ending bytes
+  first = emitted_outcome limits ending bytes
 
   abbrev text : List ℕ
   text = text_of_bytes limits.input bytes
@@ -60,8 +62,8 @@ module _ (prefixes : (limits : Limits) (ended whole : Bool) (bytes : List ℕ) (
   stopped : is_read_whole first ≡ false → ¬ ((how ≡ WholeInput) × (first.score.fault ≡ None))
   stopped h = grind (arith, whole_where_ended)
 
-  pub has_front : (book : List (List ℕ × List ℕ)) → is_read_whole first ≡ false → first.score.book ≡ Some book → (count : ℕ) × IsPrefixBeforeStop limits ending bytes book count
-  has_front book cut_short h =
+  front_of : (book : List (List ℕ × List ℕ)) → is_read_whole first ≡ false → first.score.book ≡ Some book → (count : ℕ) × IsPrefixBeforeStop limits ending bytes book count
+  front_of book cut_short h =
       let cut = one_cutting texts_by_definition (nabc_lines_of book) (macros_of book) (body_characters text) in
       let before = stop limits book text in
       let small : length (encodes text) < 2 ^ 63 = omega (arith, short limits.input bytes, limits.in_range.input_most) in
@@ -69,7 +71,7 @@ module _ (prefixes : (limits : Limits) (ended whole : Bool) (bytes : List ℕ) (
       let taken = is_front book text cut.0 before.0 cut.1 in
       let f = prefixes limits (is_whole ending) true bytes taken.0 in
       let prefix = whole_prefix text cut.0 before.0 in
-      let read : decoded_of limits true (take f.0 bytes) ≡ record { text = prefix; fault = None } = f.1 ∙ ap (λ (t : List ℕ). record { text = t; fault = None }) (sym taken.1) in
+      let decoded : decoded_of limits true (take f.0 bytes) ≡ record { text = prefix; fault = None } = f.1 ∙ ap (λ (t : List ℕ). record { text = t; fault = None }) (sym taken.1) in
       let again = made_of limits (record { text = prefix; fault = None }) in
       let whole : is_read_whole again ≡ true = whole_where_ended Ended None again.score.fault refl a.1.1 in
       let same : IsOutcomeOfPrefix first again = record {
@@ -85,7 +87,13 @@ module _ (prefixes : (limits : Limits) (ended whole : Bool) (bytes : List ℕ) (
           before = before.0;
           is_cut = cut.1;
           stand = before.1;
-          text = read;
-          outcome = subst (λ (d : Decoded). IsOutcomeOfPrefix first (made_of limits d)) (sym read) same;
+          text = decoded;
+          outcome = subst (λ (o : Outcome). IsOutcomeOfPrefix o (outcome_of limits Ended (take f.0 bytes))) (sym (outcome_is read limits ending bytes))
+              (subst (IsOutcomeOfPrefix first) (sym (outcome_is read limits Ended (take f.0 bytes))) (subst (λ (d : Decoded). IsOutcomeOfPrefix first (made_of limits d)) (sym decoded) same));
         },
       )
+
+  pub has_front : (let o = outcome_of limits ending bytes in (book : List (List ℕ × List ℕ)) → is_read_whole o ≡ false → o.score.book ≡ Some book → (count : ℕ) × IsPrefixBeforeStop limits ending bytes book count)
+  has_front book cut_short h =
+      let is = outcome_is read limits ending bytes in
+      front_of book (sym (ap is_read_whole is) ∙ cut_short) (sym (ap (λ (o : Outcome). o.score.book) is) ∙ h)

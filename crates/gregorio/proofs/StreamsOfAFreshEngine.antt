@@ -13,7 +13,7 @@ use Rattle.gabc_body.specs.declared.ending.InputEnding.{InputEnding}
 use Rattle.gabc_body.specs.declared.ending.InputEnding.TheVariants as score_ending
 use Rattle.gabc_body.specs.declared.score.Score.{Score}
 use Rattle.gabc_places.specs.declared.place.Char.{Char}
-use Rattle.gabc_body.specs.Score.{score_by}
+use Rattle.gabc_body.specs.witness.EmittedScore.{emitted_score_by}
 use Rattle.gabc_body.specs.Body.{body_of}
 use Rattle.gabc_body.specs.declared.events.BodyEvent.{BodyEvent}
 use Rattle.gabc_places.specs.declared.place.Place.{Place}
@@ -70,7 +70,7 @@ body_stops : (limits : Limits) (head : ℕ) (found : List Finding) (at : Place) 
     → StopsAt (score_ending.At fault) (body_of limits head found at (score_ending.At fault) xs lists).fault
 body_stops limits head found at fault xs lists = grind arith
 
-pub stops_at : (limits : Limits) (ending : InputEnding) (t : List ℕ) (r : Result Heads HeadFault) → StopsAt ending (score_by limits ending t r).fault
+pub stops_at : (limits : Limits) (ending : InputEnding) (t : List ℕ) (r : Result Heads HeadFault) → StopsAt ending (emitted_score_by limits ending t r).fault
 stops_at limits ending t r = grind (arith, body_stops)
 
 -- ---- the streams

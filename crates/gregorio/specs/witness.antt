@@ -1,3 +1,4 @@
 pub mod Engine
 pub mod CanRun
 pub mod StandsFor
+pub mod EmittedOutcome

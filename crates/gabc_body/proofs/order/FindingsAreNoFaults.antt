@@ -29,7 +29,8 @@ use Rattle.gabc_text.specs.View.{findings}
 use Rattle.gabc_body.specs.declared.ending.InputEnding.{InputEnding}
 use Rattle.gabc_body.specs.Events.{texts_by_definition, body_events}
 use Rattle.gabc_body.specs.NoteBeforeClef.{score_events}
-use Rattle.gabc_body.specs.Score.{heads_text, after_heads, score_of, score_by}
+use Rattle.gabc_body.specs.Score.{heads_text, after_heads}
+use Rattle.gabc_body.specs.witness.EmittedScore.{emitted_score, emitted_score_by}
 use Rattle.gabc_body.specs.Units.{Cutting, IsCutFrom, cutting_of, events_of_parts, first_text, whole}
 use Rattle.gabc_body.proofs.units.BodyHasOneCutting.{body_emits_all, one}
 use Rattle.gabc_body.proofs.units.UnitsEndAtMarks.{first_is}
@@ -100,7 +101,7 @@ body_low below lines macros xs =
 
 module _ (low : (at : Place) (t : List ℕ) → All (λ (f : Finding). rank_of f.code < rank_of W9) (findings at t))
     (all : (at : Place) (t : List ℕ) → found_in (concat_of (events_by_point at t)) ≡ findings at t) where
-  score_finds : (limits : Limits) (ending : InputEnding) (t : List ℕ) (r : Result Heads HeadFault) → All IsNoFault (found_in_heads r) → All IsNoFault (score_by limits ending t r).findings
+  score_finds : (limits : Limits) (ending : InputEnding) (t : List ℕ) (r : Result Heads HeadFault) → All IsNoFault (found_in_heads r) → All IsNoFault (emitted_score_by limits ending t r).findings
   score_finds limits ending t (Err stop) h = h
   score_finds limits ending t (Ok heads) h =
       let xs = placed_characters_after (heads_text t) (after_heads t) in
@@ -112,5 +113,5 @@ module _ (low : (at : Place) (t : List ℕ) → All (λ (f : Finding). rank_of f
       ending _ (reached_prefix limits _ [] xs lists)
 
   -- no finding of a score is a fault
-  pub none_is_a_fault : (limits : Limits) (ending : InputEnding) (t : List ℕ) → All (λ (f : Finding). severity_of f.code ≢ Fatal) (score_of limits ending t).findings
+  pub none_is_a_fault : (limits : Limits) (ending : InputEnding) (t : List ℕ) → All (λ (f : Finding). severity_of f.code ≢ Fatal) (emitted_score limits ending t).findings
   none_is_a_fault limits ending t = score_finds limits ending t (heads_of limits t) (heads_found_by t (earliest (head_stops limits t)))

@@ -27,7 +27,8 @@ use Rattle.gabc_body.specs.Events.{texts_by_definition, text_from, snippet_from}
 use Rattle.gabc_body.specs.NoteBeforeClef.{with_first_each, score_events}
 use Rattle.gabc_body.specs.Units.{Closes, Cutting, IsCutFrom, EndsAfter, whole, cutting_of, events_of_parts, first_text, BeginsWithLf, events_of_cutting}
 use Rattle.gabc_body.specs.Body.{events_onto, findings_of, EventsToStop, events_to_stop, stopped_events, code_at, result_by, result_at_end, result_by_fault, result_whole, result_stopped, found_at_end, has_last, fault_of_end, cut_of}
-use Rattle.gabc_body.specs.Score.{heads_text, after_heads, score_of, score_by}
+use Rattle.gabc_body.specs.Score.{heads_text, after_heads}
+use Rattle.gabc_body.specs.witness.EmittedScore.{emitted_score, emitted_score_by}
 use Rattle.gabc_body.proofs.units.BodyHasOneCutting.{one, body_emits_all}
 use Rattle.gabc_places.proofs.PlacesOfAText.{placed_after, after_joined, place_append}
 use Rattle.gabc_places.proofs.PlacesInOrder.{before_then, before_next, up_to_past}
@@ -191,7 +192,7 @@ short_body t h =
 module _ (texts : TextsLie) (heads : HeadsLie)
     (gabc : (lines macros : ℕ) → SnippetsLie (λ xs. notes.note_events (nat_lt 0 lines) macros xs)) (marks : SnippetsLie (λ xs. nabc.nabc_events xs))
     (closes : (lines macros line : ℕ) (opened : Place) (prefix : List Char) (x : Char) (rest : List Char) → EndsAfter lines (snippet_from lines macros line opened (prefix ++ x ∷ rest)) prefix Closes → x.c ≡ 41) where
-  after_sorted : (limits : Limits) (ending : InputEnding) (t : List ℕ) (h : Heads) → length t < 2 ^ 63 → heads_of limits t ≡ Ok h → AreInOrder (score_by limits ending t (Ok h)).findings
+  after_sorted : (limits : Limits) (ending : InputEnding) (t : List ℕ) (h : Heads) → length t < 2 ^ 63 → heads_of limits t ≡ Ok h → AreInOrder (emitted_score_by limits ending t (Ok h)).findings
   after_sorted limits ending t h short e =
       let xs : placed_characters_from (place_after (heads_text t)) (after_heads t) ≡ placed_characters_after (heads_text t) (after_heads t) = placed_after (heads_text t) (after_heads t) in
       let end : place_past (place_after (heads_text t)) (after_heads t) ≡ place_after t = after_joined (heads_text t) (after_heads t) ∙ ap place_after (take-append-drop (head_len t + 2) t) in
@@ -206,9 +207,9 @@ module _ (texts : TextsLie) (heads : HeadsLie)
       (subst (λ ys. LieLast (place_after (heads_text t)) (place_past (place_after (heads_text t)) (after_heads t)) (found (concat_of (score_events (nabc_lines_of h.book) (macros_of h.book) ys)))) xs all))
       ending _ (reached_prefix limits _ [] (placed_characters_after (heads_text t) (after_heads t)) lists)
 
-  pub score_sorted : (limits : Limits) (ending : InputEnding) (t : List ℕ) → length t < 2 ^ 63 → AreInOrder (score_of limits ending t).findings
+  pub score_sorted : (limits : Limits) (ending : InputEnding) (t : List ℕ) → length t < 2 ^ 63 → AreInOrder (emitted_score limits ending t).findings
   score_sorted limits ending t short = by (heads_of limits t) refl
     where
-      by : (r : Result Heads HeadFault) → heads_of limits t ≡ r → AreInOrder (score_by limits ending t r).findings
+      by : (r : Result Heads HeadFault) → heads_of limits t ≡ r → AreInOrder (emitted_score_by limits ending t r).findings
       by (Ok h) e = after_sorted limits ending t h short e
       by (Err stop) e = subst (λ r. AreInOrder (heads_found r)) e (heads.order limits t)

@@ -19,7 +19,7 @@ use Rattle.gabc_body.specs.declared.ending.InputEnding.{InputEnding}
 use Rattle.gabc_body.specs.Events.{PartAhead, texts_by_definition, text_from, after_mark, body_events}
 use Rattle.gabc_body.specs.FoundInParts.{TextWarns, SnippetsWarn, UnitsWarn}
 use Rattle.gabc_body.specs.NoteBeforeClef.{score_events}
-use Rattle.gabc_body.specs.Score.{score_by, score_of}
+use Rattle.gabc_body.specs.witness.EmittedScore.{emitted_score_by, emitted_score}
 use Rattle.gabc_body.specs.SyllablesOfUnits.{score_unit, snippets_in, body_characters, IsBodyCut}
 use Rattle.gabc_body.specs.Units.{CutPart, BodyUnit, JustText, BodyCutting, whole, units_pieces, cutting_of, events_of_cutting, IsCutFrom, IsCut}
 use Rattle.gabc_body.proofs.syllables_of_units.UnitGivesOneSyllable.{unit_front}
@@ -56,12 +56,12 @@ module _ (all : (at : Place) (t : List ℕ) → found_in (concat_of (events_by_p
 module _ (all : (at : Place) (t : List ℕ) → found_in (concat_of (events_by_point at t)) ≡ findings at t)
     (limits : Limits) (ending : InputEnding) (t : List ℕ) (heads : Heads) (cut : BodyCutting) (units : List BodyUnit) (last : List Char) where
   pub score_warns : heads_of limits t ≡ Ok heads → IsBodyCut heads.book t cut → cut.units ≡ Some (record { closed = units; last = JustText last }) → All IsWarning heads.findings
-      → UnitsWarn (nabc_lines_of heads.book) (macros_of heads.book) units (JustText last) → TextWarns (codes_of last) → All IsWarning (score_of limits ending t).findings
+      → UnitsWarn (nabc_lines_of heads.book) (macros_of heads.book) units (JustText last) → TextWarns (codes_of last) → All IsWarning (emitted_score limits ending t).findings
   score_warns ok h e found_before w k =
       let lines = nabc_lines_of heads.book in
       let macros = macros_of heads.book in
       let xs = body_characters t in
       let lists = score_events lines macros xs in
-      subst (λ r. All IsWarning (score_by limits ending t r).findings) (sym ok)
+      subst (λ r. All IsWarning (emitted_score_by limits ending t r).findings) (sym ok)
       (read_finds IsWarning (λ p. refl) (λ p. refl) limits _ heads.findings (place_after t) (concat_of lists) found_before (all_with_first IsWarning (λ p. refl) [] xs (body_events lines macros xs) (body_warns all lines macros xs cut units last h e w k)) ending _
       (reached_prefix limits _ [] xs lists))

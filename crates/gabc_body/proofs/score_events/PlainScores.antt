@@ -13,7 +13,8 @@ use Rattle.gabc_body.specs.declared.ending.InputEnding.{InputEnding}
 use Rattle.gabc_body.specs.declared.score.Score.{Score}
 use Rattle.gabc_body.specs.Body.{body_of}
 use Rattle.gabc_body.specs.Events.{body_events}
-use Rattle.gabc_body.specs.Score.{heads_text, after_heads, with_body, score_by, score_of}
+use Rattle.gabc_body.specs.Score.{heads_text, after_heads, with_body}
+use Rattle.gabc_body.specs.witness.EmittedScore.{emitted_score_by, emitted_score}
 use Rattle.gabc_body.proofs.gathering.FirstNotes.{body_alike}
 
 abbrev pub plain_in : Limits → InputEnding → List ℕ → Heads → BodyResult
@@ -23,7 +24,7 @@ plain_in limits ending t heads =
 
 abbrev pub plain_by : Limits → InputEnding → List ℕ → Result Heads HeadFault → Score
 plain_by limits ending t (Ok heads) = with_body heads (plain_in limits ending t heads)
-plain_by limits ending t (Err stop) = score_by limits ending t (Err stop)
+plain_by limits ending t (Err stop) = emitted_score_by limits ending t (Err stop)
 
 abbrev pub plain_of : Limits → InputEnding → List ℕ → Score
 plain_of limits ending t = plain_by limits ending t (heads_of limits t)
@@ -33,8 +34,8 @@ pub record ScoresAlike (r s : Score) : Type 0 where
   pub syllables : r.syllables ≡ s.syllables
   pub fault : r.fault ≡ s.fault
 
-pub alike_by : (limits : Limits) (ending : InputEnding) (t : List ℕ) (r : Result Heads HeadFault) → ScoresAlike (score_by limits ending t r) (plain_by limits ending t r)
+pub alike_by : (limits : Limits) (ending : InputEnding) (t : List ℕ) (r : Result Heads HeadFault) → ScoresAlike (emitted_score_by limits ending t r) (plain_by limits ending t r)
 alike_by limits ending t r = grind (arith, body_alike)
 
-pub alike : (limits : Limits) (ending : InputEnding) (t : List ℕ) → ScoresAlike (score_of limits ending t) (plain_of limits ending t)
+pub alike : (limits : Limits) (ending : InputEnding) (t : List ℕ) → ScoresAlike (emitted_score limits ending t) (plain_of limits ending t)
 alike limits ending t = alike_by limits ending t (heads_of limits t)

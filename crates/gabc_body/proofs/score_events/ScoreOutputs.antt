@@ -25,7 +25,8 @@ use Rattle.gabc_body.specs.declared.score.Score.{Score}
 use Rattle.gabc_body.specs.Body.{code_by, events_to_stop, result_by}
 use Rattle.gabc_body.specs.Events.{Texts, InComment, events_from, texts_by_definition, body_events}
 use Rattle.gabc_body.specs.NoteBeforeClef.{with_first_each, score_events}
-use Rattle.gabc_body.specs.Score.{heads_text, after_heads, head_fault_by, score_by, score_of}
+use Rattle.gabc_body.specs.Score.{heads_text, after_heads, head_fault_by}
+use Rattle.gabc_body.specs.witness.EmittedScore.{emitted_score_by, emitted_score}
 use Rattle.gabc_body.specs.SyllablesOfUnits.{body_characters}
 use Rattle.gabc_body.specs.ScoreEvents.{ScoreOutput, Found, characters_in, body_outputs, first_place, score_outputs, ending_events, stop_events, head_events_by, outputs_of_text, findings_in, syllables_in, fault_in, has_end, is_whole}
 use Rattle.gabc_body.proofs.gathering.EndOfBody.{none_longer}
@@ -102,7 +103,7 @@ module _ (limits : Limits) (ending : InputEnding) (t : List ℕ) (h : Heads) whe
   abbrev body_from : List Char → List ScoreOutput
   body_from ys = concat_of (body_outputs limits size first_place [] (with_first_each [] ys (events_from texts_by_definition (nabc_lines_of h.book) (macros_of h.book) InComment ys)) to_come)
 
-  after_says : said_by (concat_of (score_outputs texts_by_definition limits (head_events_by ending t (Ok h)))) ≡ said_of_score ending (score_by limits ending t (Ok h))
+  after_says : said_by (concat_of (score_outputs texts_by_definition limits (head_events_by ending t (Ok h)))) ≡ said_of_score ending (emitted_score_by limits ending t (Ok h))
   after_says =
       ap said_by (found_heads texts_by_definition limits h.findings (event_of_book h.book ∷ to_come))
       ∙ found_first h.findings (body_from (characters_in to_come))
@@ -127,21 +128,21 @@ not_whole : (ending : InputEnding) (at_end : Bool) (fault : Fault) → is_whole 
 not_whole ending at_end fault = grind (arith, no_end)
 
 module _ (limits : Limits) (ending : InputEnding) (t : List ℕ) where
-  score_says : said_by (outputs_of_text limits ending t) ≡ said_of_score ending (score_of limits ending t)
+  score_says : said_by (outputs_of_text limits ending t) ≡ said_of_score ending (emitted_score limits ending t)
   score_says = by (heads_of limits t)
     where
-      by : (r : Result Heads HeadFault) → said_by (concat_of (score_outputs texts_by_definition limits (head_events_by ending t r))) ≡ said_of_score ending (score_by limits ending t r)
+      by : (r : Result Heads HeadFault) → said_by (concat_of (score_outputs texts_by_definition limits (head_events_by ending t r))) ≡ said_of_score ending (emitted_score_by limits ending t r)
       by (Ok h) = after_says limits ending t h
       by (Err stop) = stopped_says limits ending stop.findings (head_fault_by ending stop.at_end stop.fault) (not_whole ending stop.at_end stop.fault)
 
-  pub findings_are : findings_in (outputs_of_text limits ending t) ≡ (score_of limits ending t).findings
+  pub findings_are : findings_in (outputs_of_text limits ending t) ≡ (emitted_score limits ending t).findings
   findings_are = ap (λ (s : Said). s.findings) score_says
 
-  pub syllables_are : syllables_in (outputs_of_text limits ending t) ≡ (score_of limits ending t).syllables
+  pub syllables_are : syllables_in (outputs_of_text limits ending t) ≡ (emitted_score limits ending t).syllables
   syllables_are = ap (λ (s : Said). s.syllables) score_says
 
-  pub fault_is : fault_in (outputs_of_text limits ending t) ≡ (score_of limits ending t).fault
+  pub fault_is : fault_in (outputs_of_text limits ending t) ≡ (emitted_score limits ending t).fault
   fault_is = ap (λ (s : Said). s.fault) score_says
 
-  pub end_is : has_end (outputs_of_text limits ending t) ≡ is_whole ending (score_of limits ending t).fault
+  pub end_is : has_end (outputs_of_text limits ending t) ≡ is_whole ending (emitted_score limits ending t).fault
   end_is = ap (λ (s : Said). s.ended) score_says

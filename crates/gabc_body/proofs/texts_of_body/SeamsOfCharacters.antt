@@ -1,5 +1,5 @@
 -- The bytes of characters, and where texts are cut.
-use Rattle.std.proofs.Common.{◌≡◌, ℕ, ◌+◌, true, List, [], ◌∷◌, ◌++◌, length, sum_by, refl, sym, ap, ◌∙◌, arith, length-append}
+use Rattle.std.proofs.Common.{◌≡◌, ℕ, ◌+◌, true, List, [], ◌∷◌, ◌++◌, length, sum_by, encode_utf8_all, refl, sym, ap, ◌∙◌, arith, append_assoc, length-append}
 use Rattle.std.specs.Char.{len_utf8}
 use Rattle.std.proofs.lemmas.List.{take_at, drop_at}
 use Rattle.std.proofs.lemmas.List.Sums.{sum_by-cons}
@@ -32,3 +32,10 @@ size_is_sum (c ∷ t) =
 
 pub size_of_one : (c : ℕ) → size (c ∷ []) ≡ len_utf8 c
 size_of_one c = sym (size_is_sum (c ∷ [])) ∙ omega arith
+
+-- the bytes of a snippet that ends are cut to those of its kept text without an unfinished end
+pub cut_is : (from n : ℕ) (kept before s rest : List ℕ) → kept ≡ encode_utf8_all (before ++ (s ++ rest)) → from ≡ size before → n ≡ size s → prefix_of (from + n) kept ≡ encode_utf8_all (before ++ s)
+cut_is from n kept before s rest k f c =
+    ap (λ (m : ℕ). prefix_of m kept) (ap (λ (m : ℕ). m + n) f ∙ ap (λ (m : ℕ). size before + m) c ∙ sym (length-append (encode_utf8_all before) (encode_utf8_all s)) ∙ ap length (sym (encodes-append before s)))
+    ∙ ap (prefix_of (size (before ++ s))) (k ∙ ap encode_utf8_all (sym (append_assoc before s rest)))
+    ∙ cut_between (before ++ s) rest

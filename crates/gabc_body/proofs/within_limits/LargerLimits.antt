@@ -15,7 +15,8 @@ use Rattle.gabc_headers.specs.TooLong.{is_too_long, is_stopped_too_long}
 use Rattle.gabc_body.specs.declared.ending.InputEnding.{InputEnding}
 use Rattle.gabc_body.specs.declared.events.BodyEvent.{BodyEvent}
 use Rattle.gabc_body.specs.Body.{is_longer, is_over, code_by, code_at, events_onto, fault_at, stopped_events, events_to_stop, fault_of_end, result_by_fault, result_at_end, body_of}
-use Rattle.gabc_body.specs.Score.{head_fault_by, score_by, score_of}
+use Rattle.gabc_body.specs.Score.{head_fault_by}
+use Rattle.gabc_body.specs.witness.EmittedScore.{emitted_score_by, emitted_score}
 use Rattle.gabc_body.specs.Syllable.{UnplacedSyllable, since_close, kept_of, all_syllables}
 use Rattle.gabc_body.proofs.within_limits.CodesOfLimits.{short_is, is_short}
 
@@ -97,9 +98,9 @@ module _ (same : (limits larger : Limits) (t : List ℕ) → AreNoLess limits la
   told stop e h = grind arith
 
   -- what a text says as a score, where its headers are these
-  by_heads : (r : Result Heads HeadFault) → heads_of limits t ≡ r → is_stopped_too_long (score_by limits ending t r).fault ≡ false → score_of larger ending t ≡ score_by limits ending t r
+  by_heads : (r : Result Heads HeadFault) → heads_of limits t ≡ r → is_stopped_too_long (emitted_score_by limits ending t r).fault ≡ false → emitted_score larger ending t ≡ emitted_score_by limits ending t r
   by_heads r e h = grind (arith, body_still, told)
 
   -- the score, unless the headers or a syllable are too long
-  pub score_still : is_stopped_too_long (score_of limits ending t).fault ≡ false → score_of larger ending t ≡ score_of limits ending t
+  pub score_still : is_stopped_too_long (emitted_score limits ending t).fault ≡ false → emitted_score larger ending t ≡ emitted_score limits ending t
   score_still = by_heads (heads_of limits t) refl

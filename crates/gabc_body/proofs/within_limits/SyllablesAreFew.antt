@@ -9,7 +9,7 @@ use Rattle.gabc_headers.specs.declared.heads.Heads.{Heads}
 use Rattle.gabc_headers.specs.declared.heads.HeadFault.{HeadFault}
 use Rattle.gabc_body.specs.declared.ending.InputEnding.{InputEnding}
 use Rattle.gabc_body.specs.Canonical.{canonical_in_place}
-use Rattle.gabc_body.specs.Score.{score_by, score_of}
+use Rattle.gabc_body.specs.witness.EmittedScore.{emitted_score_by, emitted_score}
 use Rattle.gabc_body.specs.Syllable.{PlacedSyllable}
 use Rattle.gabc_body.specs.WithinLimits.{AreWithin}
 use Rattle.gabc_body.proofs.texts_of_body.SeamsOfCharacters.{size}
@@ -25,10 +25,10 @@ two_each [] = omega arith
 two_each (s ∷ ss) = grind (arith, two_each ss, flat_map-cons, length-append, two_bytes)
 
 module _ (limits : Limits) (ending : InputEnding) (t : List ℕ) where
-  few_by : (r : Result Heads HeadFault) → ((book : List (List ℕ × List ℕ)) → (score_by limits ending t r).book ≡ Some book → AreWithin limits (size (canonical_heads book)) (score_by limits ending t r).syllables)
-      → 2 * length (score_by limits ending t r).syllables ≤ limits.input
+  few_by : (r : Result Heads HeadFault) → ((book : List (List ℕ × List ℕ)) → (emitted_score_by limits ending t r).book ≡ Some book → AreWithin limits (size (canonical_heads book)) (emitted_score_by limits ending t r).syllables)
+      → 2 * length (emitted_score_by limits ending t r).syllables ≤ limits.input
   few_by r within = grind (arith, two_each)
 
-  pub syllables_few : ((book : List (List ℕ × List ℕ)) → (score_of limits ending t).book ≡ Some book → AreWithin limits (size (canonical_heads book)) (score_of limits ending t).syllables)
-      → 2 * length (score_of limits ending t).syllables ≤ limits.input
+  pub syllables_few : ((book : List (List ℕ × List ℕ)) → (emitted_score limits ending t).book ≡ Some book → AreWithin limits (size (canonical_heads book)) (emitted_score limits ending t).syllables)
+      → 2 * length (emitted_score limits ending t).syllables ≤ limits.input
   syllables_few = few_by (heads_of limits t)

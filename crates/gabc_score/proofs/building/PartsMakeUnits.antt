@@ -30,13 +30,13 @@ use Rattle.gabc_body.specs.witness.TextEvents.{text_events}
 use Rattle.gabc_score.specs.machine.PartMakes.{PartLaws, characters_of}
 use Rattle.gabc_body.specs.witness.SyllableBuilder.{OpenSyllable, nothing_open, made_from, past_snippet}
 use Rattle.gabc_body.proofs.gathering.EventsOfOnePoint.{with_all_append}
-use Rattle.gabc_score.proofs.building.PartsOfKeptText.{cut_is, snippet_is}
+use Rattle.gabc_score.proofs.building.PartsOfKeptText.{snippet_is}
 use Rattle.gabc_body.proofs.holding.PartsAreAUnit.{notes_are_unit}
 use Rattle.gabc_body.proofs.holding.SyllableHoldsPartByPart.{first_turn}
 use Rattle.gabc_body.proofs.holding.SnippetsAreHeld.{Placed, PlacedFrom, placed_push, all_held, next_turn, whole_of, span_after, bracket_more}
 use Rattle.gabc_body.proofs.syllables_of_units.LastTagOpensTheSpan.{after_tags}
 use Rattle.gabc_body.proofs.syllables_of_units.UnitGivesOneSyllable.{view_past}
-use Rattle.gabc_body.proofs.texts_of_body.SeamsOfCharacters.{size}
+use Rattle.gabc_body.proofs.texts_of_body.SeamsOfCharacters.{cut_is, size}
 use Rattle.gabc_body.proofs.texts_of_body.ViewStandsInLongerText.{view_more}
 
 abbrev kept_text : ReadSnippet → List ℕ

@@ -25,8 +25,8 @@ use Rattle.gabc_score.specs.machine.Preceded.{spans_of}
 use Rattle.gabc_body.specs.witness.SyllableBuilder.{OpenSyllable, made_from, past_mark, past_snippet, snippet_from}
 use Rattle.gabc_body.proofs.gathering.EventsOfOnePoint.{with_all_append}
 use Rattle.gabc_score.proofs.building.SnippetsTakeCharacters.{Ending, Going, InSnippet, close_ends, ending_close, ending_next, going, next_ends, next_mark}
-use Rattle.gabc_body.proofs.texts_of_body.SeamsOfCharacters.{size, size_append}
-use Rattle.gabc_score.proofs.building.PartsOfKeptText.{Grows, all_alike, of_notes, notes_said, notes_ended, snippet_grows, snippet_is, cut_is, read_on}
+use Rattle.gabc_body.proofs.texts_of_body.SeamsOfCharacters.{cut_is, size, size_append}
+use Rattle.gabc_score.proofs.building.PartsOfKeptText.{Grows, all_alike, of_notes, notes_said, notes_ended, snippet_grows, snippet_is, read_on}
 
 module _ (lines macros : ℕ) where
   line_more : (line : ℕ) (earlier : List (List ℕ)) (s : List ℕ) → line_after lines line (earlier ++ s ∷ []) ≡ next_line lines (line_after lines line earlier)

@@ -33,7 +33,7 @@ use Rattle.gabc_body.specs.witness.Gatherer.{Gathered, with_event}
 use Rattle.gabc_score.specs.machine.PartKeeps.{KeptParts, in_text, in_notes, text_before, joined, snippet_events, said_by, AreAfter, PartKeeps, begun, ReadAlike, IsReading, spans_past, PartKeepsOn}
 use Rattle.gabc_body.specs.witness.TextEvents.{kept_char, text_events}
 use Rattle.gabc_body.proofs.gathering.EventsOfOnePoint.{with_all_append}
-use Rattle.gabc_body.proofs.texts_of_body.SeamsOfCharacters.{size, cut_between}
+use Rattle.gabc_body.proofs.texts_of_body.SeamsOfCharacters.{size, cut_between, cut_is}
 use Rattle.gabc_body.proofs.syllables_of_units.LastTagOpensTheSpan.{out_parts}
 
 -- ---- the same was gathered of the syllable that is read
@@ -156,13 +156,6 @@ snippet_grows line (c ∷ k) g = grows_through g _ _ (c ∷ []) k (kept_grows g 
 pub snippet_is : (line : ℕ) (k : List ℕ) (g : Gathered) → with_all g (snippet_events line k) ≡ record g { builder = record g.builder { kept = g.builder.kept ++ encode_utf8_all k } }
 snippet_is line [] g = ap (λ (t : List ℕ). record g { builder = record g.builder { kept = t } }) (sym (append-nil g.builder.kept))
 snippet_is line (c ∷ k) g = grind (arith, snippet_is line k (with_event g (event.Notes line (note.Kept (kept_char c)))), append_assoc)
-
--- the bytes of a snippet that ends are cut to those of its kept text without an unfinished end
-pub cut_is : (from n : ℕ) (kept before s rest : List ℕ) → kept ≡ encode_utf8_all (before ++ (s ++ rest)) → from ≡ size before → n ≡ size s → prefix_of (from + n) kept ≡ encode_utf8_all (before ++ s)
-cut_is from n kept before s rest k f c =
-    ap (λ (m : ℕ). prefix_of m kept) (ap (λ (m : ℕ). m + n) f ∙ ap (λ (m : ℕ). size before + m) c ∙ sym (length-append (encode_utf8_all before) (encode_utf8_all s)) ∙ ap length (sym (encodes-append before s)))
-    ∙ ap (prefix_of (size (before ++ s))) (k ∙ ap encode_utf8_all (sym (append_assoc before s rest)))
-    ∙ cut_between (before ++ s) rest
 
 -- ---- the text goes on, or ends
 

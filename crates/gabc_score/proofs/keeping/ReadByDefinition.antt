@@ -25,7 +25,7 @@ use Rattle.gabc_body.proofs.emitted.EventsOfSyllableParts.{onto_append}
 use Rattle.gabc_score.proofs.keeping.PartsTakeCharacters.{TakesOne}
 use Rattle.gabc_score.proofs.keeping.ReadByItself.{Emits}
 use Rattle.gabc_score.specs.machine.StageLaws.{Steps}
-use Rattle.gabc_score.proofs.texts_of_body.StageAndDefinitionAgree.{bytes_encodes}
+use Rattle.gabc_body.proofs.texts_of_body.BodyFits.{bytes_encodes}
 
 -- ---- where no syllable is whole, all events are those of the one that is read
 

@@ -30,7 +30,7 @@ use Rattle.gabc_score.specs.machine.ScoreMachine.{held_score}
 use Rattle.gabc_score.specs.machine.ScoreStage.{HeldScore}
 use Rattle.gabc_score.proofs.score_events.FewAndShortAreLent.{short_within}
 use Rattle.gabc_score.proofs.score_events.WhatPrecedes.{each_then}
-use Rattle.gabc_score.proofs.texts_of_body.StageAndDefinitionAgree.{bytes_encodes}
+use Rattle.gabc_body.proofs.texts_of_body.BodyFits.{bytes_encodes}
 use Rattle.gabc_score.proofs.runs.FoundSyllable.{gathered_one, parts, characters_are, bytes_are, plain_is, some_are, length_is, word_is, size_is, kept_length, is_short, eu_after, nlba_after, sounds_no_more, spelled_there}
 use Rattle.gabc_score.proofs.runs.Throughs.{through_both}
 

@@ -28,7 +28,8 @@ use Rattle.gabc_body.specs.SyllablesOfUnits.{body_characters}
 use Rattle.gabc_score.specs.machine.Collected.{to_come}
 use Rattle.gabc_score.proofs.score_events.BodyIsCollected.{counts_below}
 use Rattle.gabc_body.proofs.score_events.ScoreOutputs.{characters_are}
-use Rattle.gabc_score.proofs.texts_of_body.StageAndDefinitionAgree.{body_fits, same_emitted}
+use Rattle.gabc_body.proofs.texts_of_body.BodyFits.{body_fits}
+use Rattle.gabc_score.proofs.texts_of_body.StageAndDefinitionAgree.{same_emitted}
 
 -- ---- what is found in the headers, and what stops them
 

@@ -1,9 +1,13 @@
 -- The prefix of a text and the body after it, by characters and by bytes.
-use Rattle.std.proofs.Common.{◌≡◌, ℕ, zero, suc, ◌+◌, List, [], ◌∷◌, ◌++◌, length, take, drop, refl, sym, ap, subst, ◌∙◌, IsUtf8}
+use Rattle.std.proofs.Common.{◌≡◌, ℕ, true, zero, suc, ◌+◌, List, [], ◌∷◌, ◌++◌, length, take, drop, refl, sym, ap, subst, ◌∙◌, IsUtf8}
+use Rattle.std.specs.Char.{IsScalar}
+use Rattle.std.specs.List.{All}
+use Rattle.std.proofs.lemmas.Bool.{and_parts}
+use Rattle.std.proofs.lemmas.List.Elements.{All-nil, All-cons}
 use Rattle.std.specs.Str.{chars, IsCharBoundary}
 use Rattle.std.proofs.lemmas.List.{take_at, drop_at, take-append-drop}
 use Rattle.std.proofs.lemmas.Str.{encodes-append, encodes-chars, encodes_same, IsUtf8-take, IsUtf8-drop, IsUtf8-past_char, IsCharBoundary-at_seam}
-use lib.Utf8.{encodes}
+use lib.Utf8.{encodes, scalars}
 use Rattle.gabc_headers.proofs.entries.TextsAsBytes.{length-encodes}
 use Rattle.gabc_places.specs.declared.limits.Limits.{Limits}
 use Rattle.gabc_places.specs.declared.place.Place.{Place}
@@ -19,8 +23,13 @@ use Rattle.gabc_body.specs.declared.ending.InputEnding.{InputEnding}
 use Rattle.gabc_body.specs.Events.{body_events}
 use Rattle.gabc_body.specs.Body.{body_of}
 use Rattle.gabc_body.specs.NoteBeforeClef.{with_first_each}
-use Rattle.gabc_body.specs.Score.{heads_text, after_heads, body_in}
+use Rattle.gabc_body.specs.Score.{heads_text, after_heads}
+use Rattle.gabc_body.specs.witness.EmittedScore.{emitted_body}
 use Rattle.gabc_places.proofs.PlacesOfAText.{placed_after, after_joined}
+
+pub are_scalars : (cs : List ℕ) → scalars cs ≡ true → All IsScalar cs
+are_scalars [] h = All-nil IsScalar
+are_scalars (c ∷ cs) h = let s = and_parts _ _ h in All-cons IsScalar c cs s.0 (are_scalars cs s.1)
 
 utf8_after : (t : List ℕ) (n : ℕ) → IsUtf8 (encodes t) → IsUtf8 (encodes (drop n t))
 utf8_after t zero u = u
@@ -62,7 +71,7 @@ module _ (t bytes : List ℕ) (whole : bytes ≡ encodes t) (utf8 : IsUtf8 bytes
 module _ (limits : Limits) (ending : InputEnding) (t : List ℕ) (heads : Heads) (rest : List Char → List (List BodyEvent)) (lines macros head : ℕ) (at : Place) (prefix after : List ℕ) where
   pub body_is : rest (placed_characters_from at after) ≡ body_events lines macros (placed_characters_from at after) → lines ≡ nabc_lines_of heads.book → macros ≡ macros_of heads.book → head ≡ bytes_len (canonical_heads heads.book)
       → at ≡ place_past (record { line = 1; column = 1 }) prefix → prefix ≡ heads_text t → after ≡ after_heads t
-      → body_of limits head heads.findings (place_past at after) ending (placed_characters_from at after) (with_first_each [] (placed_characters_from at after) (rest (placed_characters_from at after))) ≡ body_in limits ending t heads
+      → body_of limits head heads.findings (place_past at after) ending (placed_characters_from at after) (with_first_each [] (placed_characters_from at after) (rest (placed_characters_from at after))) ≡ emitted_body limits ending t heads
   body_is law l m h p f b =
       let place : at ≡ place_after (heads_text t) = p ∙ ap (place_past (record { line = 1; column = 1 })) f ∙ after_joined [] (heads_text t) in
       let xs : placed_characters_from at after ≡ placed_characters_after (heads_text t) (after_heads t) =

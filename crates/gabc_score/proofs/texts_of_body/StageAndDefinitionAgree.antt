@@ -18,36 +18,15 @@ use Rattle.gabc_body.specs.Events.{PartAhead, InComment, InText, after_mark, par
 use Rattle.gabc_score.specs.witness.BodyStage.{texts_by_stage}
 use Rattle.gabc_body.specs.Score.{heads_text, after_heads}
 use Rattle.std.proofs.lemmas.Bool.{cond_both}
-
--- the text after a character fits if the text from it on does
-fits_next : (at : Place) (c : ℕ) (t : List ℕ) → CountsFit at (c ∷ t) → CountsFit (next_place at c) t
-fits_next at c t f =
-    cond_both (is_line_feed c) _ _ (λ (p : Place). CountsFit p t) (λ e. record { line = omega (arith, f.line); column = omega (arith, f.column); bytes = omega (arith, f.bytes) })
-    (λ e. record { line = omega (arith, f.line); column = omega (arith, f.column); bytes = omega (arith, f.bytes) })
+use Rattle.gabc_body.proofs.texts_of_body.BodyFits.{fits_next, bytes_encodes}
 
 fits_after : (at : Place) (c : ℕ) (t : List ℕ) → CountsFit at (c ∷ t) → CountsFit (after_mark at) t
 fits_after at c t f = record { line = omega (arith, f.line); column = omega (arith, f.column); bytes = omega (arith, f.bytes) }
-
-pub bytes_encodes : (t : List ℕ) → bytes_of t ≡ length (encodes t)
-bytes_encodes [] = refl
-bytes_encodes (c ∷ t) = rw (bytes_encodes t, length-append (encode c) (encodes t), length-encode c) refl
 
 -- a body fits after a prefix if the bytes of both are few, and the place after the prefix counts no more than the prefix has
 pub fits_after_prefix : (at : Place) (prefix bytes : List ℕ) → IsUtf8 bytes → at.line ≤ 1 + length prefix → at.column ≤ 1 + length prefix
     → length prefix + length bytes < 2 ^ 63 → CountsFit at (chars bytes)
 fits_after_prefix at prefix bytes utf8 line column few = grind (arith, encodes-chars, length-le-encodes, bytes_encodes)
-
-fits_past : (at : Place) (prefix t : List ℕ) → CountsFit at (prefix ++ t) → CountsFit (place_past at prefix) t
-fits_past at [] t f = f
-fits_past at (c ∷ prefix) t f = fits_past (next_place at c) prefix t (fits_next at c (prefix ++ t) f)
-
--- the body of a text fits after its headers if the text has few bytes
-pub body_fits : (t : List ℕ) → length (encodes t) < 2 ^ 63 → CountsFit (place_after (heads_text t)) (after_heads t)
-body_fits t few =
-    let less = length-le-encodes t in
-    let whole : CountsFit (place_after []) t = record { line = omega (arith, few, less); column = omega (arith, few, less); bytes = omega (arith, few, bytes_encodes t) } in
-    subst (λ p. CountsFit p (after_heads t)) (after_joined [] (heads_text t))
-    (fits_past (place_after []) (heads_text t) (after_heads t) (subst (CountsFit (place_after [])) (sym (take-append-drop (head_len t + 2) t)) whole))
 
 module _ (step : (at : Place) (t : List ℕ) → CountsFit at t → events_left (fresh_stage at) t ≡ events_by_point at t) (lines macros : ℕ) where
   pub same_texts : (at from : Place) (t : List ℕ) → CountsFit at t → texts_by_stage at (placed_characters_from from t) ≡ texts_by_definition at (placed_characters_from from t)

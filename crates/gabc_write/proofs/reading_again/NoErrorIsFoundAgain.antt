@@ -17,7 +17,7 @@ use Rattle.gabc_body.specs.declared.ending.InputEnding.{InputEnding}
 use Rattle.gabc_body.specs.declared.ending.InputEnding.TheVariants.{Whole}
 use Rattle.gabc_body.specs.Events.{next_line}
 use Rattle.gabc_body.specs.FoundInParts.{TextWarns, SnippetsWarn, UnitsWarn}
-use Rattle.gabc_body.specs.Score.{score_of}
+use Rattle.gabc_body.specs.witness.EmittedScore.{emitted_score}
 use Rattle.gabc_body.specs.SyllablesOfUnits.{IsBodyCut}
 use Rattle.gabc_body.specs.Units.{EndedPart, BodyUnit, LastUnit, JustText, BodyCutting}
 use Rattle.gabc_write.specs.SyllableAgain.{AreSnippetsAgain}
@@ -46,8 +46,8 @@ module _ (text_warns : (at : Place) (t : List ℕ) → has_error (findings at t)
 pub file_warns : (text_warns : (at : Place) (t : List ℕ) → has_error (findings at t) ≡ false → All IsWarning (findings at t))
     → (score_warns : (limits : Limits) (ending : InputEnding) (t : List ℕ) (heads : Heads) (cut : BodyCutting) (units : List BodyUnit) (last : List Char)
     → heads_of limits t ≡ Ok heads → IsBodyCut heads.book t cut → cut.units ≡ Some (record { closed = units; last = JustText last }) → All IsWarning heads.findings
-    → UnitsWarn (nabc_lines_of heads.book) (macros_of heads.book) units (JustText last) → TextWarns (codes_of last) → All IsWarning (score_of limits ending t).findings)
-    → (limits : Limits) (book : List (List ℕ × List ℕ)) (facts : List SyllableFacts) → IsFileAgain limits book facts → All IsWarning (score_of limits Whole (printed_file book facts)).findings
+    → UnitsWarn (nabc_lines_of heads.book) (macros_of heads.book) units (JustText last) → TextWarns (codes_of last) → All IsWarning (emitted_score limits ending t).findings)
+    → (limits : Limits) (book : List (List ℕ × List ℕ)) (facts : List SyllableFacts) → IsFileAgain limits book facts → All IsWarning (emitted_score limits Whole (printed_file book facts)).findings
 file_warns text_warns score_warns limits book facts file =
     score_warns limits Whole (printed_file book facts) (heads_again book) (record { comment = []; units = Some (record { closed = file.units; last = JustText file.last }) }) file.units file.last file.heads file.cut refl (heads_warn book)
     (units_warn text_warns (nabc_lines_of book) (macros_of book) file.units (JustText file.last) facts file.again) (subst TextWarns (sym file.last_is) lf_warns)

@@ -15,7 +15,7 @@ use Rattle.gabc_text.specs.ViewFacts.{ViewFacts}
 use Rattle.gabc_body.specs.declared.ending.InputEnding.TheVariants.{Whole}
 use Rattle.gabc_body.specs.Canonical.{canonical_in_place}
 use Rattle.gabc_body.specs.Events.{texts_by_definition}
-use Rattle.gabc_body.specs.Score.{score_by, score_of}
+use Rattle.gabc_body.specs.witness.EmittedScore.{emitted_score_by, emitted_score}
 use Rattle.gabc_body.specs.Syllable.{PlacedSyllable}
 use Rattle.gabc_body.specs.Units.{BodyUnit, LastUnit, JustText, BodyCutting, IsCut}
 use Rattle.gabc_body.specs.SyllablesOfUnits.{ScoreUnit, score_unit, characters_from, closed_units, score_units, AreSyllablesOf, body_characters, IsBodyCut}
@@ -89,10 +89,10 @@ module _ (single : (macros : ℕ) (xs : List Char) (cut : BodyCutting) → IsCut
     (printed : (lines : ℕ) (units : List ScoreUnit) (syllables : List PlacedSyllable) → AreSyllablesOf lines units syllables → FirstTextBeginsWord units
     → (lines ≡ 0 → All (λ (u : ScoreUnit). length u.snippets ≤ 1) units) → ArePrinted lines units syllables)
     (no_limit : (limits : Limits) (t : List ℕ) (book : List (List ℕ × List ℕ)) (cut : BodyCutting) (units : List BodyUnit) (last : List Char) → length (encodes t) < 2 ^ 63
-    → (score_of limits Whole t).book ≡ Some book → IsBodyCut book t cut → cut.units ≡ Some (record { closed = units; last = JustText last }) → codes_of last ≡ 10 ∷ []
+    → (emitted_score limits Whole t).book ≡ Some book → IsBodyCut book t cut → cut.units ≡ Some (record { closed = units; last = JustText last }) → codes_of last ≡ 10 ∷ []
     → All (KeepsWithin limits.syllable) (closed_units units (JustText last))
     → ((syllables : List PlacedSyllable) → AreSyllablesOf (nabc_lines_of book) (score_units cut.units) syllables → CanonicalWithin limits (size (canonical_heads book)) syllables)
-    → (score_of limits Whole t).fault ≡ None) where
+    → (emitted_score limits Whole t).fault ≡ None) where
   module _ (limits : Limits) (book : List (List ℕ × List ℕ)) (facts : List SyllableFacts) (file : IsFileAgain limits book facts) (texts : AllShort limits.syllable facts) (fits : size (printed_file book facts) ≤ limits.input) where
     abbrev t : List ℕ
     t = printed_file book facts
@@ -117,7 +117,7 @@ module _ (single : (macros : ℕ) (xs : List Char) (cut : BodyCutting) → IsCut
         let parts : length (score_text book syllables) ≡ size (canonical_heads book) + length (canonical_text_of syllables) + 1 = file_size book syllables in
         record { texts = texts_short limits.syllable syllables p.facts p.texts (subst (AllShort limits.syllable) (sym same) texts); file = omega arith }
 
-    pub none_again : (score_of limits Whole t).fault ≡ None
+    pub none_again : (emitted_score limits Whole t).fault ≡ None
     none_again =
-        no_limit limits t book cut file.units file.last (omega (arith, limits.in_range.input_most)) (ap (λ r. (score_by limits Whole t r).book) file.heads) file.cut refl file.last_is
+        no_limit limits t book cut file.units file.last (omega (arith, limits.in_range.input_most)) (ap (λ r. (emitted_score_by limits Whole t r).book) file.heads) file.cut refl file.last_is
         (all_keep lines (macros_of book) limits.syllable file.units (JustText file.last) facts file.again texts) within

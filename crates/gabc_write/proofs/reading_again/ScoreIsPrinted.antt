@@ -20,7 +20,8 @@ use Rattle.gabc_text.specs.Events.{codes_of}
 use Rattle.gabc_body.specs.declared.ending.InputEnding.{InputEnding}
 use Rattle.gabc_body.specs.declared.ending.InputEnding.TheVariants.{Whole, Broken, At}
 use Rattle.gabc_body.specs.Events.{Texts, texts_by_definition}
-use Rattle.gabc_body.specs.Score.{heads_text, after_heads, score_of}
+use Rattle.gabc_body.specs.Score.{heads_text, after_heads}
+use Rattle.gabc_body.specs.witness.EmittedScore.{emitted_score}
 use Rattle.gabc_body.specs.Syllable.{PlacedSyllable}
 use Rattle.gabc_body.specs.Units.{BodyUnit, LastUnit, Units, BodyCutting, IsCut}
 use Rattle.gabc_body.specs.SyllablesOfUnits.{ScoreUnit, with_ends, snippets_in, characters_in, last_in, characters_from, unit_characters, closed_units, last_units, score_units, count_within, units_within, AreSyllablesOf, body_characters, IsBodyCut, AreBeforeBodyStop}
@@ -105,7 +106,7 @@ record HeadsAre (limits : Limits) (t : List ℕ) (book : List (List ℕ × List 
   read : heads_of limits t ≡ Ok heads
   book_is : heads.book ≡ book
 
-heads_are : (limits : Limits) (ending : InputEnding) (t : List ℕ) (book : List (List ℕ × List ℕ)) → (score_of limits ending t).book ≡ Some book → HeadsAre limits t book
+heads_are : (limits : Limits) (ending : InputEnding) (t : List ℕ) (book : List (List ℕ × List ℕ)) → (emitted_score limits ending t).book ≡ Some book → HeadsAre limits t book
 heads_are limits ending t book = grind arith
 
 module _ (one : (texts : Texts) (lines macros : ℕ) (xs : List Char) → (cut : BodyCutting) × IsCut texts lines macros xs cut)
@@ -113,11 +114,11 @@ module _ (one : (texts : Texts) (lines macros : ℕ) (xs : List Char) → (cut :
     (characters : (texts : Texts) (lines macros : ℕ) (xs : List Char) (cut : BodyCutting) → IsCut texts lines macros xs cut → xs ≡ cut.comment ++ unit_characters cut.units)
     (first : (lines macros : ℕ) (xs : List Char) (cut : BodyCutting) → IsCut texts_by_definition lines macros xs cut → FirstTextBeginsWord (score_units cut.units))
     (whole : (limits : Limits) (t : List ℕ) (book : List (List ℕ × List ℕ)) (cut : BodyCutting) → length (encodes t) < 2 ^ 63
-    → (score_of limits Whole t).book ≡ Some book → IsBodyCut book t cut → (score_of limits Whole t).fault ≡ None
-    → AreSyllablesOf (nabc_lines_of book) (score_units cut.units) (score_of limits Whole t).syllables)
+    → (emitted_score limits Whole t).book ≡ Some book → IsBodyCut book t cut → (emitted_score limits Whole t).fault ≡ None
+    → AreSyllablesOf (nabc_lines_of book) (score_units cut.units) (emitted_score limits Whole t).syllables)
     (stopped : (limits : Limits) (ending : InputEnding) (t : List ℕ) (book : List (List ℕ × List ℕ)) (cut : BodyCutting) (n : ℕ) → length (encodes t) < 2 ^ 63
-    → (score_of limits ending t).book ≡ Some book → IsBodyCut book t cut → AreBeforeBodyStop limits book t n → ¬ ((ending ≡ Whole) × ((score_of limits ending t).fault ≡ None))
-    → AreSyllablesOf (nabc_lines_of book) (units_within (n - length cut.comment) cut.units) (score_of limits ending t).syllables)
+    → (emitted_score limits ending t).book ≡ Some book → IsBodyCut book t cut → AreBeforeBodyStop limits book t n → ¬ ((ending ≡ Whole) × ((emitted_score limits ending t).fault ≡ None))
+    → AreSyllablesOf (nabc_lines_of book) (units_within (n - length cut.comment) cut.units) (emitted_score limits ending t).syllables)
     (stop : (limits : Limits) (book : List (List ℕ × List ℕ)) (t : List ℕ) → (n : ℕ) × AreBeforeBodyStop limits book t n)
     (printed : (lines : ℕ) (units : List ScoreUnit) (syllables : List PlacedSyllable) → AreSyllablesOf lines units syllables → FirstTextBeginsWord units
     → (lines ≡ 0 → All (λ (u : ScoreUnit). length u.snippets ≤ 1) units) → ArePrinted lines units syllables) where
@@ -134,7 +135,7 @@ module _ (one : (texts : Texts) (lines macros : ℕ) (xs : List Char) → (cut :
     singles : nabc_lines_of book ≡ 0 → All IsSingle (score_units cut.units)
     singles e = single (macros_of book) (body_characters t) cut (subst (λ (lines : ℕ). IsCut texts_by_definition lines (macros_of book) (body_characters t) cut) e is_cut)
 
-    stopped_units : (ending : InputEnding) → (score_of limits ending t).book ≡ Some book → ¬ ((ending ≡ Whole) × ((score_of limits ending t).fault ≡ None)) → UnitsAre t book (score_of limits ending t).syllables
+    stopped_units : (ending : InputEnding) → (emitted_score limits ending t).book ≡ Some book → ¬ ((ending ≡ Whole) × ((emitted_score limits ending t).fault ≡ None)) → UnitsAre t book (emitted_score limits ending t).syllables
     stopped_units ending h early =
         let (n, before) = stop limits book t in
         let m : ℕ = n - length cut.comment in
@@ -146,7 +147,7 @@ module _ (one : (texts : Texts) (lines macros : ℕ) (xs : List Char) → (cut :
           texts = λ k. within_texts m cut.units (units_plain k);
         }
 
-    whole_units : (o : Option Fault) → (score_of limits Whole t).fault ≡ o → (score_of limits Whole t).book ≡ Some book → UnitsAre t book (score_of limits Whole t).syllables
+    whole_units : (o : Option Fault) → (emitted_score limits Whole t).fault ≡ o → (emitted_score limits Whole t).book ≡ Some book → UnitsAre t book (emitted_score limits Whole t).syllables
     whole_units None e h = record {
       units = score_units cut.units;
       syllables_are = whole limits t book cut short h is_cut e;
@@ -156,22 +157,22 @@ module _ (one : (texts : Texts) (lines macros : ℕ) (xs : List Char) → (cut :
     }
     whole_units (Some fault) e h = stopped_units Whole h (λ p. absurd (let none = p.1 in cc))
 
-    units_are : (ending : InputEnding) → (score_of limits ending t).book ≡ Some book → UnitsAre t book (score_of limits ending t).syllables
-    units_are Whole h = whole_units (score_of limits Whole t).fault refl h
+    units_are : (ending : InputEnding) → (emitted_score limits ending t).book ≡ Some book → UnitsAre t book (emitted_score limits ending t).syllables
+    units_are Whole h = whole_units (emitted_score limits Whole t).fault refl h
     units_are Broken h = stopped_units Broken h (λ p. absurd (let whole = p.0 in cc))
     units_are (At fault) h = stopped_units (At fault) h (λ p. absurd (let whole = p.0 in cc))
 
   pub score_units_are : (limits : Limits) (ending : InputEnding) (t : List ℕ) (book : List (List ℕ × List ℕ)) → length (encodes t) < 2 ^ 63
-      → (score_of limits ending t).book ≡ Some book → UnitsAre t book (score_of limits ending t).syllables
+      → (emitted_score limits ending t).book ≡ Some book → UnitsAre t book (emitted_score limits ending t).syllables
   score_units_are limits ending t book short h =
       let (cut, is_cut) = one texts_by_definition (nabc_lines_of book) (macros_of book) (body_characters t) in
       units_are limits t book cut is_cut short ending h
 
   pub score_printed : (limits : Limits) (ending : InputEnding) (t : List ℕ) (book : List (List ℕ × List ℕ)) → length (encodes t) < 2 ^ 63
-      → (score_of limits ending t).book ≡ Some book → IsPrintedScore t book (score_of limits ending t).syllables
+      → (emitted_score limits ending t).book ≡ Some book → IsPrintedScore t book (emitted_score limits ending t).syllables
   score_printed limits ending t book short h =
       let u = score_units_are limits ending t book short h in
-      let p = printed (nabc_lines_of book) u.units (score_of limits ending t).syllables u.syllables_are u.first u.single in
+      let p = printed (nabc_lines_of book) u.units (emitted_score limits ending t).syllables u.syllables_are u.first u.single in
       let heads = heads_are limits ending t book h in
       record {
         units = u.units;
@@ -190,25 +191,25 @@ module _ (one : (texts : Texts) (lines macros : ℕ) (xs : List Char) → (cut :
 -- ---- read again
 
 pub score_again : (printed : (limits : Limits) (ending : InputEnding) (t : List ℕ) (book : List (List ℕ × List ℕ)) → length (encodes t) < 2 ^ 63
-    → (score_of limits ending t).book ≡ Some book → IsPrintedScore t book (score_of limits ending t).syllables)
+    → (emitted_score limits ending t).book ≡ Some book → IsPrintedScore t book (emitted_score limits ending t).syllables)
     → (decoded : (limits : Limits) (ended : Bool) (text : List ℕ) → All IsScalar text → All (λ c. (c ≢ 13) × (c ≢ 0xFEFF)) text → length (encodes text) ≤ limits.input
     → decoded_of limits ended (encodes text) ≡ record { text = text; fault = None })
     → (file : (limits larger : Limits) (t : List ℕ) (heads : Heads) (facts : List SyllableFacts) → AreNoLess limits larger → heads_of limits t ≡ Ok heads → AreSyllables (nabc_lines_of heads.book) facts
     → FirstBeginsWord facts → IsFileAgain larger heads.book facts)
     → (same : (limits : Limits) (book : List (List ℕ × List ℕ)) (facts : List SyllableFacts) → IsFileAgain limits book facts
-    → length (encodes (printed_file book facts)) < 2 ^ 63 → (score_of limits Whole (printed_file book facts)).fault ≡ None
-    → IsSameScore book facts (score_of limits Whole (printed_file book facts)))
-    → (well_read : (limits : Limits) (ending : InputEnding) (t : List ℕ) (book : List (List ℕ × List ℕ)) → (score_of limits ending t).book ≡ Some book
-    → AreWithin limits (length (encodes (canonical_heads book))) (score_of limits ending t).syllables)
+    → length (encodes (printed_file book facts)) < 2 ^ 63 → (emitted_score limits Whole (printed_file book facts)).fault ≡ None
+    → IsSameScore book facts (emitted_score limits Whole (printed_file book facts)))
+    → (well_read : (limits : Limits) (ending : InputEnding) (t : List ℕ) (book : List (List ℕ × List ℕ)) → (emitted_score limits ending t).book ≡ Some book
+    → AreWithin limits (length (encodes (canonical_heads book))) (emitted_score limits ending t).syllables)
     → (none : (limits : Limits) (book : List (List ℕ × List ℕ)) (facts : List SyllableFacts) → IsFileAgain limits book facts → AllShort limits.syllable facts
-    → length (encodes (printed_file book facts)) ≤ limits.input → (score_of limits Whole (printed_file book facts)).fault ≡ None)
-    → (warns : (limits : Limits) (book : List (List ℕ × List ℕ)) (facts : List SyllableFacts) → IsFileAgain limits book facts → All IsWarning (score_of limits Whole (printed_file book facts)).findings)
+    → length (encodes (printed_file book facts)) ≤ limits.input → (emitted_score limits Whole (printed_file book facts)).fault ≡ None)
+    → (warns : (limits : Limits) (book : List (List ℕ × List ℕ)) (facts : List SyllableFacts) → IsFileAgain limits book facts → All IsWarning (emitted_score limits Whole (printed_file book facts)).findings)
     → (equal : (lines : ℕ) (units others : List ScoreUnit) (ss ts : List PlacedSyllable) (facts : List SyllableFacts) → AreSyllablesOf lines units ss → AreSyllablesOf lines others ts
     → AreFactsOf units ss facts → AreFactsOf others ts facts → FirstBeginsWord facts → AreSame ss ts)
     → (limits larger : Limits) (ending : InputEnding) (t : List ℕ) (book : List (List ℕ × List ℕ)) → AreNoLess limits larger → length (encodes t) < 2 ^ 63 → IsText t
-    → (score_of limits ending t).book ≡ Some book → IsScoreAgain larger t book (score_of limits ending t).syllables
+    → (emitted_score limits ending t).book ≡ Some book → IsScoreAgain larger t book (emitted_score limits ending t).syllables
 score_again printed decoded file same well_read none warns equal limits larger ending t book no_less short text h =
-    let syllables = (score_of limits ending t).syllables in
+    let syllables = (emitted_score limits ending t).syllables in
     let p = printed limits ending t book short h in
     let heads = heads_are limits ending t book h in
     let own = p.text text in

@@ -10,7 +10,7 @@ use Rattle.gabc_headers.specs.Canonical.{canonical_heads}
 use Rattle.gabc_body.specs.declared.ending.InputEnding.TheVariants.{Whole}
 use Rattle.gabc_body.specs.declared.score.Score.{Score}
 use Rattle.gabc_body.specs.Events.{texts_by_definition, next_line}
-use Rattle.gabc_body.specs.Score.{score_by, score_of}
+use Rattle.gabc_body.specs.witness.EmittedScore.{emitted_score_by, emitted_score}
 use Rattle.gabc_body.specs.Syllable.{PlacedSyllable}
 use Rattle.gabc_body.specs.Units.{EndedPart, BodyUnit, LastUnit, JustText, BodyCutting, IsCut}
 use Rattle.gabc_body.specs.SyllablesOfUnits.{ScoreUnit, closed_units, score_units, AreSyllablesOf, body_characters, IsBodyCut}
@@ -47,19 +47,19 @@ module _ (lines macros : ℕ) where
 module _ (single : (macros : ℕ) (xs : List Char) (cut : BodyCutting) → IsCut texts_by_definition 0 macros xs cut → All (λ (u : ScoreUnit). length u.snippets ≤ 1) (score_units cut.units))
     (first : (lines macros : ℕ) (xs : List Char) (cut : BodyCutting) → IsCut texts_by_definition lines macros xs cut → FirstTextBeginsWord (score_units cut.units))
     (whole : (limits : Limits) (t : List ℕ) (book : List (List ℕ × List ℕ)) (cut : BodyCutting) → length (encodes t) < 2 ^ 63
-    → (score_of limits Whole t).book ≡ Some book → IsBodyCut book t cut → (score_of limits Whole t).fault ≡ None
-    → AreSyllablesOf (nabc_lines_of book) (score_units cut.units) (score_of limits Whole t).syllables)
+    → (emitted_score limits Whole t).book ≡ Some book → IsBodyCut book t cut → (emitted_score limits Whole t).fault ≡ None
+    → AreSyllablesOf (nabc_lines_of book) (score_units cut.units) (emitted_score limits Whole t).syllables)
     (printed : (lines : ℕ) (units : List ScoreUnit) (syllables : List PlacedSyllable) → AreSyllablesOf lines units syllables → FirstTextBeginsWord units
     → (lines ≡ 0 → All (λ (u : ScoreUnit). length u.snippets ≤ 1) units) → ArePrinted lines units syllables) where
   pub same_score : (limits : Limits) (book : List (List ℕ × List ℕ)) (facts : List SyllableFacts) → IsFileAgain limits book facts
-      → length (encodes (printed_file book facts)) < 2 ^ 63 → (score_of limits Whole (printed_file book facts)).fault ≡ None
-      → IsSameScore book facts (score_of limits Whole (printed_file book facts))
+      → length (encodes (printed_file book facts)) < 2 ^ 63 → (emitted_score limits Whole (printed_file book facts)).fault ≡ None
+      → IsSameScore book facts (emitted_score limits Whole (printed_file book facts))
   same_score limits book facts file short fault =
       let t : List ℕ = printed_file book facts in
       let lines : ℕ = nabc_lines_of book in
       let cut : BodyCutting = record { comment = []; units = Some (record { closed = file.units; last = JustText file.last }) } in
-      let again : Score = score_of limits Whole t in
-      let book_is : again.book ≡ Some book = ap (λ r. (score_by limits Whole t r).book) file.heads in
+      let again : Score = emitted_score limits Whole t in
+      let book_is : again.book ≡ Some book = ap (λ r. (emitted_score_by limits Whole t r).book) file.heads in
       let syllables_are = whole limits t book cut short book_is file.cut fault in
       let p = printed lines (score_units cut.units) again.syllables syllables_are (first lines (macros_of book) (body_characters t) cut file.cut)
       (λ e. single (macros_of book) (body_characters t) cut (subst (λ (n : ℕ). IsCut texts_by_definition n (macros_of book) (body_characters t) cut) e file.cut)) in

@@ -11,7 +11,7 @@ use Rattle.gabc_headers.specs.Book.{nabc_lines_of}
 use Rattle.gabc_body.specs.declared.ending.InputEnding.{InputEnding}
 use Rattle.gabc_body.specs.declared.snippets.Snippet.{Snippet}
 use Rattle.gabc_body.specs.Holding.{HoldsNoNotes, Holds, HoldsWithNotes, HoldsParts, lines_by, lines_of}
-use Rattle.gabc_body.specs.Score.{score_of}
+use Rattle.gabc_body.specs.witness.EmittedScore.{emitted_score}
 use Rattle.gabc_body.specs.Syllable.{UnplacedSyllable, PlacedSyllable}
 use Rattle.gabc_body.specs.SyllablesOfUnits.{ScoreUnit, NotesAre}
 use Rattle.gabc_body.specs.UnitRead.{HoldsSomeUnit}
@@ -41,40 +41,40 @@ few : (lines : ℕ) (u : ScoreUnit) (xss : List (List Char)) (whole : List ℕ) 
 few lines u xss whole snippets e n single = grind (arith, length-map)
 
 module _ (units_are : (limits : Limits) (ending : InputEnding) (t : List ℕ) (book : List (List ℕ × List ℕ)) → length (encodes t) < 2 ^ 63
-    → (score_of limits ending t).book ≡ Some book → UnitsAre t book (score_of limits ending t).syllables)
+    → (emitted_score limits ending t).book ≡ Some book → UnitsAre t book (emitted_score limits ending t).syllables)
     (held : (limits : Limits) (ending : InputEnding) (t : List ℕ) → length (encodes t) < 2 ^ 63
-    → All (λ (s : PlacedSyllable). HoldsParts t (lines_of (score_of limits ending t)) s.made) (score_of limits ending t).syllables)
+    → All (λ (s : PlacedSyllable). HoldsParts t (lines_of (emitted_score limits ending t)) s.made) (emitted_score limits ending t).syllables)
     (noted : (limits : Limits) (ending : InputEnding) (t : List ℕ) → length (encodes t) < 2 ^ 63 → (before after : List PlacedSyllable) (s next : PlacedSyllable)
-    → (score_of limits ending t).syllables ≡ before ++ s ∷ next ∷ after → HoldsWithNotes t (lines_of (score_of limits ending t)) s.made)
+    → (emitted_score limits ending t).syllables ≡ before ++ s ∷ next ∷ after → HoldsWithNotes t (lines_of (emitted_score limits ending t)) s.made)
     (parts : (input : List ℕ) (lines : ℕ) (m : UnplacedSyllable) → HoldsWithNotes input lines m → (lines ≡ 0 → length m.snippets ≤ 1) → HoldsSomeUnit lines m)
-    (limits : Limits) (ending : InputEnding) (t : List ℕ) (book : List (List ℕ × List ℕ)) (short : length (encodes t) < 2 ^ 63) (book_is : (score_of limits ending t).book ≡ Some book) where
+    (limits : Limits) (ending : InputEnding) (t : List ℕ) (book : List (List ℕ × List ℕ)) (short : length (encodes t) < 2 ^ 63) (book_is : (emitted_score limits ending t).book ≡ Some book) where
   abbrev lines : ℕ
   lines = nabc_lines_of book
 
-  lines_are : lines_of (score_of limits ending t) ≡ lines
+  lines_are : lines_of (emitted_score limits ending t) ≡ lines
   lines_are = ap lines_by book_is
 
-  single_of : (before after : List PlacedSyllable) (s : PlacedSyllable) → (score_of limits ending t).syllables ≡ before ++ s ∷ after → lines ≡ 0 → length s.made.snippets ≤ 1
+  single_of : (before after : List PlacedSyllable) (s : PlacedSyllable) → (emitted_score limits ending t).syllables ≡ before ++ s ∷ after → lines ≡ 0 → length s.made.snippets ≤ 1
   single_of before after s e none =
       let u = units_are limits ending t book short book_is in
-      let count : length (score_of limits ending t).syllables ≡ length u.units = u.syllables_are.count in
-      let size : length (score_of limits ending t).syllables ≡ length before + suc (length after) = ap (length {A = PlacedSyllable}) e ∙ length-append before (s ∷ after) in
+      let count : length (emitted_score limits ending t).syllables ≡ length u.units = u.syllables_are.count in
+      let size : length (emitted_score limits ending t).syllables ≡ length before + suc (length after) = ap (length {A = PlacedSyllable}) e ∙ length-append before (s ∷ after) in
       let p = split (length before) u.units (omega (arith, count, size)) in
       let k = u.syllables_are.each p.before p.after p.one before after s p.parts e (sym p.count) in
       few lines p.one p.one.snippets k.holds.whole s.made.snippets refl k.holds.notes (there IsSingle p.before p.after p.one (subst (All IsSingle) p.parts (u.single none)))
 
-  with_notes : (before after : List PlacedSyllable) (s : PlacedSyllable) → (score_of limits ending t).syllables ≡ before ++ s ∷ after → HoldsWithNotes t (lines_of (score_of limits ending t)) s.made → HoldsSomeUnit lines s.made
+  with_notes : (before after : List PlacedSyllable) (s : PlacedSyllable) → (emitted_score limits ending t).syllables ≡ before ++ s ∷ after → HoldsWithNotes t (lines_of (emitted_score limits ending t)) s.made → HoldsSomeUnit lines s.made
   with_notes before after s e h = parts t lines s.made (subst (λ (n : ℕ). HoldsWithNotes t n s.made) lines_are h) (single_of before after s e)
 
-  pub earlier_hold : (before after : List PlacedSyllable) (s next : PlacedSyllable) → (score_of limits ending t).syllables ≡ before ++ s ∷ next ∷ after → HoldsSomeUnit lines s.made
+  pub earlier_hold : (before after : List PlacedSyllable) (s next : PlacedSyllable) → (emitted_score limits ending t).syllables ≡ before ++ s ∷ next ∷ after → HoldsSomeUnit lines s.made
   earlier_hold before after s next e = with_notes before (next ∷ after) s e (noted limits ending t short before after s next e)
 
-  pub each_holds : (before after : List PlacedSyllable) (s : PlacedSyllable) → (score_of limits ending t).syllables ≡ before ++ s ∷ after → HoldsSomeUnit lines s.made ⊎ Holds HoldsNoNotes t s.made
+  pub each_holds : (before after : List PlacedSyllable) (s : PlacedSyllable) → (emitted_score limits ending t).syllables ≡ before ++ s ∷ after → HoldsSomeUnit lines s.made ⊎ Holds HoldsNoNotes t s.made
   each_holds before after s e = by (there Parts before after s (subst (All Parts) e (held limits ending t short)))
     where
       Parts : PlacedSyllable → Type 0
-      Parts r = HoldsParts t (lines_of (score_of limits ending t)) r.made
+      Parts r = HoldsParts t (lines_of (emitted_score limits ending t)) r.made
 
-      by : HoldsWithNotes t (lines_of (score_of limits ending t)) s.made ⊎ Holds HoldsNoNotes t s.made → HoldsSomeUnit lines s.made ⊎ Holds HoldsNoNotes t s.made
+      by : HoldsWithNotes t (lines_of (emitted_score limits ending t)) s.made ⊎ Holds HoldsNoNotes t s.made → HoldsSomeUnit lines s.made ⊎ Holds HoldsNoNotes t s.made
       by (inl h) = inl (with_notes before after s e h)
       by (inr h) = inr h

@@ -1,7 +1,7 @@
 use Rattle.std.proofs.Common.{ℕ, sym, ap, subst, ◌∙◌}
 use Rattle.std.specs.List.{All}
 use Rattle.gabc_body.specs.Holding.{HoldsParts, HoldsWithNotes, lines_by, lines_of}
-use Rattle.gabc_body.specs.Score.{score_of}
+use Rattle.gabc_body.specs.witness.EmittedScore.{emitted_score}
 use Rattle.gabc_body.specs.Syllable.{PlacedSyllable}
 use Rattle.gabc_body.proofs.score_events.PlainScores.{plain_of, alike}
 use Rattle.gabc_body.proofs.holding.SnippetsAreHeld.{bytes_stand}
@@ -12,7 +12,7 @@ pub returns-clause-held : goal.returns-clause-held
 returns-clause-held c limits ending t short =
     let a = alike limits ending t in
     let lines = ap lines_by (sym a.book) in
-    subst (λ (k : ℕ). All (λ (s : PlacedSyllable). HoldsParts t k s.made) (score_of limits ending t).syllables) lines
+    subst (λ (k : ℕ). All (λ (s : PlacedSyllable). HoldsParts t k s.made) (emitted_score limits ending t).syllables) lines
     (subst (All (λ (s : PlacedSyllable). HoldsParts t (lines_of (plain_of limits ending t)) s.made)) (sym a.syllables)
     (score_holds c.a_text_ends_once.ensures c.events_build_the_text.ensures.events c.spans_stand_for_the_view.ensures.view limits ending t short))
 

@@ -27,6 +27,7 @@ returns c job limits s begun bytes ending =
       fault = c.a_score_says_what_it_emits.ensures.fault;
       nothing_after = λ limits xs. c.nothing_follows_the_end.ensures texts_by_definition limits xs;
       end = c.a_score_says_what_it_emits.ensures.end;
+      emitted = c.a_score_says_what_is_kept.ensures.score;
       few = c.syllables_are_fewer_than_bytes.ensures;
     } in
     let items = emitted_by (is_whole ending) bytes (decoder.events_left s.decoder bytes) in

@@ -1,0 +1,13 @@
+pub mod BodyByKept
+pub mod BodyIsRead
+pub mod BodyStandsRead
+pub mod EndStandsRead
+pub mod PartsEndRead
+pub mod PiecesStandInKept
+pub mod ReadingStands
+pub mod ScoreByKept
+pub mod SnippetsAreGathered
+pub mod SnippetsStand
+pub mod TextsAreGathered
+pub mod TextsGo
+pub mod TextsStand
