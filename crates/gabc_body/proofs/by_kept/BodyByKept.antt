@@ -75,10 +75,6 @@ notes_found : (cs : List Code) (inner here : Place) (l : List NoteEvent) → (li
 notes_found [] inner here l = (refl, refl)
 notes_found (c ∷ cs) inner here l = notes_found cs inner here l
 
-no_more : (l : List NoteEvent) → l ++ [] ≡ l
-no_more [] = refl
-no_more (o ∷ l) = ap (λ (m : List NoteEvent). o ∷ m) (no_more l)
-
 mark_ends : (x : Char) (n : ℕ) → EndsAt x (note_out.Ended (end_by_mark x.c) n ∷ []) true
 mark_ends x n = go (x.c == 124) refl
   where

@@ -44,9 +44,6 @@ size_first c t = size_append (c ∷ []) t
 pub fits_next : (p : Place) (c : ℕ) (t : List ℕ) (n m : ℕ) → m ≤ n + size (c ∷ []) → Fits p (c ∷ t) n → Fits (next_place p c) t m
 fits_next p c t n m h f = by (is_line_feed c)
   where
-    here : ℕ
-    here = size (c ∷ [])
-
     bytes : m + size t < 2 ^ 64
     bytes = let s = size_first c t in let b = f.bytes in omega (arith, h, s, b)
 

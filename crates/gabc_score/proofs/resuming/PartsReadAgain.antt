@@ -39,9 +39,9 @@ use Rattle.gabc_body.specs.witness.TextEvents.{text_events}
 use Rattle.gabc_score.specs.machine.ReadAgain.{Adds, BeginsComment, BeginsIn, IsNext, IsNextIn, OpenAt, OpensNotes, Reads, ReadsAgain}
 use Rattle.gabc_score.proofs.building.SnippetsTakeCharacters.{StaysInNotes, in_snippet, next_ends, none_next, not_next, one_ends, stays_in_notes}
 use Rattle.gabc_body.proofs.emitted.EndsOfSnippets.{none_close}
-use Rattle.gabc_score.proofs.building.PartsOfKeptText.{Grows, cut_is, end_marks, ends_text, notes_ended, notes_said, of_notes, said_gathered, snippet_grows, text_goes_on, text_grows}
+use Rattle.gabc_score.proofs.building.PartsOfKeptText.{Grows, end_marks, ends_text, notes_ended, notes_said, of_notes, said_gathered, snippet_grows, text_goes_on, text_grows}
 use Rattle.gabc_score.proofs.resuming.PartsAreOne.{outside}
-use Rattle.gabc_body.proofs.texts_of_body.SeamsOfCharacters.{size, size_append, size_is_sum}
+use Rattle.gabc_body.proofs.texts_of_body.SeamsOfCharacters.{cut_is, size, size_append, size_is_sum}
 use Rattle.gabc_body.specs.declared.events.BodyEvent.{BodyEvent}
 use Rattle.gabc_text.specs.TextStage.{fresh_stage}
 use Rattle.gabc_score.specs.machine.PartSteps.{PartSteps, SnippetSteps}
