@@ -4,6 +4,8 @@ pub mod BodyStandsRead
 pub mod EndStandsRead
 pub mod PartsEndRead
 pub mod PiecesStandInKept
+pub mod PrefixesAreRead
+pub mod ReadingExamples
 pub mod ReadingStands
 pub mod ScoreByKept
 pub mod SnippetsAreGathered

@@ -7,7 +7,9 @@ pub mod FoundInParts
 pub mod Holding
 pub mod Marks
 pub mod NoteBeforeClef
+pub mod OneSyllable
 pub mod OpenSpans
+pub mod ReadAlone
 pub mod Reading
 pub mod Score
 pub mod ScoreEvents

@@ -118,7 +118,7 @@ with_kept macros b x =
     with_found (found_by macros r.part r.kept r.inner x)
     (record b { reading = record r { kept = r.kept ++ kept_as r.part r.kept x.c ∷ []; comment = false; inner = inner_by r.part r.kept r.inner x } })
 
--- ---- the end of a text
+-- ---- the end of a part
 
 abbrev pub with_text_ended : Place → BodyRead → BodyRead
 with_text_ended here b = with_found (found_at (codes_at_end (reverse (tokens b.reading.kept))) here) b
@@ -127,8 +127,6 @@ abbrev pub past_text : Place → BodyRead → BodyRead
 past_text here b =
     let r = b.reading in
     record b { reading = record r { part = InNotes 0; kept = []; before = r.kept ++ 40 ∷ []; text = r.kept; comment = false; paren = here; inner = no_place } }
-
--- ---- the end of a snippet
 
 -- W12 of a note before any clef, if neither has come before
 abbrev pub sound_codes : Bool → Option Bool → List Code
@@ -157,11 +155,7 @@ with_syllable kept t snippets b =
     let nlba = open_past (codes "<nlba>") (codes "</nlba>") kept view.pieces b.nlba in
     record b { made = b.made ++ record { text = view; kept = kept; snippets = snippets; eu = eu; nlba = nlba } ∷ []; eu = eu; nlba = nlba }
 
--- after a `|` comes the next snippet, of GABC after the last NABC line
-abbrev pub with_next : ℕ → List ℕ → List Snippet → BodyRead → BodyRead
-with_next line before snippets b = record b { reading = record b.reading { part = InNotes line; kept = []; before = before; snippets = snippets; comment = false; inner = no_place } }
-
--- after the mark the next snippet, or at a `)` the next syllable
+-- after a `|` the next snippet, of GABC after the last NABC line, after a `)` the next syllable
 abbrev pub past_snippet : ℕ → ℕ → ℕ → BodyRead → BodyRead
 past_snippet lines line mark b =
     let r = b.reading in
@@ -169,23 +163,18 @@ past_snippet lines line mark b =
     let snippets = r.snippets ++ snippet_at line (length (encode_utf8_all r.before)) (encode_utf8_all whole) ∷ [] in
     let before = r.before ++ (whole ++ mark ∷ []) in
     cond (mark == 124)
-    (with_next (cond (nat_lt line lines) (line + 1) 0) before snippets b)
+    (record b { reading = record r { part = InNotes (cond (nat_lt line lines) (line + 1) 0); kept = []; before = before; snippets = snippets; comment = false; inner = no_place } })
     (record (with_syllable (encode_utf8_all before) r.text snippets b) { reading = at_start false })
-
--- ---- a character
 
 abbrev pub with_end : ℕ → Part → BodyRead → Char → BodyRead
 with_end lines InText b x = past_text x.place (with_text_ended x.place b)
 with_end lines (InNotes line) b x = past_snippet lines line x.c (with_snippet_ended line x.place b)
 
-abbrev pub with_comment : Bool → BodyRead → BodyRead
-with_comment comment b = record b { reading = record b.reading { comment = comment } }
-
 abbrev pub with_fate : ℕ → ℕ → BodyRead → Char → Fate → BodyRead
 with_fate lines macros b x Keep = with_kept macros b x
-with_fate lines macros b x Comment = with_comment true b
-with_fate lines macros b x (LeaveOut None) = with_comment false b
-with_fate lines macros b x (LeaveOut (Some code)) = with_found (found_at (code ∷ []) x.place) (with_comment false b)
+with_fate lines macros b x Comment = record b { reading = record b.reading { comment = true } }
+with_fate lines macros b x (LeaveOut None) = record b { reading = record b.reading { comment = false } }
+with_fate lines macros b x (LeaveOut (Some code)) = with_found (found_at (code ∷ []) x.place) (record b { reading = record b.reading { comment = false } })
 with_fate lines macros b x Ends = with_end lines b.reading.part b x
 
 -- a comment goes on up to an LF
@@ -226,11 +215,10 @@ with_last here b =
     b
 
 -- W11 of a span that is open
-abbrev pub with_spans : Place → BodyRead → BodyRead
-with_spans here b = with_found (found_at (cond (b.eu || b.nlba) (W11 ∷ []) []) here) b
-
 abbrev pub ended : Place → BodyRead → BodyRead
-ended here b = with_spans here (with_last here (with_text_ended here b))
+ended here b =
+    let all = with_last here (with_text_ended here b) in
+    with_found (found_at (cond (all.eu || all.nlba) (W11 ∷ []) []) here) all
 
 abbrev pub result_of : List Finding → BodyRead → Option Fault → BodyResult
 result_of found b fault = record { syllables = with_positions b.made; findings = found ++ b.found; fault = fault }

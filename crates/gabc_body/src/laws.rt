@@ -26,8 +26,7 @@ ghost use Rattle.gabc_body.specs.FoundInParts.{TextWarns, UnitsWarn};
 ghost use Rattle.gabc_headers.specs.Canonical.{canonical_heads};
 ghost use Rattle.gabc_text.specs.Events.{codes_of};
 ghost use Rattle.gabc_body.specs.declared.ending.InputEnding.TheVariants.{Whole, Broken, At};
-ghost use Rattle.gabc_body.specs.Score.{body_in, score_of};
-ghost use Rattle.gabc_body.specs.witness.EmittedScore.{emitted_body, emitted_score};
+ghost use Rattle.gabc_body.specs.witness.EmittedScore.{emitted_score};
 ghost use Rattle.gabc_body.specs.SyllablesOfUnits.{ScoreUnit, unit_characters, closed_units, score_units, units_within, whole_prefix, AreSyllablesOf, IsBodyCut, AreBeforeBodyStop};
 ghost use Rattle.gabc_body.specs.Body.{events_to_stop, events_onto, code_at};
 ghost use Rattle.gabc_body.specs.Stops.{StopsAt, NeverStops};
@@ -100,23 +99,6 @@ pub fn findings_in_order()
     gabc_nabc::laws::findings_are_in_order();
     gabc_nabc::laws::findings_lie_within();
     gabc_nabc::laws::a_snippet_ends_at_its_mark();
-}
-
-/// Law: what is read of a text by what is kept of it is what the score says by all that its body
-/// emits, if its characters are Unicode scalar values and it has fewer than 2^63 bytes.
-pub fn a_score_says_what_is_kept()
-    ensures body { (limits : Limits) (ending : InputEnding) (t : List ℕ) (heads : Heads) →
-        All IsScalar t → length (encode_utf8_all t) < 2 ^ 63 →
-        body_in limits ending t heads ≡ emitted_body limits ending t heads }
-    ensures score { (limits : Limits) (ending : InputEnding) (t : List ℕ) →
-        All IsScalar t → length (encode_utf8_all t) < 2 ^ 63 →
-        score_of limits ending t ≡ emitted_score limits ending t }
-{
-    gabc_text::laws::text_events_are_by_kept();
-    gabc_text::laws::a_text_says_what_is_kept();
-    gabc_text::laws::events_build_the_text();
-    gabc_text::laws::events_by_point_are_the_events();
-    gabc_text::laws::a_text_ends_once();
 }
 
 /// Law: the reading of a body stops at the first character at which a limit is passed, if there is

@@ -16,6 +16,7 @@
 
 mod before;
 mod body_result;
+pub mod by_kept_laws;
 mod canonical;
 mod ending;
 mod events;

@@ -23,7 +23,8 @@ ghost use Rattle.gabc_body.specs.Events.{texts_by_definition, text_from, events_
 ghost use Rattle.gabc_body.specs.ScoreEvents.{HasNoEnd, ScoreOutput, fault_in, findings_in, has_end, head_events, outputs_of_text, score_outputs, syllables_in};
 ghost use Rattle.gabc_score.specs.HeldAside.{HoldTheSame, GiveTheSame};
 ghost use Rattle.gabc_score.specs.AreEquivalent.{AreEquivalent};
-ghost use Rattle.gabc_score.specs.HeldAgain.{IsOneSyllable, MayBeHeld};
+ghost use Rattle.gabc_body.specs.OneSyllable.{IsOneSyllable};
+ghost use Rattle.gabc_score.specs.HeldAgain.{MayBeHeld};
 ghost use Rattle.gabc_score.specs.ReadAgain.{CanBeReadInText, ComesBefore};
 ghost use Rattle.gabc_score.specs.Resumed.{BeginsText, IsAfterSyllables};
 ghost use Rattle.gabc_body.specs.declared.before.Before.{Before};

@@ -99,7 +99,7 @@ fn score_after(
     ensures { IfOk result (λ score. score
         ≡ with_body heads (body_in limits ending text.now heads)) }
 {
-    gabc_body::laws::a_score_says_what_is_kept();
+    gabc_body::by_kept_laws::a_score_says_what_is_kept();
     let Heads {
         book,
         body,

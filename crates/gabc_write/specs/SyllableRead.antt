@@ -9,7 +9,7 @@ use Rattle.gabc_body.specs.declared.events.BodyEvent.{BodyEvent}
 use Rattle.gabc_body.specs.declared.syllable.Position.{Position}
 use Rattle.gabc_body.specs.Body.{events_onto, findings_of}
 use Rattle.gabc_body.specs.Canonical.{canonical}
-use Rattle.gabc_score.specs.HeldAgain.{IsOneAlone}
+use Rattle.gabc_body.specs.OneSyllable.{IsOneAlone}
 use Rattle.gabc_body.specs.ScoreEvents.{first_place}
 use Rattle.gabc_body.specs.SpansPast.{eu_past, nlba_past}
 use Rattle.gabc_body.specs.Syllable.{UnplacedSyllable, since_close, kept_of, all_syllables, is_eu, is_nlba}

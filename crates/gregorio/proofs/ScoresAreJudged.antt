@@ -5,7 +5,7 @@ use Rattle.gabc_places.specs.declared.limits.Limits.{Limits}
 use Rattle.gabc_places.specs.declared.place.Place.{Place}
 use Rattle.gabc_places.specs.TextOfAnInput.{IsText}
 use Rattle.gabc_score.proofs.runs.RunGoesOn.{few_characters}
-use Rattle.gabc_score.specs.HeldAgain.{IsOneSyllable}
+use Rattle.gabc_body.specs.OneSyllable.{IsOneSyllable}
 use Rattle.gabc_body.specs.Syllable.{UnplacedSyllable}
 use Rattle.gabc_body.specs.declared.before.Spans.{Spans}
 use Rattle.gregorio_state.specs.Conditions.{ArePhaseFields, AreScoreFields}

@@ -36,7 +36,7 @@ pub(crate) fn what_begins_is_written_whole()
     gabc_headers::laws::the_book_is_read();
     gabc_score::laws::a_stage_of_headers_emits_the_events();
     gabc_score::laws::a_score_says_what_it_emits();
-    gabc_score::laws::a_score_says_what_is_kept();
+    gabc_body::by_kept_laws::a_score_says_what_is_kept();
     gabc_score::laws::nothing_follows_the_end();
     gabc_score::laws::syllables_are_fewer_than_bytes();
     gabc_score::stage_laws::texts_are_read_in_full();

@@ -33,7 +33,7 @@ pub fn canonical_again()
 {
     gabc_places::laws::texts_are_plain();
     gabc_places::laws::texts_are_scalars_within_the_limit();
-    gabc_score::laws::a_score_says_what_is_kept();
+    gabc_body::by_kept_laws::a_score_says_what_is_kept();
     gabc_score::laws::snippets_stand_between_characters();
     gabc_write::laws::score_again();
     gabc_write::laws::syllables_that_say_the_same_have_one_dump();
@@ -72,7 +72,7 @@ pub fn a_stopped_run_writes_what_its_prefix_writes()
 {
     gabc_places::laws::a_prefix_of_a_text_is_read_of_a_prefix_of_its_bytes();
     gabc_places::laws::texts_are_scalars_within_the_limit();
-    gabc_score::laws::a_score_says_what_is_kept();
+    gabc_body::by_kept_laws::a_score_says_what_is_kept();
     gabc_score::laws::a_body_has_one_cutting();
     gabc_score::laws::whole_prefixes_are_first_characters();
     gabc_score::laws::the_syllables_are_those_of_the_units();
@@ -89,6 +89,6 @@ pub fn larger_limits_change_nothing()
         outcome_of larger ending bytes ≡ outcome_of limits ending bytes }
 {
     gabc_places::laws::texts_are_scalars_within_the_limit();
-    gabc_score::laws::a_score_says_what_is_kept();
+    gabc_body::by_kept_laws::a_score_says_what_is_kept();
     gabc_score::laws::larger_limits_change_no_score();
 }

@@ -1,23 +1,21 @@
 -- What a body emits is so by what is kept of each snippet.
-use Rattle.std.proofs.Common.{◌≡◌, ℕ, nat_lt, List, [], ◌∷◌, ◌++◌, Bool, true, false, cond, not, ◌&&◌, ◌||◌, ◌==◌, refl, sym, ap, ◌∙◌, subst, arith, Option, Some, None}
+use Rattle.std.proofs.Common.{◌≡◌, ℕ, nat_lt, List, [], ◌∷◌, ◌++◌, Bool, true, false, cond, not, ◌&&◌, ◌==◌, refl, sym, ap, ◌∙◌, Option, Some, None}
 use Rattle.std.specs.Prelude.{map}
 use Rattle.std.specs.List.{list_any}
-use Rattle.std.proofs.lemmas.List.Folds.{list_any-append}
 use Rattle.gabc_places.specs.declared.code.Code.{Code}
 use Rattle.gabc_places.specs.declared.place.Place.{Place}
 use Rattle.gabc_places.specs.declared.place.Char.{Char}
 use Rattle.gabc_places.specs.StageLaw.{silence}
-use Rattle.gabc_text.specs.declared.text_event.TextEvent.{TextEvent}
 use Rattle.gabc_notes.specs.declared.stage.NoteEvent.{NoteEvent}
 use Rattle.gabc_notes.specs.declared.stage.NoteEvent.TheVariants as note_out
-use Rattle.gabc_notes.specs.Events.{finding_event, end_by_mark, note_events, bytes_of}
+use Rattle.gabc_notes.specs.Events.{end_by_mark, note_events, bytes_of}
 use Rattle.gabc_notes.specs.Table.{gabc}
 use Rattle.gabc_nabc.specs.Events.{nabc_events, bytes_in}
 use Rattle.gabc_nabc.specs.Table.{nabc as nabc_table}
 use Rattle.gabc_patterns.specs.Reads.{whole_front}
 use Rattle.gabc_body.specs.declared.events.BodyEvent.{BodyEvent}
 use Rattle.gabc_body.specs.Events.{PartAhead, is_text_end, is_next, is_close, note_event, first_list, other_lists, Texts, text_from, snippet_from, next_line, after_mark, events_in, part_after_character, events_from, body_events, texts_by_definition}
-use Rattle.gabc_body.specs.Events as ahead_at
+use Rattle.gabc_body.specs.Events as emitting
 use Rattle.gabc_places.specs.Fate.{Fate, Keep, Comment, Ends, LeaveOut}
 use Rattle.gabc_notes.specs.KeptNotes.{fate_in_notes, found_in_notes, found_at_end as notes_at_end}
 use Rattle.gabc_nabc.specs.KeptNabc.{fate_in_nabc, found_in_nabc, found_at_end as nabc_at_end}
@@ -123,7 +121,7 @@ step_ends lines macros line s x = by (line == 0)
 
 module _ (texts : Texts) (lines macros : ℕ) where
   snippet_is : (line : ℕ) (opened : Place) (xs : List Char) → snippet_from lines macros line opened xs ≡ ahead lines macros (InNotes line opened fresh) xs
-  snippet_is line opened xs = ap (ahead_at.InNotes line opened) (by (line == 0))
+  snippet_is line opened xs = ap (emitting.InNotes line opened) (by (line == 0))
     where
       by : (b : Bool) → cond b (note_events (nat_lt 0 lines) macros xs) (nabc_events xs) ≡ cond b (notes.events_past (nat_lt 0 lines) macros [] (record { line = 0; column = 0 }) false xs) (nabc.events_past [] false xs)
       by true = notes_are (nat_lt 0 lines) macros xs
@@ -133,11 +131,11 @@ module _ (texts : Texts) (lines macros : ℕ) where
   part_is InComment x xs = refl
   part_is (InText lists) x xs = by (list_any is_text_end (first_list lists))
     where
-      by : (b : Bool) → cond b (snippet_from lines macros 0 x.place xs) (ahead_at.InText (other_lists lists)) ≡ ahead lines macros (cond b (InNotes 0 x.place fresh) (InText (other_lists lists))) xs
+      by : (b : Bool) → cond b (snippet_from lines macros 0 x.place xs) (emitting.InText (other_lists lists)) ≡ ahead lines macros (cond b (InNotes 0 x.place fresh) (InText (other_lists lists))) xs
       by true = snippet_is 0 x.place xs
       by false = refl
   part_is (InNotes line opened s) x xs =
-      ap (λ (l : List (List NoteEvent)). part_after_character texts lines macros (ahead_at.InNotes line opened l) x xs) (lists_step lines macros line s x xs)
+      ap (λ (l : List (List NoteEvent)). part_after_character texts lines macros (emitting.InNotes line opened l) x xs) (lists_step lines macros line s x xs)
       ∙ by (step lines macros line s x).0 (step lines macros line s x).1 (step_ends lines macros line s x)
     where
       mark : (b : Bool) → cond b (snippet_from lines macros (next_line lines line) opened xs) (text_from texts (after_mark x.place) xs) ≡ ahead lines macros (cond b (InNotes (next_line lines line) opened fresh) (InText (texts (after_mark x.place) xs))) xs
@@ -149,15 +147,15 @@ module _ (texts : Texts) (lines macros : ℕ) where
       either false p q r = refl
 
       by : (events : List NoteEvent) (o : Option SnippetState) → EndsAt x events (gone o)
-          → cond (list_any is_next events) (snippet_from lines macros (next_line lines line) opened xs) (cond (list_any is_close events) (text_from texts (after_mark x.place) xs) (ahead_at.InNotes line opened (tail lines macros line o xs)))
+          → cond (list_any is_next events) (snippet_from lines macros (next_line lines line) opened xs) (cond (list_any is_close events) (text_from texts (after_mark x.place) xs) (emitting.InNotes line opened (tail lines macros line o xs)))
           ≡ ahead lines macros (past_notes texts lines line opened x xs o) xs
       by events (Some z) e = rw (e.next, e.close) refl
-      by events None e = rw (e.next, e.close) (either (x.c == 124) (snippet_from lines macros (next_line lines line) opened xs) (text_from texts (after_mark x.place) xs) (ahead_at.InNotes line opened (silence xs)) ∙ mark (x.c == 124))
+      by events None e = rw (e.next, e.close) (either (x.c == 124) (snippet_from lines macros (next_line lines line) opened xs) (text_from texts (after_mark x.place) xs) (emitting.InNotes line opened (silence xs)) ∙ mark (x.c == 124))
 
-  at_is : (part : PartRead) (x : Char) (xs : List Char) → ahead_at.part_at texts (ahead lines macros part (x ∷ xs)) x xs ≡ ahead lines macros (part_at texts part x xs) (x ∷ xs)
+  at_is : (part : PartRead) (x : Char) (xs : List Char) → emitting.part_at texts (ahead lines macros part (x ∷ xs)) x xs ≡ ahead lines macros (part_at texts part x xs) (x ∷ xs)
   at_is InComment x xs = by (x.c == 10)
     where
-      by : (b : Bool) → cond b (text_from texts x.place (x ∷ xs)) ahead_at.InComment ≡ ahead lines macros (cond b (InText (texts x.place (x ∷ xs))) InComment) (x ∷ xs)
+      by : (b : Bool) → cond b (text_from texts x.place (x ∷ xs)) emitting.InComment ≡ ahead lines macros (cond b (InText (texts x.place (x ∷ xs))) InComment) (x ∷ xs)
       by true = refl
       by false = refl
   at_is (InText lists) x xs = refl

@@ -1,14 +1,25 @@
 -- What is read of a body by what is kept is what the definition says by what is emitted.
-use Rattle.std.proofs.Common.{◌≡◌, ℕ, ◌+◌, ◌<◌, ◌≤◌, ◌^◌, Bool, true, false, List, [], ◌∷◌, ◌++◌, map, length, Option, Some, None, refl, sym, ap, subst, ◌∙◌, append-nil, append_assoc, arith}
-use lib.Utf8.{scalars}
-use Rattle.gabc_places.specs.Place.{next_place, place_past, placed_characters_from}
+use Rattle.std.proofs.Common.{◌≡◌, ℕ, ◌+◌, ◌<◌, ◌≤◌, ◌^◌, true, List, [], ◌∷◌, ◌++◌, map, length, encode_utf8_all, Option, Some, None, refl, sym, ap, subst, ◌∙◌, append-nil, arith}
+use Rattle.std.specs.List.{All}
+use Rattle.std.specs.Char.{IsScalar}
+use Rattle.std.proofs.lemmas.Bool.{and_parts}
+use Rattle.std.proofs.lemmas.List.Elements.{All-head, All-tail}
+use Rattle.std.proofs.lemmas.List.{take-append-drop}
+use lib.Utf8.{scalar, scalars}
+use Rattle.gabc_headers.specs.Book.{nabc_lines_of, macros_of}
+use Rattle.gabc_headers.specs.Canonical.{canonical_heads}
+use Rattle.gabc_headers.specs.Heads.{head_len}
+use Rattle.gabc_headers.specs.Lines.{bytes_len}
+use Rattle.gabc_headers.specs.declared.heads.Heads.{Heads}
+use Rattle.gabc_places.proofs.PlacesOfAText.{placed_after, after_joined}
+use Rattle.gabc_places.specs.Place.{next_place, place_after, place_past, placed_characters_after, placed_characters_from}
 use Rattle.gabc_places.specs.declared.code.Code.{Code}
 use Rattle.gabc_places.specs.declared.code.Fault.{Fault}
 use Rattle.gabc_places.specs.declared.code.Finding.{Finding}
 use Rattle.gabc_places.specs.declared.limits.Limits.{Limits}
 use Rattle.gabc_places.specs.declared.place.Char.{Char}
 use Rattle.gabc_places.specs.declared.place.Place.{Place}
-use Rattle.gabc_notes.specs.declared.item.ItemKind.{ItemKind}
+use Rattle.gabc_text.specs.Events.{CountsFit}
 use Rattle.gabc_notes.specs.declared.stage.NoteEvent.TheVariants as note
 use Rattle.gabc_body.specs.declared.body_result.BodyResult.{BodyResult}
 use Rattle.gabc_body.specs.declared.ending.InputEnding.{InputEnding}
@@ -17,10 +28,12 @@ use Rattle.gabc_body.specs.declared.events.BodyEvent.{BodyEvent}
 use Rattle.gabc_body.specs.declared.events.BodyEvent.TheVariants.{Notes}
 use Rattle.gabc_body.specs.Body.{EventsToStop, events_onto, events_to_stop, stopped_events, code_by, code_at, fault_at, findings_of, body_of}
 use Rattle.gabc_body.specs.Body as today
-use Rattle.gabc_body.specs.Events.{body_events, texts_by_definition, events_at_end}
+use Rattle.gabc_body.specs.Events.{texts_by_definition, events_at_end}
 use Rattle.gabc_body.specs.NoteBeforeClef.{first_of, found_first, with_first, with_first_each, score_events}
 use Rattle.gabc_body.specs.Reading.{BodyRead, begun, past, kept_bytes, code_now, stops_by, read_on, result_of, body_by}
 use Rattle.gabc_body.specs.Reading as read
+use Rattle.gabc_body.specs.Score.{heads_text, after_heads}
+use Rattle.gabc_body.specs.witness.EmittedScore.{emitted_body}
 use Rattle.gabc_body.specs.Syllable.{UnplacedSyllable, all_syllables, since_close, kept_of}
 use Rattle.gabc_body.specs.witness.BodyBuilder.{with_all}
 use Rattle.gabc_body.specs.witness.Gatherer.{Gathered}
@@ -33,9 +46,22 @@ use Rattle.gabc_body.proofs.by_kept.BodyByKept.{body_by_kept}
 use Rattle.gabc_body.proofs.by_kept.BodyStandsRead.{step, kept_stands}
 use Rattle.gabc_body.proofs.by_kept.EndStandsRead.{stopped_is}
 use Rattle.gabc_body.proofs.by_kept.PartsEndRead.{part_end}
-use Rattle.gabc_body.proofs.by_kept.ReadingStands.{Fits, Stands, StandsAfter}
+use Rattle.gabc_body.proofs.by_kept.ReadingStands.{Fits, Stands}
 use Rattle.gabc_body.proofs.order.FindingsOfParts.{found, found_append, found_onto}
-use Rattle.gabc_body.proofs.texts_of_body.SeamsOfCharacters.{size}
+use Rattle.gabc_body.proofs.texts_of_body.BodyFits.{body_fits, bytes_encodes}
+
+-- ---- room for the body of a text
+
+scalars_back : (a b : List ℕ) → scalars (a ++ b) ≡ true → scalars b ≡ true
+scalars_back [] b h = h
+scalars_back (c ∷ a) b h = scalars_back a b (and_parts (scalar c) (scalars (a ++ b)) h).1
+
+pub fits_so : (p : Place) (t : List ℕ) → 1 ≤ p.line → CountsFit p t → scalars t ≡ true → Fits p t 0
+fits_so p t l f s = record { line = l; lines = f.line; column = f.column; bytes = let b = f.bytes in let e = bytes_encodes t in omega (arith, b, e); scalar = s }
+
+heads_fit : (t : List ℕ) → scalars t ≡ true → length (encode_utf8_all t) < 2 ^ 63 → Fits (place_after (heads_text t)) (after_heads t) 0
+heads_fit t s h = fits_so (place_after (heads_text t)) (after_heads t) (omega arith) (body_fits t h)
+    (scalars_back (heads_text t) (after_heads t) (subst (λ (u : List ℕ). scalars u ≡ true) (sym (take-append-drop (head_len t + 2) t)) s))
 
 -- ---- a note before any clef
 
@@ -162,3 +188,19 @@ module _ (alike : TextsGoByKept) (limits : Limits) (head lines macros : ℕ) (fs
         fits = fits;
         reads = record { reading_is = refl; nothing = refl; eu_is = refl; nlba_is = refl };
       })
+
+-- the body of a text after its headers
+pub score_body_is_read : TextsGoByKept → (limits : Limits) (ending : InputEnding) (t : List ℕ) (heads : Heads) → scalars t ≡ true → length (encode_utf8_all t) < 2 ^ 63
+    → emitted_body limits ending t heads
+    ≡ body_by limits (bytes_len (canonical_heads heads.book)) (nabc_lines_of heads.book) (macros_of heads.book) heads.findings (place_after t) ending (placed_characters_after (heads_text t) (after_heads t))
+score_body_is_read alike limits ending t heads s h =
+    let head = bytes_len (canonical_heads heads.book) in
+    let lines = nabc_lines_of heads.book in
+    let macros = macros_of heads.book in
+    let at = place_after (heads_text t) in
+    let xs = placed_characters_after (heads_text t) (after_heads t) in
+    subst (λ (here : Place). body_of limits head heads.findings here ending xs (score_events lines macros xs) ≡ body_by limits head lines macros heads.findings here ending xs)
+    (after_joined (heads_text t) (after_heads t) ∙ ap place_after (take-append-drop (head_len t + 2) t))
+    (subst (λ (cs : List Char). body_of limits head heads.findings (place_past at (after_heads t)) ending cs (score_events lines macros cs) ≡ body_by limits head lines macros heads.findings (place_past at (after_heads t)) ending cs)
+    (placed_after (heads_text t) (after_heads t))
+    (body_is_read alike limits head lines macros heads.findings ending at (after_heads t) (heads_fit t s h)))

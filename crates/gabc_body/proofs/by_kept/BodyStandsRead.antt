@@ -1,5 +1,5 @@
 -- A character of a body, whatever part it stands in.
-use Rattle.std.proofs.Common.{◌≡◌, ℕ, ◌≤◌, ◌&&◌, ◌==◌, not, Bool, true, false, cond, List, [], ◌∷◌, ◌++◌, map, codes, encode_utf8_all, Option, Some, None, is_some, refl, sym, ap, subst, ◌∙◌, append-nil, append_assoc, arith}
+use Rattle.std.proofs.Common.{◌≡◌, ℕ, ◌≤◌, ◌&&◌, ◌==◌, not, Bool, true, false, cond, List, [], ◌∷◌, ◌++◌, encode_utf8_all, refl, sym, ap, subst, ◌∙◌, append-nil, arith}
 use Rattle.std.proofs.lemmas.List.Elements.{All-nil}
 use Rattle.gabc_places.specs.Place.{next_place, place_past, placed_characters_from}
 use Rattle.gabc_places.specs.declared.code.Finding.{Finding}
@@ -9,22 +9,17 @@ use Rattle.gabc_text.specs.BuiltText.{empty_view}
 use Rattle.gabc_text.specs.Events.{events_by_point}
 use Rattle.gabc_text.specs.TextView.{ViewContent}
 use Rattle.gabc_text.specs.declared.view.Piece.{Piece}
-use Rattle.gabc_text.specs.declared.text_event.TextEvent.{TextEvent}
-use Rattle.gabc_notes.specs.declared.item.ItemKind.{ItemKind}
 use Rattle.gabc_body.specs.Events.{texts_by_definition}
 use Rattle.gabc_body.specs.NoteBeforeClef.{found_first}
 use Rattle.gabc_body.specs.Reading.{Reading, BodyRead, no_place, at_start, kept_bytes, fate_by, with_fate, past}
 use Rattle.gabc_body.specs.Reading as read
-use Rattle.gabc_body.specs.declared.events.BodyEvent.{BodyEvent}
 use Rattle.gabc_body.specs.witness.Gatherer.{Gathered}
-use Rattle.gabc_body.specs.witness.SyllableBuilder.{OpenSyllable, nothing_open}
+use Rattle.gabc_body.specs.witness.SyllableBuilder.{OpenSyllable}
 use Rattle.gabc_body.specs.witness.PartsByKept.{PartRead, InComment, InText, InNotes, part_at, emitted, part_after}
 use Rattle.gabc_body.specs.witness.TextsByKept.{GoesByKept, GoesIn, TextsGoByKept}
-use Rattle.gabc_body.proofs.by_kept.ReadingStands.{Fits, fits_next, counts_fit, codes_placed, Stands, StandsAfter, ReadsText, ReadsNothing}
-use Rattle.gabc_body.proofs.by_kept.SnippetsAreGathered.{silent}
+use Rattle.gabc_body.proofs.by_kept.ReadingStands.{Fits, fits_next, counts_fit, codes_placed, Stands, StandsAfter}
 use Rattle.gabc_body.proofs.by_kept.SnippetsStand.{snippet_step}
 use Rattle.gabc_body.proofs.by_kept.TextsAreGathered.{SpansStand}
-use Rattle.gabc_body.proofs.by_kept.TextsAreGathered as texts
 use Rattle.gabc_body.proofs.by_kept.TextsStand.{text_step, found_only}
 use Rattle.gabc_body.proofs.texts_of_body.SeamsOfCharacters.{size}
 

@@ -1,49 +1,30 @@
 -- The end of a body: what was read says what was emitted up to it.
-use Rattle.std.proofs.Common.{◌≡◌, ℕ, ◌&&◌, ◌||◌, ◌==◌, not, Bool, true, false, cond, List, [], ◌∷◌, ◌++◌, map, reverse, codes, encode_utf8_all, Option, Some, None, is_some, refl, sym, ap, subst, ◌∙◌, append-nil, append_assoc, arith}
+use Rattle.std.proofs.Common.{◌≡◌, ℕ, ◌||◌, not, Bool, true, false, cond, List, [], ◌∷◌, ◌++◌, reverse, codes, Option, Some, None, is_some, refl, sym, ap, ◌∙◌, append_assoc, arith}
 use Rattle.std.specs.Option.{option_map}
 use Rattle.std.proofs.lemmas.Bool.{true≢false}
-use Rattle.std.proofs.lemmas.List.{map-append}
-use Rattle.gabc_places.specs.Place.{place_past, placed_characters_from}
 use Rattle.gabc_places.specs.declared.code.Code.{Code}
 use Rattle.gabc_places.specs.declared.code.Code.TheVariants.{W9, W11, F6}
 use Rattle.gabc_places.specs.declared.code.Fault.{Fault}
 use Rattle.gabc_places.specs.declared.code.Finding.{Finding}
 use Rattle.gabc_places.specs.declared.limits.Limits.{Limits}
 use Rattle.gabc_places.specs.declared.place.Place.{Place}
-use Rattle.gabc_text.specs.BuiltText.{kept_in}
 use Rattle.gabc_text.specs.KeptText.{view_of_kept}
 use Rattle.gabc_text.specs.TextView.{ViewContent}
 use Rattle.gabc_text.specs.Token.{tokens}
-use Rattle.gabc_text.specs.View.{codes_at_end, is_cut}
+use Rattle.gabc_text.specs.View.{codes_at_end}
 use Rattle.gabc_text.specs.declared.view.Piece.{Piece}
-use Rattle.gabc_text.specs.declared.text_event.TextEnd.{TextEnd}
-use Rattle.gabc_text.specs.declared.text_event.TextEnd.TheVariants as ending
-use Rattle.gabc_text.specs.declared.text_event.TextEvent.{TextEvent}
-use Rattle.gabc_text.specs.declared.text_event.TextEvent.TheVariants as out
-use Rattle.gabc_notes.specs.KeptNotes.{in_raw}
 use Rattle.gabc_body.specs.declared.body_result.BodyResult.{BodyResult}
 use Rattle.gabc_body.specs.declared.events.BodyEvent.{BodyEvent}
-use Rattle.gabc_body.specs.declared.events.BodyEvent.TheVariants.{Text}
-use Rattle.gabc_body.specs.Body.{events_onto, code_by, fault_at, has_text, is_none, empty_snippet, all_units, found_at_end, findings_of, cut_of, fault_of_end, result_stopped, result_whole, result_by_fault}
+use Rattle.gabc_body.specs.Body.{events_onto, code_by, fault_at, has_text, is_none, empty_snippet, all_units, found_at_end, findings_of, cut_of, fault_of_end, result_stopped, result_by_fault}
 use Rattle.gabc_body.specs.Canonical.{with_positions}
-use Rattle.gabc_body.specs.Events.{events_at_end, first_list, note_event}
-use Rattle.gabc_body.specs.Reading.{Reading, BodyRead, at_start, kept_bytes, found_at, with_found, with_text_ended, with_syllable, with_last, with_spans, ended, open_by, result_of, result_by_code, result_by_open}
-use Rattle.gabc_body.specs.Reading as read
+use Rattle.gabc_body.specs.Reading.{BodyRead, kept_bytes, found_at, with_found, with_text_ended, with_syllable, ended, open_by, result_of, result_by_code, result_by_open}
 use Rattle.gabc_body.specs.SpansPast.{open_past}
 use Rattle.gabc_body.specs.Syllable.{UnplacedSyllable, all_syllables, since_close, kept_of}
 use Rattle.gabc_body.specs.witness.BodyBuilder.{with_all}
 use Rattle.gabc_body.specs.witness.Gatherer.{Gathered}
-use Rattle.gabc_body.specs.witness.TextEvents.{text_events}
-use Rattle.gabc_body.specs.witness.SyllableBuilder.{OpenSyllable, nothing_open}
-use Rattle.gabc_body.specs.witness.PartsByKept.{SnippetState, PartRead, InComment, InText, InNotes, ahead, lists_of}
-use Rattle.gabc_body.specs.witness.TextsByKept.{view_past, SaysEnd, EndsBy}
 use Rattle.gabc_body.proofs.gathering.BuilderHoldsDefinition.{gathered}
-use Rattle.gabc_body.proofs.gathering.EventsOfOnePoint.{with_all_append, gathered_all}
-use Rattle.gabc_body.proofs.by_kept.BodyStandsRead.{kept_stands}
-use Rattle.gabc_body.proofs.by_kept.ReadingStands.{Stands, ReadsText, ReadsNotes, state_of}
-use Rattle.gabc_body.proofs.by_kept.TextsAreGathered.{SpansStand, Grows, text_grows, texts_found}
-use Rattle.gabc_body.proofs.by_kept.TextsAreGathered as texts
-use Rattle.gabc_body.proofs.order.FindingsOfParts.{found, found_append, found_onto}
+use Rattle.gabc_body.proofs.gathering.EventsOfOnePoint.{gathered_all}
+use Rattle.gabc_body.proofs.order.FindingsOfParts.{found, found_onto}
 
 -- ---- what is said of what was gathered
 
@@ -74,6 +55,10 @@ pub record LastText (b : BodyRead) (a : Gathered) : Type 0 where
   pub view_is : a.builder.view ≡ view_of_kept b.reading.kept
   pub eu_is : a.eu ≡ open_past (codes "<eu>") (codes "</eu>") (kept_bytes b.reading) (view_of_kept b.reading.kept).pieces b.eu
   pub nlba_is : a.nlba ≡ open_past (codes "<nlba>") (codes "</nlba>") (kept_bytes b.reading) (view_of_kept b.reading.kept).pieces b.nlba
+
+-- with W11 of a span that is open
+abbrev with_spans : Place → BodyRead → BodyRead
+with_spans here b = with_found (found_at (cond (b.eu || b.nlba) (W11 ∷ []) []) here) b
 
 module _ (here : Place) (b : BodyRead) (a : Gathered) (l : LastText b a) where
   abbrev view : ViewContent

@@ -1,5 +1,5 @@
 -- The end of a body in each of its parts.
-use Rattle.std.proofs.Common.{◌≡◌, ℕ, ◌&&◌, ◌==◌, nat_lt, Bool, true, false, cond, List, [], ◌∷◌, ◌++◌, length, reverse, codes, encode_utf8_all, Option, Some, None, refl, sym, ap, subst, ◌∙◌, append-nil, arith}
+use Rattle.std.proofs.Common.{◌≡◌, ℕ, ◌&&◌, ◌==◌, nat_lt, Bool, true, false, cond, List, [], ◌∷◌, ◌++◌, reverse, encode_utf8_all, Option, Some, None, refl, sym, ap, subst, ◌∙◌, append-nil}
 use Rattle.std.proofs.lemmas.List.{map-append}
 use Rattle.gabc_places.specs.declared.code.Finding.{Finding}
 use Rattle.gabc_places.specs.declared.limits.Limits.{Limits}
@@ -14,21 +14,13 @@ use Rattle.gabc_text.specs.declared.text_event.TextEnd.TheVariants as ending
 use Rattle.gabc_text.specs.declared.text_event.TextEvent.{TextEvent}
 use Rattle.gabc_text.specs.declared.text_event.TextEvent.TheVariants as out
 use Rattle.gabc_notes.specs.KeptNotes.{in_raw}
-use Rattle.gabc_notes.specs.Events.{bytes_of}
-use Rattle.gabc_notes.specs.declared.stage.NoteEnd.TheVariants as note_end
-use Rattle.gabc_notes.specs.declared.stage.NoteEvent.{NoteEvent}
-use Rattle.gabc_notes.specs.declared.stage.NoteEvent.TheVariants as note
 use Rattle.gabc_notes.specs.witness.NotesByKept as notes
-use Rattle.gabc_nabc.specs.Events.{bytes_in}
 use Rattle.gabc_nabc.specs.witness.NabcByKept as nabc
-use Rattle.gabc_body.specs.declared.body_result.BodyResult.{BodyResult}
 use Rattle.gabc_body.specs.declared.events.BodyEvent.{BodyEvent}
 use Rattle.gabc_body.specs.declared.events.BodyEvent.TheVariants.{Text}
 use Rattle.gabc_body.specs.Body.{events_onto, fault_of_end, findings_of, cut_of, result_by_fault}
 use Rattle.gabc_body.specs.Events.{events_at_end, first_list}
 use Rattle.gabc_body.specs.Reading.{Part, Reading, BodyRead, no_place, at_start, kept_bytes, found_at, open_by, result_by_open}
-use Rattle.gabc_body.specs.Reading as read
-use Rattle.gabc_body.specs.SpansPast.{open_past}
 use Rattle.gabc_body.specs.witness.BodyBuilder.{with_all}
 use Rattle.gabc_body.specs.witness.Gatherer.{Gathered}
 use Rattle.gabc_body.specs.witness.TextEvents.{text_events}
@@ -38,7 +30,7 @@ use Rattle.gabc_body.specs.witness.TextsByKept.{view_past, SaysEnd, EndsBy}
 use Rattle.gabc_body.proofs.gathering.BuilderHoldsDefinition.{gathered}
 use Rattle.gabc_body.proofs.gathering.EventsOfOnePoint.{with_all_append}
 use Rattle.gabc_body.proofs.by_kept.EndStandsRead.{LastText, end_cut, end_whole}
-use Rattle.gabc_body.proofs.by_kept.ReadingStands.{Stands, ReadsText, ReadsNotes, ReadsNothing, state_of}
+use Rattle.gabc_body.proofs.by_kept.ReadingStands.{Stands, state_of}
 use Rattle.gabc_body.proofs.by_kept.SnippetsAreGathered.{of_notes}
 use Rattle.gabc_body.proofs.by_kept.TextsAreGathered.{SpansStand, Grows, text_grows, texts_found}
 use Rattle.gabc_body.proofs.by_kept.TextsAreGathered as texts

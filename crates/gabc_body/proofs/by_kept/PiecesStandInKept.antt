@@ -1,20 +1,15 @@
 -- A piece of a text is emitted when all of it is kept.
-use Rattle.std.proofs.Common.{◌≡◌, ℕ, ◌+◌, ◌-◌, ◌≤◌, Bool, true, false, cond, List, [], ◌∷◌, ◌++◌, map, length, reverse, encode_utf8_all, Option, Some, None, refl, sym, ap, subst, ◌∙◌, append_assoc, append-nil, length-append, arith}
-use Rattle.std.proofs.lemmas.List.{map-append}
-use Rattle.std.proofs.lemmas.Str.{encodes-append, length-encode}
-use Rattle.std.specs.Char.{len_utf8}
-use lib.Utf8.{encode}
-use Rattle.gabc_places.specs.Place.{next_place, placed_characters_from}
+use Rattle.std.proofs.Common.{◌≡◌, ℕ, ◌≤◌, Bool, true, false, cond, List, [], ◌∷◌, ◌++◌, map, reverse, Option, Some, None, refl, sym, ap, subst, ◌∙◌, append_assoc, append-nil, arith}
+use Rattle.gabc_places.specs.Place.{placed_characters_from}
 use Rattle.gabc_places.specs.declared.code.Code.{Code}
 use Rattle.gabc_places.specs.declared.code.Finding.{Finding}
 use Rattle.gabc_places.specs.declared.place.Char.{Char}
 use Rattle.gabc_places.specs.declared.place.Place.{Place}
 use Rattle.gabc_places.specs.declared.place.Span.{Span}
 use Rattle.gabc_text.specs.BuiltText.{kept_in}
-use Rattle.gabc_text.specs.Events.{kept_of, piece_at, is_blank_at, waiting_by, waiting_blank, option_list_of, is_whole_translation, translation_at, parts_by, parts_at, chars_at, finding_events, early_events, token_events, events_at, end_events, end_after, centre_of, events_of, codes_of}
+use Rattle.gabc_text.specs.Events.{kept_of, piece_at, is_blank_at, waiting_by, waiting_blank, option_list_of, translation_at, parts_by, parts_at, chars_at, finding_events, early_events, events_at, end_events, end_after, centre_of, events_of, codes_of}
 use Rattle.gabc_text.specs.Token.{Token, spelling, tokens}
-use Rattle.gabc_text.specs.View.{along, kind_of, is_space, has_word, starts_word, has_translation, is_left_out, follows_space, kept_at, place_of, bytes_of, early_codes, late_codes, effect, findings_at_end}
-use Rattle.gabc_text.specs.declared.token.TokenKind.{TokenKind}
+use Rattle.gabc_text.specs.View.{along, kind_of, is_space, is_left_out, follows_space, kept_at, place_of, early_codes, late_codes, effect, findings_at_end}
 use Rattle.gabc_text.specs.declared.view.Piece.{Piece}
 use Rattle.gabc_text.specs.declared.view.PieceKind.{PieceKind}
 use Rattle.gabc_text.specs.declared.view.PieceKind.TheVariants as piece
@@ -24,8 +19,8 @@ use Rattle.gabc_text.specs.declared.text_event.TextPart.{TextPart}
 use Rattle.gabc_text.specs.declared.text_event.TextPart.TheVariants as part
 use Rattle.gabc_body.specs.witness.TextsByKept.{PiecesStand}
 use Rattle.gabc_body.proofs.by_kept.ReadingStands.{codes_placed}
-use Rattle.gabc_body.proofs.texts_of_body.BodyFits.{bytes_encodes}
 use Rattle.gabc_body.proofs.texts_of_body.SeamsOfCharacters.{size, size_append}
+use Rattle.gabc_body.proofs.texts_of_body.BodyFits.{bytes_encodes}
 
 -- ---- one after the other
 

@@ -1,37 +1,33 @@
 -- What is gathered of the events of a snippet.
-use Rattle.std.proofs.Common.{◌≡◌, ℕ, ◌+◌, ◌-◌, ◌<◌, ◌≤◌, ◌^◌, ◌&&◌, ◌||◌, ◌==◌, not, min, Bool, true, false, cond, List, [], ◌∷◌, ◌++◌, map, length, take, drop, chars, encode_utf8, encode_utf8_all, Option, Some, None, is_some, refl, sym, ap, subst, ◌∙◌, append_assoc, append-nil, length-append, arith}
+use Rattle.std.proofs.Common.{◌≡◌, ℕ, ◌+◌, ◌<◌, ◌^◌, ◌&&◌, ◌||◌, ◌==◌, Bool, true, false, cond, List, [], ◌∷◌, ◌++◌, map, length, take, drop, encode_utf8, encode_utf8_all, Option, Some, None, is_some, refl, sym, ap, subst, ◌∙◌, append_assoc, append-nil, arith}
 use Rattle.std.specs.Option.{option_map_or}
 use Rattle.std.proofs.lemmas.List.{take-append-drop}
 use Rattle.std.proofs.lemmas.Str.{encodes-append, chars-encodes}
 use lib.Utf8.{encode, encodes, scalar, scalars}
-use Rattle.gabc_places.specs.declared.code.Code.{Code}
 use Rattle.gabc_places.specs.declared.code.Finding.{Finding}
 use Rattle.gabc_places.specs.declared.place.Place.{Place}
-use Rattle.gabc_patterns.specs.LongestItems.{Table}
 use Rattle.gabc_patterns.specs.Reads.{longest, is_read, items_by, whole_front}
 use Rattle.gabc_notes.specs.FirstNoteOrClef.{is_note_or_clef, first_note_or_clef}
 use Rattle.gabc_notes.specs.FirstSound.{first_sound, is_note}
-use Rattle.gabc_notes.specs.Items.{placed_items, items_of}
+use Rattle.gabc_notes.specs.Items.{items_of}
 use Rattle.gabc_notes.specs.Table.{gabc}
 use Rattle.gabc_notes.specs.Events.{bytes_of}
 use Rattle.gabc_notes.specs.declared.item.Item.{Item}
 use Rattle.gabc_notes.specs.declared.item.ItemKind.{ItemKind}
 use Rattle.gabc_notes.specs.declared.item.ItemKind.TheVariants as kind
-use Rattle.gabc_notes.specs.declared.stage.NoteEnd.TheVariants as note_end
 use Rattle.gabc_notes.specs.declared.stage.NoteEvent.{NoteEvent}
 use Rattle.gabc_notes.specs.declared.stage.NoteEvent.TheVariants as note
 use Rattle.gabc_notes.proofs.by_kept.NotesSound.{sound_is as note_is}
 use Rattle.gabc_nabc.specs.Events.{bytes_in}
 use Rattle.gabc_nabc.specs.Table.{nabc}
 use Rattle.gabc_body.specs.declared.events.BodyEvent.{BodyEvent}
-use Rattle.gabc_body.specs.declared.events.BodyEvent.TheVariants.{Notes}
 use Rattle.gabc_body.specs.declared.snippets.Snippet.{Snippet}
 use Rattle.gabc_body.specs.Events.{note_event}
-use Rattle.gabc_body.specs.NoteBeforeClef.{is_first_note, found_first}
+use Rattle.gabc_body.specs.NoteBeforeClef.{found_first}
 use Rattle.gabc_body.specs.Reading.{sound_codes, found_at, whole_of}
 use Rattle.gabc_body.specs.Syllable.{is_seam, prefix_of, snippet_at, text_at}
 use Rattle.gabc_body.specs.witness.BodyBuilder.{with_all}
-use Rattle.gabc_body.specs.witness.Gatherer.{Gathered, with_event, awaits, first_past, span_of}
+use Rattle.gabc_body.specs.witness.Gatherer.{Gathered, awaits, first_past, span_of}
 use Rattle.gabc_body.specs.witness.SyllableBuilder.{OpenSyllable, past_snippet}
 use Rattle.gabc_body.proofs.gathering.FirstKinds.{snippet_text}
 use Rattle.gabc_body.proofs.texts_of_body.SeamsOfCharacters.{cut_is}

@@ -8,23 +8,22 @@ use lib.Utf8.{scalar, scalars}
 use Rattle.gabc_places.specs.Fate.{Fate, Keep, Comment, Ends, LeaveOut}
 use Rattle.gabc_places.specs.Place.{next_place, place_past, placed_characters_from}
 use Rattle.gabc_places.specs.declared.code.Code.{Code}
-use Rattle.gabc_places.specs.declared.code.Code.TheVariants.{E1, E3, E6, W7, W8, W10}
+use Rattle.gabc_places.specs.declared.code.Code.TheVariants.{E1, E3, E6, W8, W10}
 use Rattle.gabc_places.specs.declared.code.Finding.{Finding}
 use Rattle.gabc_places.specs.declared.place.Char.{Char}
 use Rattle.gabc_places.specs.declared.place.Place.{Place}
 use Rattle.gabc_patterns.specs.Reads.{items_by, whole_front}
 use Rattle.gabc_text.specs.BuiltText.{empty_view}
-use Rattle.gabc_text.specs.Events.{codes_of, events_by_point}
+use Rattle.gabc_text.specs.Events.{events_by_point}
 use Rattle.gabc_text.specs.KeptText.{view_of_kept}
 use Rattle.gabc_text.specs.declared.view.Piece.{Piece}
-use Rattle.gabc_notes.specs.Events.{finding_event, end_by_mark, bytes_of, ItemText, is_missing as macro_missing}
+use Rattle.gabc_notes.specs.Events.{finding_event, end_by_mark, bytes_of, ItemText}
 use Rattle.gabc_notes.specs.FirstNoteOrClef.{first_note_or_clef}
 use Rattle.gabc_notes.specs.FirstSound.{first_sound}
 use Rattle.gabc_notes.specs.Items.{items_of}
 use Rattle.gabc_notes.specs.KeptNotes.{in_raw, is_snippet, is_fused, items_back, fate_in_notes, found_of_item, found_in_notes, found_at_end as notes_at_end}
 use Rattle.gabc_notes.specs.Table.{gabc}
 use Rattle.gabc_notes.specs.declared.item.ItemKind.{ItemKind}
-use Rattle.gabc_notes.specs.declared.stage.NoteEnd.{NoteEnd}
 use Rattle.gabc_notes.specs.declared.stage.NoteEnd.TheVariants as note_end
 use Rattle.gabc_notes.specs.declared.stage.NoteEvent.{NoteEvent}
 use Rattle.gabc_notes.specs.declared.stage.NoteEvent.TheVariants as note
@@ -33,27 +32,28 @@ use Rattle.gabc_nabc.specs.Events.{bytes_in}
 use Rattle.gabc_nabc.specs.KeptNabc.{fate_in_nabc, found_in_nabc, found_at_end as nabc_at_end}
 use Rattle.gabc_nabc.specs.Table.{nabc as nabc_table}
 use Rattle.gabc_nabc.specs.witness.NabcByKept as nabc
-use Rattle.gabc_body.specs.declared.events.BodyEvent.{BodyEvent}
 use Rattle.gabc_body.specs.declared.events.BodyEvent.TheVariants.{Notes}
 use Rattle.gabc_body.specs.declared.snippets.Snippet.{Snippet}
-use Rattle.gabc_body.specs.Events.{Texts, note_event, next_line, after_mark, texts_by_definition}
+use Rattle.gabc_body.specs.Events.{next_line, after_mark, texts_by_definition}
 use Rattle.gabc_body.specs.NoteBeforeClef.{found_first}
-use Rattle.gabc_body.specs.Reading.{Part, Reading, BodyRead, no_place, at_start, found_within, found_at, sound_codes, whole_of, with_found, with_fate, with_next, with_syllable, with_snippet_ended, past_snippet, past}
+use Rattle.gabc_body.specs.Reading.{Part, Reading, BodyRead, no_place, at_start, found_within, found_at, sound_codes, whole_of, with_found, with_fate, with_syllable, with_snippet_ended, past_snippet, past}
 use Rattle.gabc_body.specs.Reading as read
 use Rattle.gabc_body.specs.SpansPast.{open_past}
 use Rattle.gabc_body.specs.Syllable.{UnplacedSyllable, snippet_at}
-use Rattle.gabc_body.specs.witness.BodyBuilder.{with_all}
 use Rattle.gabc_body.specs.witness.Gatherer.{Gathered, with_event, awaits}
 use Rattle.gabc_body.specs.witness.SyllableBuilder.{OpenSyllable, past_snippet as builder_past_snippet}
-use Rattle.gabc_body.specs.witness.PartsByKept.{SnippetState, PartRead, InText, InNotes, fresh, notes_step, nabc_step, step, past_mark, past_notes, emitted, part_after}
+use Rattle.gabc_body.specs.witness.PartsByKept.{SnippetState, InText, InNotes, fresh, notes_step, nabc_step, step, past_notes, emitted, part_after}
 use Rattle.gabc_body.specs.witness.TextsByKept.{GoesByKept, TextsGoByKept}
-use Rattle.gabc_body.proofs.by_kept.ReadingStands.{Fits, fits_next, counts_fit, codes_placed, size_push, after_mark_is, Stands, StandsAfter, ReadsText, ReadsNotes, InSnippet, state_of}
+use Rattle.gabc_body.proofs.by_kept.ReadingStands.{fits_next, counts_fit, codes_placed, size_push, after_mark_is, Stands, StandsAfter, state_of}
 use Rattle.gabc_body.proofs.by_kept.SnippetsAreGathered.{whole_is_front, scalars_front, scalars_push, count_notes, count_nabc, of_findings, of_notes, findings_pass, findings_stay, findings_found, ended_found, SnippetEnds, snippet_ends, Sounds, sounds, silent, unsounded}
-use Rattle.gabc_body.proofs.by_kept.TextsAreGathered.{SpansStand, LieIn, open_front}
-use Rattle.gabc_body.proofs.by_kept.TextsAreGathered as texts
+use Rattle.gabc_body.proofs.by_kept.TextsAreGathered.{open_front}
 use Rattle.gabc_body.proofs.by_kept.TextsStand.{found_only}
 use Rattle.gabc_body.proofs.order.FindingsOfParts.{found}
 use Rattle.gabc_body.proofs.texts_of_body.SeamsOfCharacters.{size, size_append}
+
+-- the next snippet
+abbrev with_next : ℕ → List ℕ → List Snippet → BodyRead → BodyRead
+with_next line before snippets b = record b { reading = record b.reading { part = read.InNotes line; kept = []; before = before; snippets = snippets; comment = false; inner = no_place } }
 
 -- ---- findings
 

@@ -8,7 +8,6 @@ use Rattle.std.proofs.lemmas.List.{reverse-append}
 use Rattle.gabc_places.specs.Fate.{Fate, Keep, Comment, Ends, LeaveOut}
 use Rattle.gabc_places.specs.Place.{next_place, place_past, placed_characters_from}
 use Rattle.gabc_places.specs.StageLaw.{concat_of}
-use Rattle.gabc_places.specs.declared.code.Code.{Code}
 use Rattle.gabc_places.specs.declared.code.Code.TheVariants.{E2, W4}
 use Rattle.gabc_places.specs.declared.code.Finding.{Finding}
 use Rattle.gabc_places.specs.declared.place.Char.{Char}
@@ -16,11 +15,11 @@ use Rattle.gabc_places.specs.declared.place.Place.{Place}
 use Rattle.gabc_text.specs.BuiltText.{BuiltText, with_part, with_event, with_events, empty_text, empty_view, text_built_at, kept_in, found_in, kept_chars_in}
 use Rattle.gabc_text.specs.Ends.{ends_in, EndsOnce}
 use Rattle.gabc_text.specs.Events.{CountsFit, codes_of, no_events_each, events_of, events_by_point}
-use Rattle.gabc_text.specs.KeptText.{view_of_kept, belongs, is_unmatched, ends_blank, fate_in_text, kept_char, kept_by, codes_with}
+use Rattle.gabc_text.specs.KeptText.{view_of_kept, belongs, is_unmatched, fate_in_text, kept_char, kept_by, codes_with}
 use Rattle.gabc_text.specs.TextRead.{view_in}
 use Rattle.gabc_text.specs.TextView.{ViewContent}
 use Rattle.gabc_text.specs.Token.{Token, spelling, tokens, tokens_after, token_at, tag_at, token_of_tag, ended_token, dollar_at, single, before_first, through, ending_of, effect_of, is_blank, is_one_of, is_special, is_text}
-use Rattle.gabc_text.specs.View.{is_space, is_cut, is_open_kind, has_begin, has_end, codes_at_end, kept}
+use Rattle.gabc_text.specs.View.{is_space, is_cut, is_open_kind, codes_at_end, kept}
 use Rattle.gabc_text.specs.declared.text_event.TextEnd.{TextEnd}
 use Rattle.gabc_text.specs.declared.text_event.TextEnd.TheVariants as ending
 use Rattle.gabc_text.specs.declared.text_event.TextEvent.{TextEvent}
@@ -29,10 +28,9 @@ use Rattle.gabc_text.specs.declared.token.TokenKind.{TokenKind}
 use Rattle.gabc_text.specs.declared.token.TokenKind.TheVariants as token
 use Rattle.gabc_text.specs.declared.token.TagEffect.{TagEffect}
 use Rattle.gabc_text.specs.declared.token.TagEffect.TheVariants as effect
-use Rattle.gabc_text.specs.witness.EmittedByKept.{Emitted, emitted, nothing, TextState, before_it, inner_with, emitted_by, emitted_at_end, emitted_past, text_begins}
+use Rattle.gabc_text.specs.witness.EmittedByKept.{Emitted, emitted, nothing, TextState, inner_with, emitted_by, emitted_past, text_begins}
 use Rattle.gabc_text.specs.witness.TextByKept.{opens, ends}
-use Rattle.gabc_body.specs.Events.{first_list, other_lists}
-use Rattle.gabc_body.specs.Reading.{InText, no_place, found_at, found_by, inner_by, kept_as, fate_by}
+use Rattle.gabc_body.specs.Reading.{InText, no_place, found_at, inner_by}
 use Rattle.gabc_body.specs.witness.TextsByKept.{is_end, view_past, PiecesStand, Says, SaysEnd, TextGoes, GoesByKept, GoesIn, GoesBy, EndsBy, TextsGoByKept}
 use Rattle.gabc_body.proofs.by_kept.PiecesStandInKept.{kept_in_append, stand_parts, text_stands}
 

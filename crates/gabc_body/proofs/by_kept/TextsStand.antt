@@ -1,5 +1,5 @@
 -- A character of a text: what was read stands to what was gathered after it, as before.
-use Rattle.std.proofs.Common.{◌≡◌, ℕ, ◌+◌, ◌<◌, ◌≤◌, ◌^◌, ◌&&◌, ◌||◌, ◌==◌, not, Bool, true, false, cond, List, [], ◌∷◌, ◌++◌, map, length, reverse, encode_utf8, encode_utf8_all, codes, Option, Some, None, is_some, refl, sym, ap, subst, ◌∙◌, append-nil, append_assoc, arith}
+use Rattle.std.proofs.Common.{◌≡◌, ℕ, ◌+◌, ◌≤◌, ◌&&◌, ◌==◌, not, Bool, true, false, cond, List, [], ◌∷◌, ◌++◌, length, reverse, encode_utf8, encode_utf8_all, Option, Some, None, is_some, refl, sym, ap, subst, ◌∙◌, append-nil, arith}
 use Rattle.std.specs.List.{list_any}
 use Rattle.std.proofs.lemmas.Bool.{and_parts, true≢false}
 use Rattle.std.proofs.lemmas.List.{map-append}
@@ -7,11 +7,10 @@ use Rattle.std.proofs.lemmas.List.Folds.{list_any-append}
 use Rattle.std.proofs.lemmas.Str.{encodes-append}
 use Rattle.gabc_places.specs.Fate.{Fate, Keep, Comment, Ends, LeaveOut}
 use Rattle.gabc_places.specs.Place.{next_place, place_past, placed_characters_from}
-use Rattle.gabc_places.specs.declared.code.Code.{Code}
 use Rattle.gabc_places.specs.declared.code.Finding.{Finding}
 use Rattle.gabc_places.specs.declared.place.Char.{Char}
 use Rattle.gabc_places.specs.declared.place.Place.{Place}
-use Rattle.gabc_text.specs.BuiltText.{kept_in, found_in}
+use Rattle.gabc_text.specs.BuiltText.{kept_in}
 use Rattle.gabc_text.specs.KeptText.{view_of_kept}
 use Rattle.gabc_text.specs.TextView.{ViewContent}
 use Rattle.gabc_text.specs.Token.{tokens}
@@ -21,7 +20,6 @@ use Rattle.gabc_text.specs.declared.text_event.TextEvent.{TextEvent}
 use Rattle.gabc_text.specs.declared.text_event.TextEvent.TheVariants as out
 use Rattle.gabc_notes.specs.KeptNotes.{in_raw}
 use Rattle.gabc_notes.specs.declared.item.ItemKind.{ItemKind}
-use Rattle.gabc_body.specs.declared.events.BodyEvent.{BodyEvent}
 use Rattle.gabc_body.specs.declared.events.BodyEvent.TheVariants.{Text}
 use Rattle.gabc_body.specs.Events.{Texts, is_text_end, first_list, other_lists}
 use Rattle.gabc_body.specs.NoteBeforeClef.{found_first}
@@ -34,7 +32,7 @@ use Rattle.gabc_body.specs.witness.SyllableBuilder.{past_text as builder_past_te
 use Rattle.gabc_body.specs.witness.PartsByKept.{PartRead, InText, InNotes, fresh, emitted, part_after}
 use Rattle.gabc_body.specs.witness.TextsByKept.{is_end, view_past, Says, SaysEnd, TextGoes, GoesByKept, GoesIn, GoesBy}
 use Rattle.gabc_body.proofs.gathering.EventsOfOnePoint.{with_all_append}
-use Rattle.gabc_body.proofs.by_kept.ReadingStands.{Fits, fits_next, size_push, size_of_ascii, Stands, StandsAfter, ReadsText, ReadsNotes, InSnippet, state_of}
+use Rattle.gabc_body.proofs.by_kept.ReadingStands.{fits_next, size_push, size_of_ascii, Stands, StandsAfter}
 use Rattle.gabc_body.proofs.by_kept.SnippetsAreGathered.{silent}
 use Rattle.gabc_body.proofs.by_kept.TextsAreGathered.{SpansStand, Grows, text_grows, texts_found}
 use Rattle.gabc_body.proofs.by_kept.TextsAreGathered as texts

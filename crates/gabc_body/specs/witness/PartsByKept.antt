@@ -10,7 +10,7 @@ use Rattle.gabc_notes.specs.declared.stage.NoteEvent.{NoteEvent}
 use Rattle.gabc_body.specs.declared.events.BodyEvent.{BodyEvent}
 use Rattle.gabc_body.specs.declared.events.BodyEvent.TheVariants.{Text}
 use Rattle.gabc_body.specs.Events.{PartAhead, is_text_end, note_event, first_list, other_lists, Texts, text_from, next_line, after_mark}
-use Rattle.gabc_body.specs.Events as events
+use Rattle.gabc_body.specs.Events as emitting
 use Rattle.gabc_notes.specs.KeptNotes.{fate_in_notes}
 use Rattle.gabc_nabc.specs.KeptNabc.{fate_in_nabc}
 use Rattle.gabc_notes.specs.witness.NotesByKept as notes
@@ -52,9 +52,9 @@ pub data PartRead : Type 0 where
   InNotes : ℕ → Place → SnippetState → PartRead
 
 abbrev pub ahead : ℕ → ℕ → PartRead → List Char → PartAhead
-ahead lines macros InComment xs = events.InComment
-ahead lines macros (InText lists) xs = events.InText lists
-ahead lines macros (InNotes line opened s) xs = events.InNotes line opened (lists_of lines macros line s xs)
+ahead lines macros InComment xs = emitting.InComment
+ahead lines macros (InText lists) xs = emitting.InText lists
+ahead lines macros (InNotes line opened s) xs = emitting.InNotes line opened (lists_of lines macros line s xs)
 
 abbrev pub text_part : Texts → Place → List Char → PartRead
 text_part texts at xs = InText (texts at xs)
@@ -83,6 +83,6 @@ part_after texts lines macros (InText lists) x xs = cond (list_any is_text_end (
 part_after texts lines macros (InNotes line opened s) x xs = past_notes texts lines line opened x xs (step lines macros line s x).1
 
 abbrev pub events_by : Texts → ℕ → ℕ → PartRead → List Char → List (List BodyEvent)
-events_by texts lines macros part [] = events.events_at_end (ahead lines macros part []) ∷ []
+events_by texts lines macros part [] = emitting.events_at_end (ahead lines macros part []) ∷ []
 events_by texts lines macros part (x ∷ xs) =
     emitted lines macros (part_at texts part x xs) x ∷ events_by texts lines macros (part_after texts lines macros (part_at texts part x xs) x xs) xs

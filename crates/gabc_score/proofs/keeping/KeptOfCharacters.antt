@@ -33,7 +33,7 @@ use Rattle.gabc_notes.specs.declared.stage.NoteEvent.TheVariants as note
 use Rattle.gabc_nabc.specs.Events as of_nabc
 use Rattle.gabc_nabc.specs.Table.{nabc}
 use Rattle.gabc_body.specs.Body.{events_onto}
-use Rattle.gabc_score.specs.HeldAgain.{IsOneSyllable, emitted_after, emitted_first}
+use Rattle.gabc_body.specs.OneSyllable.{IsOneSyllable, emitted_after, emitted_first}
 use Rattle.gabc_body.specs.declared.before.Spans.{Spans}
 use Rattle.gabc_body.specs.Events.{PartAhead, InComment, InText, InNotes, first_list, other_lists, is_text_end, is_next, is_close, note_event, events_in, part_at, part_after_character, text_from, snippet_from, next_line, after_mark, events_from, texts_by_definition}
 use Rattle.gabc_body.specs.Syllable.{UnplacedSyllable, all_syllables, closes, is_eu, is_nlba, kept_of, since_close, syllable_by}

@@ -22,7 +22,8 @@ use Rattle.gabc_body.specs.Canonical.{canonical}
 use Rattle.gabc_body.specs.Events.{texts_by_definition, text_from, events_from}
 use Rattle.gabc_score.specs.Before.{preceding_of, most}
 use Rattle.gabc_score.specs.ReportedWithin.{written_after}
-use Rattle.gabc_score.specs.HeldAgain.{emitted_first, emitted_after, MayBeHeld}
+use Rattle.gabc_body.specs.OneSyllable.{emitted_first, emitted_after}
+use Rattle.gabc_score.specs.HeldAgain.{MayBeHeld}
 use Rattle.gabc_body.specs.OpenSpans.{LeavesOpen}
 use Rattle.gabc_body.specs.ScoreEvents.{findings_now, first_place}
 use Rattle.gabc_body.specs.Syllable.{UnplacedSyllable, all_syllables, since_close, kept_of}

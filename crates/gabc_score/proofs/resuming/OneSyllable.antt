@@ -4,7 +4,8 @@ use Rattle.std.proofs.lemmas.List.{append_cancel_left}
 use Rattle.gabc_places.specs.declared.limits.Limits.{Limits}
 use Rattle.gabc_body.specs.declared.before.Before.{Before}
 use Rattle.gabc_body.specs.declared.events.BodyEvent.{BodyEvent}
-use Rattle.gabc_score.specs.HeldAgain.{MayBeHeld, emitted_first}
+use Rattle.gabc_body.specs.OneSyllable.{emitted_first}
+use Rattle.gabc_score.specs.HeldAgain.{MayBeHeld}
 use Rattle.gabc_body.specs.ScoreEvents.{first_place}
 use Rattle.gabc_body.specs.Syllable.{UnplacedSyllable, all_syllables}
 use Rattle.gabc_body.specs.witness.BodyBuilder.{with_all}

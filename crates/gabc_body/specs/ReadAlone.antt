@@ -1,0 +1,27 @@
+-- What is read of a text by itself, in whatever place it stands and whatever was read before.
+use Rattle.std.specs.Prelude.{◌≡◌, ℕ, ◌<◌, List, [], ◌∷◌, length, take, Bool, false}
+use Rattle.gabc_places.specs.Place.{placed_characters_from}
+use Rattle.gabc_places.specs.declared.place.Char.{Char}
+use Rattle.gabc_body.specs.Reading.{BodyRead, at_start, past}
+use Rattle.gabc_body.specs.ScoreEvents.{first_place}
+use Rattle.gabc_body.specs.Syllable.{UnplacedSyllable}
+
+-- what is read of these characters, no limit being passed
+abbrev pub read_of : ℕ → ℕ → BodyRead → List Char → BodyRead
+read_of lines macros b [] = b
+read_of lines macros b (x ∷ xs) = read_of lines macros (past lines macros b x) xs
+
+-- a text begins after these syllables, after which these spans are open, and a note or a clef has
+-- come or not
+abbrev pub begun_after : List UnplacedSyllable → Bool → Bool → Bool → BodyRead
+begun_after made eu nlba sounded = record { made = made; eu = eu; nlba = nlba; sounded = sounded; found = []; reading = at_start false }
+
+-- what is read of the first n characters of a text by itself
+abbrev pub read_first : ℕ → ℕ → List ℕ → ℕ → BodyRead
+read_first lines macros t n = read_of lines macros (begun_after [] false false false) (take n (placed_characters_from first_place t))
+
+-- By itself the text is one syllable, whole with the last character and not before.
+pub record IsReadAsOne (lines macros : ℕ) (t : List ℕ) : Type 0 where
+  pub syllable : UnplacedSyllable
+  pub none_earlier : (n : ℕ) → n < length t → (read_first lines macros t n).made ≡ []
+  pub one : (read_first lines macros t (length t)).made ≡ syllable ∷ []
