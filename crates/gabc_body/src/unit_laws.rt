@@ -3,6 +3,7 @@
 
 ghost use Rattle.std.specs.Prelude.{◌≡◌, ◌<◌, ◌≤◌, ◌^◌, ◌++◌, ℕ, Bool, List, [], ◌∷◌, false, length, encode_utf8_all};
 ghost use Rattle.std.specs.List.{All};
+ghost use Rattle.std.specs.Str.{IsUtf8};
 ghost use Rattle.gabc_places.specs.declared.place.Char.{Char};
 ghost use Rattle.gabc_places.specs.declared.place.Place.{Place};
 ghost use Rattle.gabc_text.specs.Events.{codes_of};
@@ -56,10 +57,12 @@ pub fn snippets_of_a_unit_stand_between_characters()
 {}
 
 /// Law: the canonical text of a syllable that holds a unit is a text of an input, if its kept text
-/// is one: no CR and no U+FEFF comes of it.
+/// is one: no CR and no U+FEFF comes of it. It is in UTF-8, if its kept text is.
 pub fn the_canonical_text_of_a_unit_is_a_text()
-    ensures { (lines : ℕ) (m : UnplacedSyllable) → HoldsSomeUnit lines m → IsText m.kept →
+    ensures text { (lines : ℕ) (m : UnplacedSyllable) → HoldsSomeUnit lines m → IsText m.kept →
         (starts : Bool) → IsText (canonical starts m) }
+    ensures utf8 { (lines : ℕ) (m : UnplacedSyllable) → HoldsSomeUnit lines m → IsUtf8 m.kept →
+        (starts : Bool) → IsUtf8 (canonical starts m) }
 {
     gabc_text::laws::spans_stand_for_the_view();
 }

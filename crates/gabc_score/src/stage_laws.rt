@@ -5,6 +5,7 @@ ghost use Rattle.std.specs.Prelude.{◌≡◌, ◌==◌, ◌+◌, ◌*◌, ◌<�
 ghost use Rattle.gabc_headers.specs.declared.head_event.HeadEvent.{HeadEvent};
 ghost use Rattle.gabc_headers.specs.declared.head_event.HeadEvent.TheVariants.{Stop};
 ghost use Rattle.std.specs.List.{All};
+ghost use Rattle.std.specs.Str.{IsUtf8};
 ghost use Rattle.gabc_headers.specs.witness.HeadEvents.{events_of_input, reading};
 ghost use Rattle.gabc_places.specs.declared.code.Fault.{Fault};
 ghost use Rattle.gabc_places.specs.declared.place.Char.{Char};
@@ -301,8 +302,17 @@ pub fn what_is_held_is_a_text()
     ensures { (s : ScoreStageState) → IsReachable s → ReportsText s →
         IfSome (held_of s) (λ m. IsText (written_after s.before m)) }
 {
-    crate::unit_laws::the_canonical_text_of_a_unit_is_a_text();
+    gabc_body::unit_laws::the_canonical_text_of_a_unit_is_a_text();
     what_is_held_holds_a_unit();
+}
+
+/// Law: the kept text of the whole syllable that a stage holds is in UTF-8.
+pub fn what_is_held_is_in_utf8(stage: &ScoreStage)
+    ensures { IfSome (held_of stage.now) (λ m. IsUtf8 m.kept) }
+{
+    if let Some(syllable) = stage.held() {
+        let _ = syllable.kept.as_str();
+    }
 }
 
 /// Law: the whole syllable that a stage holds, whatever it has read, is within the stage's limits,

@@ -9,8 +9,7 @@ use Rattle.gabc_body.specs.declared.events.BodyEvent.{BodyEvent}
 use Rattle.gabc_body.specs.declared.syllable.Position.{Position}
 use Rattle.gabc_body.specs.Body.{events_onto, findings_of}
 use Rattle.gabc_body.specs.Canonical.{canonical}
-use Rattle.gabc_body.specs.OneSyllable.{IsOneAlone}
-use Rattle.gabc_body.specs.ScoreEvents.{first_place}
+use Rattle.gabc_body.specs.ReadAlone.{IsReadAsOne}
 use Rattle.gabc_body.specs.SpansPast.{eu_past, nlba_past}
 use Rattle.gabc_body.specs.Syllable.{UnplacedSyllable, since_close, kept_of, all_syllables, is_eu, is_nlba}
 use Rattle.gabc_body.specs.UnitRead.{HoldsSomeUnit, first_events}
@@ -69,4 +68,4 @@ IsReadWhereItStands lines macros m = (first : Bool) → IsReadFromItsText lines 
 -- syllable by itself.
 abbrev pub IsWrittenAsOne : ℕ → ℕ → UnplacedSyllable → Type 0
 IsWrittenAsOne lines macros m =
-    (first : Bool) → (text : List ℕ) × ((canonical (first || m.text.word_start) m ≡ encode_utf8_all text) × IsOneAlone lines macros first_place text)
+    (first : Bool) → (text : List ℕ) × ((canonical (first || m.text.word_start) m ≡ encode_utf8_all text) × IsReadAsOne lines macros text)

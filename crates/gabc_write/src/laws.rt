@@ -96,12 +96,17 @@ pub fn what_is_held_is_read_from_its_own_text()
 /// Law: where the inputs of a stage over a score just cease, whatever it has read, what it gives
 /// then is written as one syllable: read by itself, its canonical text is one, whole with its last
 /// character and not before.
-pub fn what_breaks_off_is_one_syllable()
-    ensures { (s : ScoreStageState) → IsReachable s →
-        All (λ p. IsWrittenAsOne s.body.nabc_lines s.body.macros p.made)
-        (syllables_in (concat_of (left_of s []))) }
+pub fn what_breaks_off_is_one_syllable(stage: &ScoreStage)
+    ensures { All (λ p. IsWrittenAsOne stage.now.body.nabc_lines stage.now.body.macros p.made)
+        (syllables_in (concat_of (left_of stage.now []))) }
 {
+    gabc_body::by_kept_laws::a_text_is_one_syllable_by_kept();
+    gabc_body::unit_laws::the_canonical_text_of_a_unit_is_a_text();
+    gabc_score::stage_laws::a_stage_is_reachable(stage);
     gabc_score::stage_laws::what_breaks_off_is_held();
+    gabc_score::stage_laws::what_is_held_holds_a_unit();
+    gabc_score::stage_laws::what_is_held_is_in_utf8(stage);
+    gabc_score::stage_laws::what_is_held_is_within_the_limits();
     what_is_held_is_read_from_its_own_text();
 }
 

@@ -52,8 +52,8 @@ pub(crate) fn nothing_is_kept_back(engine: &Engine)
         (streams_left engine.now Broken []).fault ≡ None }
 {
     gabc_score::stage_laws::inputs_that_cease_give_no_stop();
-    gabc_write::laws::what_breaks_off_is_one_syllable();
     let score = engine.score();
+    gabc_write::laws::what_breaks_off_is_one_syllable(score);
     gabc_score::stage_laws::a_stage_is_reachable(score);
     gabc_score::stage_laws::at_most_one_syllable_is_held(score);
     let _ = engine.writer.ended();

@@ -1,6 +1,9 @@
 use Rattle.std.proofs.Common.{◌≡◌, [], ◌≤◌, Option, IfSome, IsSome, length, subst, arith}
 use Rattle.gabc_places.specs.StageLaw.{concat_of}
 use Rattle.gabc_body.specs.ScoreEvents.{syllables_in}
+use Rattle.std.specs.List.{All}
+use Rattle.gabc_body.specs.Syllable.{PlacedSyllable}
+use Rattle.gabc_write.specs.SyllableRead.{IsWrittenAsOne}
 use Rattle.gabc_score.specs.witness.IsReachable.{IsReachable}
 use Rattle.gabc_score.specs.witness.ScoreStage.{ScoreStageState, left_of}
 use Rattle.gregorio.specs.declared.run_ending.RunEnding.{RunEnding}
@@ -21,9 +24,13 @@ returns c =
     let gives : GivesNoLast (concat_of (left_of s.score [])) = record { findings = law.findings s.score; stop = law.stop s.score; end = law.end s.score } in
     let few = subst (λ (x : ScoreStageState). length (syllables_in (concat_of (left_of x []))) ≤ 1) c.score-score.ensures c.at_most_one_syllable_is_held.ensures in
     let over = subst (λ (e : EngineState). IsSome e.written.ended → IsSilent e.score) c.engine.view_is (silent_where_over c.ended.result w.writer.written w.score c.ended.ensures.ended c.ended.ensures.over) in
+    let one =
+        subst (λ (x : ScoreStageState). All (λ (p : PlacedSyllable). IsWrittenAsOne x.body.nabc_lines x.body.macros p.made) (syllables_in (concat_of (left_of x []))))
+        c.score-score.ensures c.what_breaks_off_is_one_syllable.ensures
+    in
     let may = subst IsReachable c.score-score.ensures c.a_stage_is_reachable.ensures in
     record {
-      prompt = prompt_now s gives few (c.what_breaks_off_is_one_syllable.ensures s.score may) over;
+      prompt = prompt_now s gives few one over;
       running = λ runs. read_fault_if_broken s runs gives;
       fault = λ runs. no_fault_if_broken s runs gives;
     }
