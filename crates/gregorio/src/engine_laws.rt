@@ -54,7 +54,6 @@ pub(crate) fn nothing_is_kept_back(engine: &Engine)
     gabc_score::stage_laws::inputs_that_cease_give_no_stop();
     let score = engine.score();
     gabc_write::laws::what_breaks_off_is_one_syllable(score);
-    gabc_score::stage_laws::a_stage_is_reachable(score);
     gabc_score::stage_laws::at_most_one_syllable_is_held(score);
     let _ = engine.writer.ended();
 }

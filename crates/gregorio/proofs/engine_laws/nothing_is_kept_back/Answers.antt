@@ -4,7 +4,6 @@ use Rattle.gabc_body.specs.ScoreEvents.{syllables_in}
 use Rattle.std.specs.List.{All}
 use Rattle.gabc_body.specs.Syllable.{PlacedSyllable}
 use Rattle.gabc_write.specs.SyllableRead.{IsWrittenAsOne}
-use Rattle.gabc_score.specs.witness.IsReachable.{IsReachable}
 use Rattle.gabc_score.specs.witness.ScoreStage.{ScoreStageState, left_of}
 use Rattle.gregorio.specs.declared.run_ending.RunEnding.{RunEnding}
 use Rattle.gregorio.specs.witness.Engine.{EngineState, Written}
@@ -28,7 +27,6 @@ returns c =
         subst (λ (x : ScoreStageState). All (λ (p : PlacedSyllable). IsWrittenAsOne x.body.nabc_lines x.body.macros p.made) (syllables_in (concat_of (left_of x []))))
         c.score-score.ensures c.what_breaks_off_is_one_syllable.ensures
     in
-    let may = subst IsReachable c.score-score.ensures c.a_stage_is_reachable.ensures in
     record {
       prompt = prompt_now s gives few one over;
       running = λ runs. read_fault_if_broken s runs gives;
