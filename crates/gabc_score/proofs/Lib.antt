@@ -1,5 +1,6 @@
 pub mod PlacesByBytes
 pub mod building
+pub mod by_kept
 pub mod keeping
 pub mod regular_syllables
 pub mod runs

@@ -1,10 +1,18 @@
 //! Laws of kept texts that are read by themselves. Each function is there for its clauses, and
 //! calls the laws on which it stands.
 
-ghost use Rattle.std.specs.Prelude.{◌≤◌, ℕ, List, Bool, length, encode_utf8_all};
+ghost use Rattle.std.specs.Prelude.{◌≡◌, ◌↔◌, ◌++◌, ◌≤◌, ℕ, List, [], Bool, length, encode_utf8_all};
+ghost use Rattle.std.specs.Char.{IsScalar};
+ghost use Rattle.std.specs.List.{All};
 ghost use Rattle.gabc_places.specs.declared.limits.Limits.{Limits};
 ghost use Rattle.gabc_score.specs.declared.body_tells.Openers.{Openers};
-ghost use Rattle.gabc_score.specs.KeptAgain.{IsKeptAgain};
+ghost use Rattle.gabc_text.specs.Events.{CountsFit};
+ghost use Rattle.gabc_body.specs.declared.before.Spans.{Spans};
+ghost use Rattle.gabc_body.specs.OneSyllable.{IsOneSyllable};
+ghost use Rattle.gabc_body.specs.ReadAlone.{read_first, no_spans, IsReadAsSyllable};
+ghost use Rattle.gabc_body.specs.ScoreEvents.{first_place};
+ghost use Rattle.gabc_body.specs.Syllable.{UnplacedSyllable, all_syllables, kept_of};
+ghost use Rattle.gabc_score.specs.KeptAgain.{IsKeptAgain, emitted};
 ghost use Rattle.gabc_score.specs.ReadAgain.{IsReported, ReportsReading};
 ghost use Rattle.gabc_score.specs.machine.StageLaws.{StageLaws};
 ghost use Rattle.gabc_score.specs.witness.ReadAgain.{CanBeReadAgain};
@@ -56,4 +64,27 @@ pub fn what_is_kept_again_is_reported()
 {
     laws_of_stages();
     stage_laws::a_text_is_read_from_its_beginning();
+}
+
+/// Law: where spans are open, a text is one syllable, within a limit and with warnings alone,
+/// exactly if it is so by what is kept.
+pub fn a_syllable_is_read_by_kept()
+    ensures { (lines macros : ℕ) (t : List ℕ) (spans : Spans) (limit : ℕ)
+        (m : UnplacedSyllable) → All IsScalar t → CountsFit first_place t →
+        IsOneSyllable lines macros first_place t spans limit m
+        ↔ IsReadAsSyllable lines macros t spans limit m }
+{
+    gabc_body::by_kept_laws::texts_go_by_kept();
+}
+
+/// Law: all of a text is kept again, and no syllable is made of it, exactly if the reading by what
+/// is kept keeps all of it and makes none.
+pub fn all_of_a_text_is_kept_by_kept()
+    ensures { (lines macros : ℕ) (t : List ℕ) → All IsScalar t → CountsFit first_place t →
+        (let read = read_first lines macros no_spans t (length t) in
+        ((kept_of (emitted lines macros t) ≡ encode_utf8_all t)
+        × (all_syllables (emitted lines macros t) ≡ []))
+        ↔ ((read.reading.before ++ read.reading.kept ≡ t) × (read.made ≡ []))) }
+{
+    gabc_body::by_kept_laws::texts_go_by_kept();
 }

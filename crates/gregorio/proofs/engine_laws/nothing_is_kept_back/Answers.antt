@@ -24,8 +24,8 @@ returns c =
     let few = subst (λ (x : ScoreStageState). length (syllables_in (concat_of (left_of x []))) ≤ 1) c.score-score.ensures c.at_most_one_syllable_is_held.ensures in
     let over = subst (λ (e : EngineState). IsSome e.written.ended → IsSilent e.score) c.engine.view_is (silent_where_over c.ended.result w.writer.written w.score c.ended.ensures.ended c.ended.ensures.over) in
     let one =
-        subst (λ (x : ScoreStageState). All (λ (p : PlacedSyllable). IsWrittenAsOne x.body.nabc_lines x.body.macros p.made) (syllables_in (concat_of (left_of x []))))
-        c.score-score.ensures c.what_breaks_off_is_one_syllable.ensures
+    subst (λ (x : ScoreStageState). All (λ (p : PlacedSyllable). IsWrittenAsOne x.body.nabc_lines x.body.macros p.made) (syllables_in (concat_of (left_of x []))))
+    c.score-score.ensures c.what_breaks_off_is_one_syllable.ensures
     in
     record {
       prompt = prompt_now s gives few one over;

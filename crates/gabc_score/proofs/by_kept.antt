@@ -1,0 +1,2 @@
+pub mod AllIsKept
+pub mod SyllablesAreRead

@@ -1,0 +1,9 @@
+use Rattle.std.proofs.Common.{arith}
+use Rattle.gabc_body.specs.ScoreEvents.{first_place}
+use Rattle.gabc_body.proofs.by_kept.BodyIsRead.{fits_so}
+use Rattle.gabc_places.proofs.decoding.PlainTextsAreReadAgain.{all_scalars}
+use Rattle.gabc_score.proofs.by_kept.SyllablesAreRead.{one_syllable}
+use Rattle.gabc_score.proofs.kept_laws.a_syllable_is_read_by_kept.Goals as goal
+
+pub returns : goal.returns
+returns c lines macros t spans limit m s f = one_syllable c.texts_go_by_kept.ensures lines macros t spans (fits_so first_place t (omega arith) f (all_scalars t s)) limit m
