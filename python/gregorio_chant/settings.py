@@ -12,6 +12,7 @@ from pathlib import Path
 from typing import Any
 
 from gregorio_chant.files import read_plain
+from gregorio_chant.keys import FORMAT, FORMAT_KEYS, KEYS, Key, Kind
 from gregorio_chant.needs import Missing
 from gregorio_chant.patterns import MOST, NoPattern, Patterns
 from gregorio_chant.selection import Selection, UnknownCode, codes_in
@@ -23,6 +24,8 @@ _MOST_DOTS = 8
 # The texts and comments of TOML, in which dots mean nothing, and what stands between keys.
 _TEXTS = re.compile(r'''"""(?:\\.|[^\\])*?"""|\'\'\'.*?\'\'\'|"(?:\\.|[^"\\\n])*"|'[^'\n]*'|#[^\n]*''', re.DOTALL)
 _NO_KEY = re.compile(r"""[^\w"'. \t-]+""")
+# By the name of a key its field and its reader.
+_Readers = dict[str, tuple[str, Callable[[str, Any], object]]]
 
 
 class SettingsError(ValueError):
@@ -31,7 +34,7 @@ class SettingsError(ValueError):
 
 @dataclass(frozen=True)
 class Chosen:
-    """What the words of the command choose, which wins over settings. Nothing stands for what they do not say."""
+    """What the options of the command choose, which wins over the settings. `None` means unset."""
 
     select: frozenset[str] | None = None
     ignore: frozenset[str] | None = None
@@ -40,7 +43,7 @@ class Chosen:
 
 @dataclass(frozen=True)
 class Settings:
-    """What the settings of a project say of its scores. Nothing stands for what they do not say."""
+    """The settings of a project. `None` means unset."""
 
     folder: Path | None = None
     select: frozenset[str] | None = None
@@ -95,8 +98,15 @@ class _Reader:
         line = f":{self._text.count(chr(10), 0, found.start()) + 1}" if found else ""
         return SettingsError(f"{printable(str(self._path))}{line}: {printable(key)}: {what}")
 
-    def _take(self, table: dict[str, Any], readers: dict[str, tuple[str, Callable[[str, Any], object]]]) -> dict[str, Any]:
-        """Returns what each key of a table says, by the names of the fields."""
+    def _readers(self, keys: Iterable[Key]) -> _Readers:
+        """Returns the field of each key, and its reader."""
+        by_kind: dict[Kind, Callable[[str, Any], object]] = {
+            Kind.CODES: self._codes, Kind.PATTERNS: self._patterns, Kind.CODES_OF_FILES: self._ignores, Kind.FLAG: self._flag, Kind.NUMBER: self._number,
+        }
+        return {it.name: (it.field, by_kind[it.kind]) for it in keys}
+
+    def _take(self, table: dict[str, Any], readers: _Readers) -> dict[str, Any]:
+        """Returns the values of a table, by the names of the fields."""
         taken = {}
         for key, value in table.items():
             if key not in readers:
@@ -146,7 +156,7 @@ class _Reader:
         return value
 
     def _format(self, key: str, value: Any) -> dict[str, Any]:
-        return self._take(self._table(key, value), {"wrap": ("wrap", self._number), "canonical": ("canonical", self._flag)})
+        return self._take(self._table(key, value), self._readers(FORMAT_KEYS))
 
     def _ignores(self, key: str, value: Any) -> tuple[tuple[str, frozenset[str]], ...]:
         table = self._table(key, value)
@@ -156,11 +166,8 @@ class _Reader:
         return tuple((pattern, self._codes(pattern, codes)) for pattern, codes in table.items())
 
     def settings(self, table: dict[str, Any]) -> Settings:
-        taken = self._take(table, {
-            "select": ("select", self._codes), "ignore": ("ignore", self._codes), "fail-on": ("fail_on", self._codes), "rules": ("rules", self._flag),
-            "exclude": ("exclude", self._patterns), "per-file-ignores": ("ignores_of_files", self._ignores), "format": ("format", self._format),
-        })
-        form = taken.pop("format", {})
+        taken = self._take(table, self._readers(KEYS) | {FORMAT: (FORMAT, self._format)})
+        form = taken.pop(FORMAT, {})
         if form.get("canonical") and "wrap" in form:
             raise self.fail("wrap", "the canonical form has a word on each line")
         return Settings(self._path.parent, **taken, **form)

@@ -14,8 +14,9 @@ from pathlib import Path
 from gregorio_chant import dump
 from gregorio_chant.codes import CODES
 from gregorio_chant.command import COMMANDS
+from gregorio_chant.keys import FORMAT, FORMAT_KEYS, KEYS
 from gregorio_chant.rules import RULES
-from gregorio_chant.settings import Finder
+from gregorio_chant.settings import Finder, Settings
 from pages import block
 from support import ROOT, SCORE, InFolder, command, has
 
@@ -68,12 +69,17 @@ class Documents(InFolder):
         self.assertRegex(Path("kyrie.svg").read_text(encoding="utf-8"), r"(?s)^<svg .*</svg>\n$")
 
     def test_settings(self) -> None:
-        """The settings of the page are read, and say something for each key."""
+        """The settings of the page are read, and say something for each key; so is the example of each key."""
         path = self.room / "gregorio-chant.toml"
-        path.write_text(block("docs/PYTHON.md", "test: settings"))
+        path.write_text(block("docs/SETTINGS.md", "test: settings"))
         settings = Finder({*CODES, *RULES}).of(str(self.room / "a.gabc"))
         self.assertNotIn(None, [getattr(settings, it.name) for it in fields(settings)])
         self.assertTrue(settings.excludes(str(self.room / "old" / "b.gabc")) and settings.ignores_of_files)
+        for table, keys in (("", KEYS), (f"[{FORMAT}]\n", FORMAT_KEYS)):
+            for key in keys:
+                path.write_text(f"{table}{key.name} = {key.example}\n")
+                changed = {it.name for it in fields(Settings) if getattr(Finder({*CODES, *RULES}).of(str(self.room / "a.gabc")), it.name) != getattr(Settings(), it.name)}
+                self.assertEqual(changed, {"folder", key.field})
 
     def test_classes(self) -> None:
         """Each field of each class stands in the page, and each name that stands there is one."""
@@ -88,8 +94,8 @@ class Documents(InFolder):
                 self.assertTrue(hasattr(its, word) or word in {it.name for it in fields(its)}, f"{name}.{word}")
 
     def test_rules(self) -> None:
-        """The page of rules is what is printed from their table."""
-        ran = subprocess.run([sys.executable, ROOT / "tools" / "print_rules", "--check"], capture_output=True, text=True, check=False)
+        """The pages of rules and of settings are what is printed from their tables."""
+        ran = subprocess.run([sys.executable, ROOT / "tools" / "print_pages", "--check"], capture_output=True, text=True, check=False)
         self.assertEqual((ran.returncode, ran.stdout, ran.stderr), (0, "", ""))
         self.assertEqual(re.findall(r"^## (.*)$", (ROOT / "docs" / "RULES.md").read_text(encoding="utf-8"), re.MULTILINE), list(RULES))
 
