@@ -79,7 +79,7 @@ class Browsing(InFolder):
         asked = [json.loads(it["message"])["message"] for it in self.browser.get_log("performance")]
         addresses = [it["params"]["request"]["url"] for it in asked if it["method"] == "Network.requestWillBeSent"]
         self.assertTrue(addresses)
-        self.assertEqual([it for it in addresses if not it.startswith(self.here)], [])
+        self.assertEqual([it for it in addresses if not it.startswith((self.here, "data:image/"))], [])
 
     def await_(self, is_so: Callable[[], bool], what: str) -> None:
         """Waits until something is so."""
@@ -259,6 +259,22 @@ class Written(Browsing):
         self.assertGreater(self.look("document.querySelectorAll('#picture use').length"), before)
         self.assertEqual(self.look("document.querySelector('#picture .code').firstChild.textContent"), "E1")
         self.assert_quiet()
+
+    def test_to_learn(self) -> None:
+        """The tutorial and the cheat sheet open from the page, and show their pictures."""
+        for it in self.browser.find_elements("css selector", ".learn a"):
+            address = it.get_attribute("href")
+            with self.subTest(address):
+                it.click()
+                self.browser.switch_to.window(self.browser.window_handles[-1])
+                self.await_(lambda: bool(self.browser.current_url == address and self.look("document.readyState") == "complete"), "the page is not there")
+                self.assertGreater(self.look("document.images.length"), 3)
+                self.assertEqual(self.look("[...document.images].filter(it => it.naturalWidth === 0).length"), 0)
+                self.assertNotEqual(self.look("getComputedStyle(document.body).maxWidth"), "none")
+                self.assertEqual([it["message"] for it in self.browser.get_log("browser")], [])
+                self.browser.close()
+                self.browser.switch_to.window(self.browser.window_handles[0])
+        self.assertEqual(len(self.browser.find_elements("css selector", ".learn a")), 2)
 
     def test_clicks(self) -> None:
         """A click on a message shows it in the picture; one on its place, and one on a syllable, puts the

@@ -14,6 +14,7 @@ from support import ROOT, InFolder, command, has
 
 TUTORIAL, SHEET = "docs/TUTORIAL.md", "docs/CHEATSHEET.md"
 TOOL = ROOT / "tools" / "draw_pages"
+LEARN = ROOT / "python" / "gregorio_chant" / "web" / "learn"
 
 
 def scores_of(page: str) -> dict[str, str]:
@@ -22,6 +23,13 @@ def scores_of(page: str) -> dict[str, str]:
 
 
 class Pages(InFolder):
+    def test_show(self) -> None:
+        """The first picture is made by the line of the tutorial."""
+        self.put("amen.gabc", scores_of(TUTORIAL)["amen"])
+        words = block("docs/TUTORIAL.md", "test: show").split()
+        self.assertEqual(command(*words[1:]).returncode, 0)
+        self.assertIn("<svg ", (self.room / "amen.html").read_text(encoding="utf-8"))
+
     def test_scores(self) -> None:
         scores = scores_of("docs/TUTORIAL.md")
         self.assertGreater(len(scores), 3)
@@ -32,7 +40,7 @@ class Pages(InFolder):
     def test_mistake(self) -> None:
         """The mistake of the tutorial is told as the page shows it, and mended again it is told no more."""
         first, shown = block("docs/TUTORIAL.md", "test: check").split("\n", 1)
-        score = scores_of(TUTORIAL)["kyrie"]
+        score = scores_of(TUTORIAL)["two lines"]
         self.put("kyrie.gabc", score.replace("e(gf) *(,)", "e(gf *(,)"))
         self.assertEqual(command(*first.split()[2:], environment={"COLUMNS": "120"}).stdout.decode(), shown)
         self.put("kyrie.gabc", score)
@@ -40,9 +48,9 @@ class Pages(InFolder):
 
     def test_format(self) -> None:
         words = block("docs/TUTORIAL.md", "test: format").split()
-        path = self.put("kyrie.gabc", scores_of(TUTORIAL)["kyrie"].replace("mode: 1;", "mode:1 ;"))
+        path = self.put("kyrie.gabc", scores_of(TUTORIAL)["two lines"].replace("mode: 1;", "mode:1 ;"))
         self.assertEqual(command(*words[1:]).returncode, 0)
-        self.assertEqual(path.read_text(encoding="utf-8"), scores_of(TUTORIAL)["kyrie"])
+        self.assertEqual(path.read_text(encoding="utf-8"), scores_of(TUTORIAL)["two lines"])
 
     def test_rows(self) -> None:
         """Each row of the cheat sheet is read without an error."""
@@ -56,6 +64,22 @@ class Pages(InFolder):
         """The pictures are those of the scores beside them."""
         ran = subprocess.run([sys.executable, TOOL, "--check"], capture_output=True, text=True, check=False)
         self.assertEqual((ran.returncode, ran.stdout, ran.stderr), (0, "", ""))
+
+    @unittest.skipUnless(has("markdown"), "there is no markdown")
+    def test_html(self) -> None:
+        """The pages of HTML are those of the tutorial and of the cheat sheet."""
+        ran = subprocess.run([sys.executable, ROOT / "tools" / "print_html", "--check"], capture_output=True, text=True, check=False)
+        self.assertEqual((ran.returncode, ran.stdout, ran.stderr), (0, "", ""))
+
+    def test_html_stands_alone(self) -> None:
+        """A page of HTML has as many pictures as the page that it is made of, in itself, and asks for nothing."""
+        for name, file in ((TUTORIAL, "tutorial.html"), (SHEET, "cheatsheet.html")):
+            page = (LEARN / file).read_text(encoding="utf-8")
+            pictures = re.findall(r'<img alt="(.*?)" src="(.{20})', page)
+            self.assertEqual([alt for alt, _ in pictures], re.findall(r"!\[(.*?)\]\(pictures/", (ROOT / name).read_text(encoding="utf-8")))
+            self.assertEqual({address for _, address in pictures}, {"data:image/svg+xml,%"})
+            self.assertEqual({it for it in re.findall(r'(?:href|src)="([^":]*)"', page)}, {"tutorial.html", "cheatsheet.html"})
+            self.assertNotIn("<script", page)
 
     def test_all_are_shown(self) -> None:
         """Each score of the tutorial has a picture after it."""

@@ -106,7 +106,17 @@ class Serving(Asking):
             self.assertEqual((status, headers.get_content_type()), (200, kind))
             self.assertEqual(set(re.findall(rb"https?://[^\"' ]*", body)) - {b"http://www.w3.org/2000/svg"}, set())
             self.assertNotRegex(body, rb"url\(|@import|eval\(")
-        self.assertEqual(set(page.links), {"/page.js", "/sing.js", "/page.css", "/icon.svg"})
+        self.assertEqual(set(page.links), {"/page.js", "/sing.js", "/page.css", "/icon.svg", *_TO_LEARN})
+
+    def test_to_learn(self) -> None:
+        """The tutorial and the cheat sheet are served, each with its pictures in itself and with no script, and they lead to each other."""
+        for path in _TO_LEARN:
+            status, body, headers = self.ask("GET", path)
+            page = Page(body.decode())
+            self.assertEqual((status, headers["Content-Type"], headers["Content-Security-Policy"]), (200, "text/html; charset=utf-8", _STILL))
+            self.assertEqual((headers["Cache-Control"], page.tags.count("script")), ("no-store", 0))
+            self.assertEqual({f"/{it}" for it in page.links if not it.startswith(("data:image/svg+xml,", "https:"))}, set(_TO_LEARN))
+            self.assertGreater(sum(it.startswith("data:") for it in page.links), 3)
 
     def test_policy(self) -> None:
         """Each answer forbids a browser all but the page's own parts, also one that refuses."""
@@ -249,6 +259,8 @@ class Serving(Asking):
 _POLICY = (
     "default-src 'none'; script-src 'self'; style-src 'self'; img-src 'self'; connect-src 'self'; base-uri 'none'; form-action 'none'; frame-ancestors 'none'"
 )
+_STILL = "default-src 'none'; style-src 'unsafe-inline'; img-src data:; base-uri 'none'; form-action 'none'; frame-ancestors 'none'"
+_TO_LEARN = ("/tutorial.html", "/cheatsheet.html")
 # A score that takes seconds to be drawn.
 _LONG = b"name: a;\n%%\n(c4) " + b"Ky(f)ri(gfg)e(e.) " * 20_000
 

@@ -24,7 +24,9 @@ from test_picture import HOSTILE
 
 WARNED = "name: b;\n%%\n(c4) <x>Ky(g)ri(g)\n"
 FATAL = "name: c;\n%%\n(c4) Ky(g)ri(g\n"
-_VOID = ("meta", "br", "link", "input")
+_VOID = ("meta", "br", "link", "input", "img")
+# Elements whose end may be left out.
+_CELLS = ("tr", "td", "th")
 
 
 class Page(HTMLParser):
@@ -51,7 +53,7 @@ class Page(HTMLParser):
                 self.ids.append(value or "")
             if name in ("href", "src") and tag != "use":
                 self.links.append(value or "")
-        if tag not in (*_VOID, "tr", "td", "th"):
+        if tag not in (*_VOID, *_CELLS):
             self._open.append(tag)
 
     def handle_startendtag(self, tag: str, attrs: list[tuple[str, str | None]]) -> None:
@@ -59,7 +61,7 @@ class Page(HTMLParser):
         self._open.pop()
 
     def handle_endtag(self, tag: str) -> None:
-        if tag != "tr":
+        if tag not in _CELLS:
             assert self._open and self._open[-1] == tag, (tag, self._open)
             self._open.pop()
 

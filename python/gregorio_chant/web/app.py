@@ -1,8 +1,8 @@
-"""The page and its answers, as an application for a server."""
+"""The page, the pages to learn from, and the answers, as an application for a server."""
 from __future__ import annotations
 
 import json
-from collections.abc import Callable, Collection
+from collections.abc import Callable, Collection, Mapping
 from dataclasses import asdict
 from pathlib import Path
 from typing import Any
@@ -18,7 +18,7 @@ from gregorio_chant.picture.page import MOST_BYTES, SINGER, STYLE
 from gregorio_chant.picture.shapes import SHAPES
 from gregorio_chant.web.answers import Answers
 from gregorio_chant.web.computing import Computations, GivenUp, TooMany
-from gregorio_chant.web.guard import Guard, TooLong, too_long
+from gregorio_chant.web.guard import STILL, Guard, TooLong, too_long
 
 # A score of more bytes is read at a button, and not at each pause of the typing.
 _MOST_TYPED = 100_000
@@ -36,11 +36,16 @@ def _files() -> dict[str, str]:
     return {"/": page, "/page.js": script, "/sing.js": SINGER, "/page.css": STYLE + style, "/icon.svg": _ICON}
 
 
-def _route_of(path: str, content: str) -> Route:
+def _to_learn() -> dict[str, str]:
+    """Returns the tutorial and the cheat sheet by their paths. Each is one file, with its style and its pictures."""
+    return {f"/{it.name}": it.read_text(encoding="utf-8") for it in sorted(Path(__file__).with_name("learn").glob("*.html"))}
+
+
+def _route_of(path: str, content: str, headers: Mapping[str, str] | None = None) -> Route:
     kind = _TYPES[Path(path).suffix or ".html"]
 
     async def answer(_: Request) -> Response:
-        return Response(content, media_type=kind)
+        return Response(content, media_type=kind, headers=headers)
 
     return Route(path, answer)
 
@@ -93,6 +98,8 @@ def app_of(answers: Answers, names: Collection[str]) -> ASGIApp:
         return await answered(request, answers.sounds_of)
 
     routes = [
-        *(_route_of(path, content) for path, content in _files().items()), Route("/score", score, methods=["POST"]), Route("/sounds", sounds, methods=["POST"]),
+        *(_route_of(path, content) for path, content in _files().items()),
+        *(_route_of(path, content, {"Content-Security-Policy": STILL}) for path, content in _to_learn().items()),
+        Route("/score", score, methods=["POST"]), Route("/sounds", sounds, methods=["POST"]),
     ]
     return Guard(Starlette(routes=routes), names)
