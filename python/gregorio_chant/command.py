@@ -14,8 +14,8 @@ from gregorio_chant.streams import CANNOT_READ_OR_WRITE, NAME, CannotWrite, tell
 
 _ABOUT = """Checks, formats and explains chant scores in GABC.
 
-What is found in a score and its canonical form come from a compiler that is proved to follow its definition. The rest of this command
-stands outside that proof and is only tested: which files are read and written, how messages are shown, the rules, the server."""
+The messages E, W and F and the canonical form come from a compiler that is proved to follow its definition. The rest is outside that proof, and tested:
+reading and writing files, showing messages, the rules, the server."""
 _EXAMPLES = examples(("gregorio-chant check scores", "gregorio-chant format --diff score.gabc", "gregorio-chant explain E4"))
 COMMANDS: tuple[Command, ...] = (check, format, show, page, explain, export, find, index, neumes, server, version)
 

@@ -13,7 +13,7 @@ from gregorio_chant.settings import Chosen
 from gregorio_chant.streams import STDIN
 
 NAME = "check"
-_ABOUT = f"Checks scores, and says for each slip what to write instead. It writes no file without --fix. {OUTSIDE}"
+_ABOUT = f"Checks scores, and says what to write instead of each mistake. It writes no file without --fix. {OUTSIDE}"
 _EXAMPLES = examples((
     "gregorio-chant check scores",
     "gregorio-chant check --select E,F --exclude drafts/ scores",
@@ -29,12 +29,12 @@ def add(commands: argparse._SubParsersAction[Parser]) -> Parser:
         "--output-format", choices=checking.FORMS, default="text", metavar="FORM",
         help="text with the line of the score (default), lines for editors, json, github or sarif",
     )
-    it.add_argument("--select", metavar="CODES", help="report these alone: codes between commas, E, W or F for a kind, rules for all rules")
+    it.add_argument("--select", metavar="CODES", help="report only these: codes with commas between them; E, W or F is a whole kind, rules are all rules")
     it.add_argument("--ignore", metavar="CODES", help="do not report these; a fatal fault is always reported")
-    it.add_argument("--fail-on", metavar="CODES", help="end with status 1 where one of these is reported")
-    it.add_argument("--rules", action="store_true", help="look for slips that the language allows, too: explain --all lists these rules")
-    it.add_argument("--fix", action="store_true", help="repair the files first, then report what is left; no note and no sung letter changes")
-    it.add_argument("--unsafe-fixes", action="store_true", help="with --fix: guess too, as where a bracket was lost; each guess says what it changes")
+    it.add_argument("--fail-on", metavar="CODES", help="end with status 1 if one of these is reported")
+    it.add_argument("--rules", action="store_true", help="also try the rules, for mistakes that the language allows; explain --all lists them")
+    it.add_argument("--fix", action="store_true", help="repair the files first, then report the rest; no note and no sung letter changes")
+    it.add_argument("--unsafe-fixes", action="store_true", help="with --fix: also guess, for example where a bracket is missing; each guess says what it changes")
     it.add_argument("--diff", action="store_true", help="with --fix: write no file, and show the changes as a diff")
     add_jobs(it)
     add_no_config(it)

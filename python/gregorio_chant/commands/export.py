@@ -14,7 +14,7 @@ _TEMPO = 140
 # The formats but MIDI, which wants a package.
 _WAYS = {it.name: it for it in (volpiano.WAY, musicxml.WAY, mei.WAY)}
 _ABOUT = f"""Writes scores in another format, into files with the same name and another ending: volpiano (.volpiano) for chant databases, musicxml (.musicxml) for
-editors of modern notation, mei (.mei) for scholars, midi (.mid) for listening. A line tells each kind of thing that the format says nothing of. {OUTSIDE}"""
+editors of modern notation, mei (.mei) for scholars, midi (.mid) for listening. A line names each kind of sign that the format loses. {OUTSIDE}"""
 _EXAMPLES = examples((
     "gregorio-chant export --to musicxml score.gabc", "gregorio-chant export --to volpiano - <score.gabc", "gregorio-chant export --to midi --force --tempo 120 scores",
 ))
@@ -26,7 +26,7 @@ def add(commands: argparse._SubParsersAction[Parser]) -> Parser:
     it.add_argument("--to", choices=(*_WAYS, "midi"), required=True, metavar="FORMAT", help="volpiano, musicxml, mei or midi")
     add_files(it, ", which is written to standard output")
     it.add_argument("--folder", metavar="DIR", help="write the files into this folder, and not beside the scores")
-    it.add_argument("--force", action="store_true", help="write over files that are there already")
+    it.add_argument("--force", action="store_true", help="replace files that are there already")
     it.add_argument("--tempo", type=positive, default=_TEMPO, metavar="N", help="with midi: notes per minute (default %(default)s)")
     add_no_config(it)
     it.add_argument("--quiet", action="store_true", help="write no summary")

@@ -20,11 +20,11 @@ _EXAMPLES = examples((
 def add(commands: argparse._SubParsersAction[Parser]) -> Parser:
     """Adds the words of `find`."""
     it = commands.add_parser(NAME, help="find intervals, neumes, words or melodies in scores", description=_ABOUT, epilog=f"{_EXAMPLES}\n\n{STATUSES}")
-    it.add_argument("--interval", metavar="STEPS", help="notes in a row at these intervals in steps, as +2 -1; bars do not count")
-    it.add_argument("--neume", metavar="KIND", help="neumes of this kind; * stands for anything")
-    it.add_argument("--text", metavar="WORDS", help="words that follow each other; * stands for anything, accents and capitals do not count")
-    it.add_argument("--volpiano", metavar="LETTERS", help="a melody by its letters in Volpiano; clef, hyphens, bars and flats do not count")
-    it.add_argument("--semitones", action="store_true", help="with --interval: count semitones and no steps")
+    it.add_argument("--interval", metavar="STEPS", help="notes in a row at these intervals in steps, as +2 -1, also across bars")
+    it.add_argument("--neume", metavar="KIND", help="neumes of this kind; * is any text")
+    it.add_argument("--text", metavar="WORDS", help="words in a row; * is any text; accents and capitals do not count")
+    it.add_argument("--volpiano", metavar="LETTERS", help="a melody in letters of Volpiano; clef, hyphens, bars and flats do not count")
+    it.add_argument("--semitones", action="store_true", help="with --interval: count semitones, not steps")
     add_table(it)
     return it
 

@@ -12,9 +12,9 @@ from gregorio_chant.nearest import did_you_mean
 from gregorio_chant.selection import UnknownCode
 
 NAME = "format"
-_ABOUT = f"""Writes headers and syllables in canonical spelling, and keeps lines, empty lines and comments. Where something is found, the spelling
-stays. A file is written only where the compiler reads the new text as it read the old one: with the same canonical form, the same dump and the same
-messages. The new file is written beside the old one, and then takes its place. {OUTSIDE}"""
+_ABOUT = f"""Writes headers and syllables in canonical spelling, and keeps lines, empty lines and comments. A part with a message keeps its
+spelling. A file is written only if the compiler gives the same canonical form, dump and messages for the new text. The new file is written beside the
+old one, and then replaces it. {OUTSIDE}"""
 _EXAMPLES = examples((
     "gregorio-chant format scores",
     "gregorio-chant format --check --exclude drafts/ scores",
@@ -29,12 +29,12 @@ def add(commands: argparse._SubParsersAction[Parser]) -> Parser:
         epilog=f"{_EXAMPLES}\n\n{STATUSES}",
     )
     add_paths(it, ", which is written to standard output", "with --check or --diff: ")
-    it.add_argument("--check", action="store_true", help="write nothing; status 1 where a file would change")
-    it.add_argument("--diff", action="store_true", help="write nothing but what would change, as a diff; status 1 where something would")
-    it.add_argument("--wrap", type=positive, metavar="N", help="at most N characters on a line, where words begin; no line is made longer")
-    it.add_argument("--canonical", action="store_true", help="write the canonical form, where nothing but blanks changes: a word a line, and no comments")
+    it.add_argument("--check", action="store_true", help="write nothing; end with status 1 if a file would change")
+    it.add_argument("--diff", action="store_true", help="write no file, and show the changes as a diff; end with status 1 if there are any")
+    it.add_argument("--wrap", type=positive, metavar="N", help="break lines of more than N characters between words")
+    it.add_argument("--canonical", action="store_true", help="write the canonical form, one word on each line and no comments, if only blanks change")
     it.add_argument(
-        "--allow", metavar="REASONS", default="", help=f"with --canonical: write all the same where these go, between commas: {', '.join(sorted(REASONS))}"
+        "--allow", metavar="REASONS", default="", help=f"with --canonical: allow these losses, with commas between them: {', '.join(sorted(REASONS))}"
     )
     add_jobs(it)
     add_no_config(it)

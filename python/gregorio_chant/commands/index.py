@@ -8,8 +8,8 @@ from gregorio_chant.searching import INDEX, index_row
 from gregorio_chant.tables import write_table
 
 NAME = "index"
-_ABOUT = f"""Writes a row for each score: its name, office part and mode, its first words and degrees, its last degree, the lowest and the highest one, and how
-many steps lie between these. {OUTSIDE}"""
+_ABOUT = f"""Writes a row for each score: its name, office part and mode, its first words and degrees, its last, lowest and highest degree, the steps between the
+lowest and the highest, and its beginning in Volpiano. {OUTSIDE}"""
 _EXAMPLES = examples((
     "gregorio-chant index scores", "gregorio-chant index --output-format csv scores >index.csv", "gregorio-chant index --output-format json --quiet scores",
 ))

@@ -9,7 +9,7 @@ from gregorio_chant.tables import write_table
 from gregorio_chant.totals import write_totals
 
 NAME = "neumes"
-_ABOUT = f"""Counts the neumes of scores: writes a row for each kind, the most frequent first, with the place of its first one. {OUTSIDE}"""
+_ABOUT = f"""Counts the neumes of scores. It writes a row for each kind, the most frequent first, with the place of the first one. {OUTSIDE}"""
 _EXAMPLES = examples((
     "gregorio-chant neumes scores", "gregorio-chant neumes --each --output-format csv scores >neumes.csv", "gregorio-chant neumes --quiet scores",
 ))

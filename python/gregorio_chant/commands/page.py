@@ -9,8 +9,8 @@ from gregorio_chant.streams import STDIN
 
 NAME = "page"
 _MOST_PORT = 65_535
-_ABOUT = f"""Serves a page to write a score in: one pastes or drops it, and sees while typing its picture, the messages, the canonical form and the dump. The page
-is for this machine alone, its address is the first line of standard output, and no score is kept. It ends with Control-C. {OUTSIDE}"""
+_ABOUT = f"""Serves a page in which you write, paste or drop a score. While you type it shows the picture, the messages, the canonical form and the dump. The
+page is for this machine alone, and keeps no score. The first line of standard output is its address. Control-C ends it. {OUTSIDE}"""
 _EXAMPLES = examples(("gregorio-chant page", "gregorio-chant page --port 8080", "gregorio-chant page --rules"))
 
 
@@ -24,9 +24,9 @@ def port(word: str) -> int:
 
 def add(commands: argparse._SubParsersAction[Parser]) -> Parser:
     """Adds the words of `page`."""
-    it = commands.add_parser(NAME, help="serve a page to write a score in and see it", description=_ABOUT, epilog=f"{_EXAMPLES}\n\n{STATUSES}")
-    it.add_argument("--port", type=port, default=0, metavar="N", help="serve at this port, or at a free one for 0 (default)")
-    it.add_argument("--rules", action="store_true", help="show what the rules find too")
+    it = commands.add_parser(NAME, help="serve a page to write a score in, with its picture", description=_ABOUT, epilog=f"{_EXAMPLES}\n\n{STATUSES}")
+    it.add_argument("--port", type=port, default=0, metavar="N", help="serve at this port (default 0: any free port)")
+    it.add_argument("--rules", action="store_true", help="also try the rules")
     add_no_config(it)
     return it
 

@@ -12,7 +12,7 @@ _ABOUT = f"Serves an editor by the language server protocol over standard input 
 def add(commands: argparse._SubParsersAction[Parser]) -> Parser:
     """Adds the words of `server`."""
     it = commands.add_parser(NAME, help="serve an editor by the language server protocol", description=_ABOUT)
-    it.add_argument("--rules", action="store_true", help="look for slips that the language allows")
+    it.add_argument("--rules", action="store_true", help="also try the rules")
     add_no_config(it)
     return it
 

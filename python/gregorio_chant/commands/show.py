@@ -13,9 +13,9 @@ from gregorio_chant.selection import UnknownCode
 from gregorio_chant.streams import CANNOT_READ_OR_WRITE, is_terminal, printable, reason_of, tell
 
 NAME = "show"
-_ABOUT = f"""Writes a page with a picture of each score, its messages and its source. The page stands alone: it needs no script and no network. Of the scores of
-folders those with messages are shown, at most {showing.MOST} of them. With a FOLDER/ to write into, each score has a page, and an index leads to them. The
-picture is a view of what was read, and no typesetting. {OUTSIDE}"""
+_ABOUT = f"""Writes a page with a picture of each score, its messages and its source. The page needs no script and no network. From folders only the scores
+with messages are shown, at most {showing.MOST} of them. With -o FOLDER/ each score has a page, and an index leads to them. The picture is a view of the
+score, and no typesetting. {OUTSIDE}"""
 _EXAMPLES = examples((
     "gregorio-chant show -o page.html score.gabc",
     "gregorio-chant show -o pages/ scores",
@@ -28,18 +28,18 @@ def add(commands: argparse._SubParsersAction[Parser]) -> Parser:
     it = commands.add_parser(NAME, help="write pictures of scores, with their messages, as a page", description=_ABOUT, epilog=f"{_EXAMPLES}\n\n{STATUSES}")
     add_files(it)
     it.add_argument(
-        "-o", "--output", metavar="FILE", help="write the page into this file, or an index and a page a score into this folder, if it ends in / or is one"
+        "-o", "--output", metavar="FILE", help="write the page into this file; into a folder, or a name that ends in /, write an index and a page for each score"
     )
-    it.add_argument("--svg", action="store_true", help="write the picture of one score alone, as SVG")
-    it.add_argument("--width", type=positive, default=int(USUAL_WIDTH), metavar="N", help="how wide a picture is, in pixels (default %(default)s)")
+    it.add_argument("--svg", action="store_true", help="write only the picture of one score, as SVG")
+    it.add_argument("--width", type=positive, default=int(USUAL_WIDTH), metavar="N", help="the width of a picture in pixels (default %(default)s)")
     it.add_argument("--face", choices=("square", "plain"), default="square", help="draw square notes as chant books have them, or in plain shapes (default %(default)s)")
-    it.add_argument("--neumes", choices=NAMES, default=AUTO, metavar="HAND", help=f"the hand of NABC: {', '.join(NAMES)}; auto looks which one the score needs (default)")
-    it.add_argument("--font", metavar="FILE", help="draw neumes with the outlines of this font, which has the glyph names of GregorioTeX, as greciliae.ttf")
-    it.add_argument("--no-initial", action="store_true", help="leave the first letter in the text, and not before the first line, whatever initial-style says")
-    it.add_argument("--no-messages", action="store_true", help="leave out the messages, and the line that says what is not drawn")
-    it.add_argument("--play", action="store_true", help="let the page sing each score, by a script of its own: a double click on a syllable begins there")
-    it.add_argument("--watch", action="store_true", help="write again when a score changes, until Control-C ends it")
-    it.add_argument("--rules", action="store_true", help="show what the rules find too")
+    it.add_argument("--neumes", choices=NAMES, default=AUTO, metavar="HAND", help=f"the hand of NABC: {', '.join(NAMES)}; auto (default) chooses it by the score")
+    it.add_argument("--font", metavar="FILE", help="draw neumes with this font, which must have GregorioTeX's glyph names, as greciliae.ttf")
+    it.add_argument("--no-initial", action="store_true", help="leave the first letter in the text, whatever initial-style says")
+    it.add_argument("--no-messages", action="store_true", help="leave out the messages, and the line about signs that are not drawn")
+    it.add_argument("--play", action="store_true", help="let the page sing each score, with a script; a double click on a syllable begins there")
+    it.add_argument("--watch", action="store_true", help="write the page again when a score changes, until Control-C ends it")
+    it.add_argument("--rules", action="store_true", help="also try the rules")
     add_no_config(it)
     return it
 

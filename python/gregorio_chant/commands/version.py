@@ -9,12 +9,12 @@ from gregorio_chant.streams import NAME as COMMAND
 from gregorio_chant.streams import write
 
 NAME = "version"
-_ABOUT = "Writes the versions of the command and of the library that it calls, and of which commit and by which kit that library was built."
+_ABOUT = "Writes the versions of the command and of its library, and the commit and the kit from which the library was built."
 
 
 def add(commands: argparse._SubParsersAction[Parser]) -> Parser:
     """Adds the words of `version`, which are none."""
-    return commands.add_parser(NAME, help="say which version this is, and of what the library was built", description=_ABOUT)
+    return commands.add_parser(NAME, help="write the versions of the command and of its library", description=_ABOUT)
 
 
 def run(words: argparse.Namespace) -> int:

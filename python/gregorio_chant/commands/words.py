@@ -22,10 +22,10 @@ REFUSED = 3
 # All codes and rules.
 KNOWN = frozenset((*CODES, *RULES))
 OUTSIDE = "The compiler is proved; this command is tested."
-STATUSES = """exit status: the worst of 0 nothing wrong, 1 errors (format: something would change or was refused), 2 a fatal fault,
-3 the arguments were refused or a package is missing, 4 a file could not be read or written, 5 no memory"""
-_STAGED = "look at what is staged in git, and not at the files: at all of it, or at what is staged of the PATHs"
-_PATHS = f"a file, a folder for the scores below it, or {STDIN} for standard input; after -- each word is a path"
+STATUSES = """exit status, the highest of: 0 no error, 1 errors (format: a file would change or was refused), 2 a fatal fault,
+3 wrong arguments or a missing package, 4 a file could not be read or written, 5 no memory"""
+_STAGED = "read all staged scores of git, or those below the PATHs, and not the files"
+_PATHS = f"a file, a folder for the scores below it, or {STDIN} for standard input; after -- every argument is a path"
 
 
 class Help(argparse.HelpFormatter):
@@ -87,7 +87,7 @@ def add_files(parser: Parser, more: str = "") -> None:
     parser.add_argument("paths", nargs="*", metavar="PATH", help=f"{_PATHS}{more}")
     parser.add_argument(
         "--exclude", action="append", default=[], metavar="PATTERN",
-        help="leave out of folders what this names, as a line of .gitignore would; may stand several times",
+        help="leave these files out of folders, as a line of .gitignore would; may be given several times",
     )
 
 
