@@ -78,7 +78,7 @@ struct gregorio_options {
   uint64_t key[2];   /* two random words where strangers write the scores, else 0 and 0 */
 };
 
-/* How many bytes a step has written, or wants. */
+/* The numbers of bytes written, or required. */
 struct gregorio_step {
   size_t state;
   size_t output;
@@ -87,7 +87,7 @@ struct gregorio_step {
 
 /* Compiles the score: puts its output into `output`, the lines of its messages into `messages`, and their exact lengths into `lengths`.
  * Messages call the score `<stdin>`. A text that is longer than its buffer is left out whole, and the buffer stays as it was: call again
- * with buffers of the lengths told. At GREGORIO_REFUSED and GREGORIO_NO_MEMORY buffers and lengths stay as they were.
+ * with buffers of the reported lengths. At GREGORIO_REFUSED and GREGORIO_NO_MEMORY buffers and lengths stay as they were.
  * `key` is for the table of the headers' names: two random words (of `getrandom`, say) where strangers write the scores, since without a key
  * names can be chosen that are slow to read; else null, with a length of 0. No answer depends on it. */
 uint32_t gregorio_compile(const uint8_t *score, size_t score_length, uint32_t format, uint32_t flags, const uint64_t *key,

@@ -11,7 +11,7 @@ from functools import partial
 from gregorio_chant import __version__, library
 from gregorio_chant.files import Content, Reader
 from gregorio_chant.helps import helps_for
-from gregorio_chant.needs import Missing
+from gregorio_chant.needs import MissingDependency
 from gregorio_chant.processes import by_processes
 from gregorio_chant.progress import bar
 from gregorio_chant.reports import Annotations, Checked, Json, Lines, Reporter, summary_of
@@ -29,9 +29,8 @@ FORMS = ("text", "lines", "json", "github", "sarif")
 
 
 @dataclass(frozen=True)
-class Wanted:
-    """What the words of the command ask for; `exclude` has patterns of what is left out of
-    folders."""
+class Options:
+    """The options of `check`; `exclude` has patterns of files to leave out of folders."""
 
     paths: tuple[str, ...]
     chosen: Chosen = Chosen()
@@ -55,13 +54,13 @@ def check_data(data: bytes, with_rules: bool) -> tuple[Message, ...]:
 _Read = Callable[[str], Content]
 
 
-def check_file(name: str, wanted: Wanted, read_it: _Read) -> Checked:
+def check_file(name: str, options: Options, read_it: _Read) -> Checked:
     """Returns what is found in the file, or why it was not read."""
-    settings = wanted.settings.of(name)
-    selection = settings.selection(name, wanted.chosen)
+    settings = options.settings.of(name)
+    selection = settings.selection(name, options.chosen)
     try:
         data = read_it(name).data
-        found = check_data(data, wanted.with_rules or settings.rules is True)
+        found = check_data(data, options.with_rules or settings.rules is True)
         messages = selection.of(found)
     except OSError as error:
         return Checked(name, failure=reason_of(error), status=CANNOT_READ_OR_WRITE)
@@ -74,19 +73,19 @@ def check_file(name: str, wanted: Wanted, read_it: _Read) -> Checked:
 
 
 @contextmanager
-def _all_checked(names: list[str], wanted: Wanted, read_it: _Read) -> Iterator[Iterator[Checked]]:
+def _all_checked(names: list[str], options: Options, read_it: _Read) -> Iterator[Iterator[Checked]]:
     """Gives what is found in each file, in order: by threads, since the compiler runs beside
     them; by processes with rules, which are Python."""
-    work = partial(check_file, wanted=wanted, read_it=read_it)
-    with_rules = wanted.with_rules or any(wanted.settings.of(it).rules for it in names)
-    if with_rules and not wanted.staged:
-        with by_processes(work, names, wanted.jobs) as all_checked:
+    work = partial(check_file, options=options, read_it=read_it)
+    with_rules = options.with_rules or any(options.settings.of(it).rules for it in names)
+    if with_rules and not options.staged:
+        with by_processes(work, names, options.jobs) as all_checked:
             yield all_checked
         return
-    if wanted.jobs == 1:
+    if options.jobs == 1:
         yield map(work, names)
         return
-    pool = ThreadPoolExecutor(wanted.jobs)
+    pool = ThreadPoolExecutor(options.jobs)
     try:
         yield pool.map(work, names)
     finally:
@@ -102,7 +101,7 @@ def _reporter_of(form: str) -> Reporter:
     try:
         from gregorio_chant.terminal import TextReporter
     except ImportError:
-        raise Missing("text (--output-format lines does without)", "rich") from None
+        raise MissingDependency("text (--output-format lines does without)", "rich") from None
     return TextReporter()
 
 
@@ -131,29 +130,29 @@ class _Count:
         return summary_of(self.files, self.failed, self.kinds)
 
 
-def _named(wanted: Wanted, count: _Count) -> tuple[list[str], _Read]:
+def _named(options: Options, count: _Count) -> tuple[list[str], _Read]:
     """Returns the names of what is checked, and what reads each."""
-    if wanted.staged:
-        staged = StagedFiles(wanted.paths)
-        return wanted.settings.kept(staged.names, wanted.paths), staged.read
-    names = find_scores(wanted.paths, lambda name, error: count.fail(name, reason_of(error)), wanted.exclude)
-    return wanted.settings.kept(names, wanted.paths), Reader.of(wanted.paths).read
+    if options.staged:
+        staged = StagedFiles(options.paths)
+        return options.settings.kept(staged.names, options.paths), staged.read
+    names = find_scores(options.paths, lambda name, error: count.fail(name, reason_of(error)), options.exclude)
+    return options.settings.kept(names, options.paths), Reader.of(options.paths).read
 
 
-def check(wanted: Wanted) -> int:
+def check(options: Options) -> int:
     """Checks the files, reports what is found, and returns the worst status. Raises
-    `CannotWrite`, and `Missing`, `NoStage` or `SettingsError` before any score is read."""
-    reporter = _reporter_of(wanted.form)
+    `WriteError`, and `MissingDependency`, `GitError` or `SettingsError` before any score is read."""
+    reporter = _reporter_of(options.form)
     count = _Count()
-    names, read_it = _named(wanted, count)
-    with _all_checked(names, wanted, read_it) as all_checked, bar("checking", len(names)) as shown:
+    names, read_it = _named(options, count)
+    with _all_checked(names, options, read_it) as all_checked, bar("checking", len(names)) as shown:
         for it in all_checked:
             text = reporter.add(it)
             with shown.aside(told=it.failure is not None) if text or it.failure else nullcontext():
                 count.add(it)
                 write(text)
             shown.advance()
-    write(reporter.end(None if wanted.quiet else count.summary()))
-    if not wanted.quiet and not reporter.has_summary:
+    write(reporter.end(None if options.quiet else count.summary()))
+    if not options.quiet and not reporter.has_summary:
         tell(count.summary())
     return count.status

@@ -6,11 +6,11 @@ from collections.abc import Sequence
 from gregorio_chant import __version__, checking
 from gregorio_chant.commands import check, explain, export, find, format, index, neumes, page, server, show, version
 from gregorio_chant.commands.words import REFUSED, STATUSES, Command, Parser, examples
-from gregorio_chant.needs import Missing
+from gregorio_chant.needs import MissingDependency
 from gregorio_chant.selection import UnknownCode
 from gregorio_chant.settings import SettingsError
-from gregorio_chant.staged import NoStage
-from gregorio_chant.streams import CANNOT_READ_OR_WRITE, NAME, CannotWrite, tell
+from gregorio_chant.staged import GitError
+from gregorio_chant.streams import CANNOT_READ_OR_WRITE, NAME, WriteError, tell
 
 _ABOUT = """Checks, formats and explains chant scores in GABC.
 
@@ -36,13 +36,13 @@ def main(words: Sequence[str]) -> int:
         if unknown:
             by_name[asked.command].refuse_unknown(unknown)
         return next(it for it in COMMANDS if it.NAME == asked.command).run(asked)
-    except (UnknownCode, Missing, SettingsError) as error:
+    except (UnknownCode, MissingDependency, SettingsError) as error:
         tell(str(error))
         return REFUSED
-    except NoStage as error:
+    except GitError as error:
         tell(f"cannot read what is staged: {error}")
         return CANNOT_READ_OR_WRITE
-    except CannotWrite as error:
+    except WriteError as error:
         if not error.is_closed:
             tell(f"cannot write: {error}")
         return CANNOT_READ_OR_WRITE

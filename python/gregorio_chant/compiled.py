@@ -10,7 +10,7 @@ from gregorio_chant.results import Format, Message, Status
 from gregorio_chant.runs import Run
 
 
-# So many bytes of a score are compiled to a dump at once.
+# The size of a piece that is compiled to a dump at once, in bytes.
 _PIECE = 1 << 17
 
 

@@ -19,9 +19,9 @@ _FATAL = 2
 
 
 @dataclass(frozen=True)
-class Wanted:
-    """What the words of the command ask for: `way` is the format of the new files, `folder` where they
-    go, if not beside their scores."""
+class Options:
+    """The options of `export`: `way` is the format of the new files, `folder` their folder, if it is
+    not that of their scores."""
 
     paths: tuple[str, ...]
     way: Way
@@ -32,9 +32,9 @@ class Wanted:
     quiet: bool
 
 
-def _target(name: str, wanted: Wanted) -> Path:
-    path = Path(name).with_suffix(wanted.way.ending)
-    return path if wanted.folder is None else Path(wanted.folder) / path.name
+def _target(name: str, options: Options) -> Path:
+    path = Path(name).with_suffix(options.way.ending)
+    return path if options.folder is None else Path(options.folder) / path.name
 
 
 class _Told:
@@ -50,7 +50,7 @@ class _Told:
             tell(f"{name}:{source}: {self._way.name} says nothing of {kind}")
 
 
-def _export(name: str, reader: Reader, wanted: Wanted, lost: _Told) -> tuple[int, str | None]:
+def _export(name: str, reader: Reader, options: Options, lost: _Told) -> tuple[int, str | None]:
     """Exports a score. Returns the status, and what is told of it."""
     try:
         score = Score.parse(reader.read(name).data)
@@ -60,20 +60,20 @@ def _export(name: str, reader: Reader, wanted: Wanted, lost: _Told) -> tuple[int
     if fault is not None:
         return _FATAL, f"{name}:{fault.line}:{fault.column}: {fault.code}: {fault.text}; it is not written"
     try:
-        data = wanted.way.write(score)
+        data = options.way.write(score)
     except ValueError as error:
         return _ERRORS, f"{name}:{error}; it is not written"
     if name == STDIN:
         write_bytes(data)
     else:
-        write(str(_target(name, wanted)), (data,), is_forced=wanted.is_forced)
+        write(str(_target(name, options)), (data,), is_forced=options.is_forced)
     lost.tell(name, score)
     return 0, None
 
 
-def export(wanted: Wanted) -> int:
-    """Exports the scores, and returns the worst status. Raises `CannotWrite`, and `SettingsError`
-    or `Missing` before any score is read."""
+def export(options: Options) -> int:
+    """Exports the scores, and returns the worst status. Raises `WriteError`, and `SettingsError`
+    or `MissingDependency` before any score is read."""
     status = number = 0
 
     def fail(name: str, error: OSError) -> None:
@@ -82,16 +82,16 @@ def export(wanted: Wanted) -> int:
         reason = "there is a file of this name already; --force writes over it" if isinstance(error, FileExistsError) else reason_of(error)
         tell(f"cannot export {name}: {reason}")
 
-    reader, lost = Reader.of(wanted.paths), _Told(wanted.way)
-    for name in wanted.settings.kept(find_scores(wanted.paths, fail, wanted.exclude), wanted.paths):
+    reader, lost = Reader.of(options.paths), _Told(options.way)
+    for name in options.settings.kept(find_scores(options.paths, fail, options.exclude), options.paths):
         try:
-            its, told = _export(name, reader, wanted, lost)
+            its, told = _export(name, reader, options, lost)
         except OSError as error:
             fail(name, error)
             continue
         status, number = max(status, its), number + (its == 0)
         if told is not None:
             tell(told)
-    if not wanted.quiet:
+    if not options.quiet:
         tell(f"{counted(number, 'file')} written")
     return status

@@ -32,7 +32,7 @@ _WRITABLE = stat.S_IWUSR | stat.S_IWGRP | stat.S_IWOTH
 _OWN_ATTRIBUTES = ("user.", "system.")
 
 
-class Changed(Exception):
+class FileChanged(Exception):
     """A file is no longer what was read."""
 
 
@@ -126,7 +126,7 @@ def replace(name: str, content: Content, data: bytes) -> None:
     whole, the old or the new one.
 
     The file that a link leads to is replaced. It keeps its mode and its extended attributes, also lists of who may do what, and its owner and group where
-    that is allowed. Raises `Changed` where the file was changed meanwhile, and `OSError` where it has other names (hard links), which would keep the old
+    that is allowed. Raises `FileChanged` where the file was changed meanwhile, and `OSError` where it has other names (hard links), which would keep the old
     content, may not be written, or cannot be.
     """
     state = content.state
@@ -151,10 +151,10 @@ def replace(name: str, content: Content, data: bytes) -> None:
 
 
 def _refuse_changed(now: os.stat_result, content: Content) -> None:
-    """Raises `Changed` where a file in this state is not the one that was read."""
+    """Raises `FileChanged` where a file in this state is not the one that was read."""
     then = content.state
     if then is None or (now.st_dev, now.st_ino, now.st_size, now.st_mtime_ns) != (then.st_dev, then.st_ino, then.st_size, then.st_mtime_ns):
-        raise Changed("it was changed meanwhile")
+        raise FileChanged("it was changed meanwhile")
 
 
 def write(name: str, pieces: Iterable[bytes], is_named: bool = False, is_forced: bool = True, below: str | None = None) -> None:

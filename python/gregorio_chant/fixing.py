@@ -2,7 +2,7 @@
 from __future__ import annotations
 
 from gregorio_chant import files
-from gregorio_chant.checking import Wanted
+from gregorio_chant.checking import Options
 from gregorio_chant.formatting import difference
 from gregorio_chant.repairing import How, repair
 from gregorio_chant.reports import counted
@@ -12,7 +12,7 @@ from gregorio_chant.walk import find_scores
 
 def _fix(name: str, reader: files.Reader, how: How, shows_diff: bool) -> bool:
     """Repairs a file, or shows what would be repaired, tells each guess, and returns whether there is something to repair. Raises `OSError` and
-    `files.Changed`."""
+    `files.FileChanged`."""
     content = reader.read(name)
     made = repair(content.data, how)
     if made.data == content.data:
@@ -26,9 +26,9 @@ def _fix(name: str, reader: files.Reader, how: How, shows_diff: bool) -> bool:
     return True
 
 
-def fix_files(wanted: Wanted, allow_unsafe: bool, shows_diff: bool) -> int:
+def fix_files(options: Options, allow_unsafe: bool, shows_diff: bool) -> int:
     """Repairs what `check` would report of the files, and returns 0, or 1 where a diff shows something, or 4 where a file cannot be read or written. Raises
-    `CannotWrite`, and `SettingsError` or `Missing` before any score is read."""
+    `WriteError`, and `SettingsError` or `MissingDependency` before any score is read."""
     status = number = 0
 
     def fail(name: str, reason: str) -> None:
@@ -36,17 +36,17 @@ def fix_files(wanted: Wanted, allow_unsafe: bool, shows_diff: bool) -> int:
         status = CANNOT_READ_OR_WRITE
         tell(f"cannot repair {name}: {reason}; it stays as it was")
 
-    reader = files.Reader.of(wanted.paths)
-    names = find_scores(wanted.paths, lambda name, error: fail(name, reason_of(error)), wanted.exclude)
-    for name in wanted.settings.kept(names, wanted.paths):
-        settings = wanted.settings.of(name)
+    reader = files.Reader.of(options.paths)
+    names = find_scores(options.paths, lambda name, error: fail(name, reason_of(error)), options.exclude)
+    for name in options.settings.kept(names, options.paths):
+        settings = options.settings.of(name)
         try:
-            how = How(allow_unsafe, wanted.with_rules or settings.rules is True, settings.selection(name, wanted.chosen))
+            how = How(allow_unsafe, options.with_rules or settings.rules is True, settings.selection(name, options.chosen))
             number += _fix(name, reader, how, shows_diff)
         except OSError as error:
             fail(name, reason_of(error))
-        except files.Changed as error:
+        except files.FileChanged as error:
             fail(name, str(error))
-    if not wanted.quiet:
+    if not options.quiet:
         tell(f"{counted(number, 'file')} {'would be repaired' if shows_diff else 'repaired'}")
     return max(status, int(shows_diff and number > 0))

@@ -9,7 +9,7 @@ from dataclasses import dataclass
 from functools import partial
 
 from gregorio_chant.compiled import Compiled
-from gregorio_chant.files import Changed, Content, Reader, replace
+from gregorio_chant.files import Content, FileChanged, Reader, replace
 from gregorio_chant.judge import Reading, objection
 from gregorio_chant.layout import laid_out
 from gregorio_chant.losses import Loss
@@ -40,8 +40,8 @@ def style_by(settings: Settings) -> Style:
 
 
 @dataclass(frozen=True)
-class Wanted:
-    """What the words of the command ask for; `allow` has the reasons for which something may go."""
+class Options:
+    """The options of the command; `allow` has the losses that are allowed."""
 
     paths: tuple[str, ...]
     style: Style = Style()
@@ -129,40 +129,40 @@ class _Done:
 _Read = Callable[[str], Content]
 
 
-def _format(name: str, wanted: Wanted, read: _Read) -> _Done:
+def _format(name: str, options: Options, read: _Read) -> _Done:
     """Formats a file, or says why it stays as it is."""
     shown = "<stdin>" if name == STDIN else name
     try:
         content = read(name)
-        made = formatted(content.data, wanted.style_of(name), wanted.allow)
+        made = formatted(content.data, options.style_of(name), options.allow)
     except OSError as error:
         return _Done(Outcome.FAILED, CANNOT_READ_OR_WRITE, (f"cannot read {shown}: {reason_of(error)}",))
     except MemoryError:
         return _Done(Outcome.FAILED, NO_MEMORY, (f"cannot read {shown}: there is no memory for it",))
     reasons = made.reasons()
-    if reasons and not (made.losses and wanted.shows_diff):
+    if reasons and not (made.losses and options.shows_diff):
         first, *others = reasons
         status = int(Status.FATAL) if made.fault is not None else 1
-        stays = "would stay" if wanted.checks and made.fault is None else "stays"
+        stays = "would stay" if options.checks and made.fault is None else "stays"
         return _Done(Outcome.REFUSED, status, (f"{shown} {stays} as it is: {first}", *(f"{shown}:{it}" for it in others)))
-    return _finish(name, shown, content, made.data, wanted)
+    return _finish(name, shown, content, made.data, options)
 
 
-def _finish(name: str, shown: str, content: Content, data: bytes, wanted: Wanted) -> _Done:
+def _finish(name: str, shown: str, content: Content, data: bytes, options: Options) -> _Done:
     text = ""
-    if wanted.shows_diff:
-        kind = "canonical" if wanted.style_of(name).is_canonical else "formatted"
+    if options.shows_diff:
+        kind = "canonical" if options.style_of(name).is_canonical else "formatted"
         text = difference(shown, f"{shown} ({kind})", content.data.decode("utf-8"), data.decode("utf-8"))
-    elif name == STDIN and wanted.writes:
+    elif name == STDIN and options.writes:
         text = data.decode("utf-8")
     if data == content.data:
         return _Done(Outcome.UNCHANGED, text=text)
-    if not wanted.writes:
-        return _Done(Outcome.WOULD_CHANGE, 1, (f"{shown} would change",) * wanted.checks, text)
+    if not options.writes:
+        return _Done(Outcome.WOULD_CHANGE, 1, (f"{shown} would change",) * options.checks, text)
     if name != STDIN:
         try:
             replace(name, content, data)
-        except (OSError, Changed) as error:
+        except (OSError, FileChanged) as error:
             reason = reason_of(error) if isinstance(error, OSError) else str(error)
             return _Done(Outcome.FAILED, CANNOT_READ_OR_WRITE, (f"cannot write {shown}: {reason}; it stays as it was",))
     return _Done(Outcome.WRITTEN, text=text)
@@ -212,25 +212,25 @@ class _Run:
 
 
 @contextmanager
-def _all_formatted(wanted: Wanted, run: _Run) -> Iterator[tuple[int, Iterator[_Done]]]:
-    """Gives how many files there are, and what becomes of each, in order; many of them are formatted by `wanted.jobs` processes."""
-    if wanted.staged:
-        staged = StagedFiles(wanted.paths)
-        names = wanted.settings.kept(staged.names, wanted.paths)
-        yield len(names), (_format(it, wanted, staged.read) for it in names)
+def _all_formatted(options: Options, run: _Run) -> Iterator[tuple[int, Iterator[_Done]]]:
+    """Gives how many files there are, and what becomes of each, in order; many of them are formatted by `options.jobs` processes."""
+    if options.staged:
+        staged = StagedFiles(options.paths)
+        names = options.settings.kept(staged.names, options.paths)
+        yield len(names), (_format(it, options, staged.read) for it in names)
         return
-    names = wanted.settings.kept(find_scores(wanted.paths, run.cannot_read, wanted.exclude), wanted.paths)
-    with by_processes(partial(_format, wanted=wanted, read=Reader.of(wanted.paths).read), names, wanted.jobs) as all_done:
+    names = options.settings.kept(find_scores(options.paths, run.cannot_read, options.exclude), options.paths)
+    with by_processes(partial(_format, options=options, read=Reader.of(options.paths).read), names, options.jobs) as all_done:
         yield len(names), all_done
 
 
-def format_files(wanted: Wanted) -> int:
-    """Formats the files, and returns the worst status. Raises `CannotWrite`, and before any score is read `NoStage`, `SettingsError` or `Missing`."""
+def format_files(options: Options) -> int:
+    """Formats the files, and returns the worst status. Raises `WriteError`, and before any score is read `GitError`, `SettingsError` or `MissingDependency`."""
     run = _Run()
-    with _all_formatted(wanted, run) as (files_named, all_done), bar("formatting", files_named) as run.shown:
+    with _all_formatted(options, run) as (files_named, all_done), bar("formatting", files_named) as run.shown:
         for it in all_done:
             run.add(it)
             run.shown.advance()
-    if not wanted.quiet:
+    if not options.quiet:
         tell(run.summary())
     return run.status

@@ -15,7 +15,7 @@ from gregorio_chant.results import Message
 from gregorio_chant.scan import letters_of
 from gregorio_chant.source import Lines
 
-# What is read as one thing at the place of a message: a line of headers, a tag, something in brackets, or else a character.
+# The token at the place of a message: a line of headers, a tag, something in brackets, or else a character.
 _LINE, _TAG, _BRACKET = re.compile(r"[^\n]*"), re.compile(r"<[^>]*>|\("), re.compile(r"\[[^\]]*\]")
 _THINGS = {"E4": _LINE, "E5": _LINE, "W2": _LINE, "W3": _TAG, "W5": _BRACKET, "W6": _TAG, "W8": _BRACKET}
 _CHARACTER = re.compile(".?", re.DOTALL)

@@ -80,7 +80,7 @@ def compile(score: str | bytes | bytearray | memoryview, format: str | Format = 
             status, lengths = _call(data, wanted, all_warnings, output, messages, True)
             return Result(output.text(lengths.output), status, messages.text(lengths.messages), wanted)
         finally:
-            # The room that is given back last is lent first.
+            # Rooms are reused last in, first out.
             messages.give_back()
             output.give_back()
 

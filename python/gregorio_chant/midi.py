@@ -13,7 +13,7 @@ _VELOCITY = 80
 
 
 def midi_of(score: Score, notes_a_minute: int) -> bytes:
-    """Returns the file of a score, at so many notes a minute. Raises `NoSound`."""
+    """Returns the file of a score, at so many notes a minute. Raises `NoteBeforeClef`."""
     track = mido.MidiTrack()
     name = score.header("name")
     if name:

@@ -13,7 +13,7 @@ _DEBIAN = {
 _MODULES = {"fonttools": "fontTools"}
 
 
-class Missing(Exception):
+class MissingDependency(Exception):
     """A package that was needed is not installed."""
 
     def __init__(self, part: str, package: str) -> None:
@@ -21,10 +21,10 @@ class Missing(Exception):
 
 
 def need(part: str, *packages: str) -> None:
-    """Raises `Missing` for the first of these packages that a part of the command needs and that
+    """Raises `MissingDependency` for the first of these packages that a part of the command needs and that
     is not installed."""
     for it in packages:
         try:
             import_module(_MODULES.get(it, it))
         except ImportError:
-            raise Missing(part, it) from None
+            raise MissingDependency(part, it) from None

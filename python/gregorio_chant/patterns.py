@@ -10,7 +10,7 @@ import sys
 from collections.abc import Iterable, Sequence
 from functools import lru_cache
 
-from gregorio_chant.needs import Missing
+from gregorio_chant.needs import MissingDependency
 
 # So many patterns may count for a file.
 MOST = 5_000
@@ -39,7 +39,7 @@ class TooCostly(NoPattern):
 @lru_cache(2 * MOST)
 def _parsed(line: str) -> tuple[str, bool] | None:
     """Returns a line as a regular expression, and whether it names what it matches or takes it back. Nothing for a line that is empty or a comment. Raises
-    `NoPattern` and `Missing`."""
+    `NoPattern` and `MissingDependency`."""
     if not line.strip() or line.startswith("#"):
         return None
     if line.count("*") > _MOST_STARS or line.count("**") > _MOST_DEEP_STARS:
@@ -47,7 +47,7 @@ def _parsed(line: str) -> tuple[str, bool] | None:
     try:
         from pathspec.patterns.gitwildmatch import GitWildMatchPattern
     except ImportError:
-        raise Missing("leaving out what .gitignore, --exclude or settings name", "pathspec") from None
+        raise MissingDependency("leaving out what .gitignore, --exclude or settings name", "pathspec") from None
     try:
         found, include = GitWildMatchPattern.pattern_to_regex(line)
     except ValueError:
@@ -59,7 +59,7 @@ class Patterns:
     """Patterns in order. Of those that match a path the last one counts."""
 
     def __init__(self, lines: Iterable[str] = ()) -> None:
-        """Raises `NoPattern`, and `Missing` where there are patterns and no package that reads them."""
+        """Raises `NoPattern`, and `MissingDependency` where there are patterns and no package that reads them."""
         found = [it for it in map(_parsed, lines) if it is not None]
         if len(found) > MOST:
             raise TooCostly(f"there are at most {MOST:,} patterns")
@@ -71,7 +71,7 @@ class Patterns:
 
     @staticmethod
     def takes(line: str) -> bool:
-        """Returns whether a line is a pattern; an empty one and a comment are none. Raises `NoPattern` and `Missing`."""
+        """Returns whether a line is a pattern; an empty one and a comment are none. Raises `NoPattern` and `MissingDependency`."""
         return _parsed(line) is not None
 
     def verdict(self, path: str) -> bool | None:

@@ -62,7 +62,7 @@ class Proposal:
 
 
 class _Moved:
-    """Where what stands in the new text stood in the old one."""
+    """Maps offsets in the new text to offsets in the old one."""
 
     def __init__(self, edits: Sequence[Edit]) -> None:
         self._edits = edits

@@ -211,7 +211,7 @@ class Run:
             raise RunOverError("the run is over")
 
     def _lend(self, length: int) -> tuple[Room, Room, Room]:
-        """Returns rooms for the messages, the output and the state of a step over `length` bytes. The room that is given back last is lent first."""
+        """Returns rooms for the messages, the output and the state of a step over `length` bytes. Rooms are reused last in, first out."""
         state, output = Room.lend(self._bound), Room.lend(TIMES[self._format] * length + LEAST)
         return Room.lend(length + LEAST), output, state
 

@@ -13,7 +13,7 @@ from typing import Any
 
 from gregorio_chant.files import read_plain
 from gregorio_chant.keys import FORMAT, FORMAT_KEYS, KEYS, Key, Kind
-from gregorio_chant.needs import Missing
+from gregorio_chant.needs import MissingDependency
 from gregorio_chant.patterns import MOST, NoPattern, Patterns
 from gregorio_chant.selection import Selection, UnknownCode, codes_in
 from gregorio_chant.streams import STDIN, printable, reason_of
@@ -184,7 +184,7 @@ def _read(path: Path, known: Collection[str]) -> Settings:
         _refuse_long_keys(path, text)
         return _Reader(path, text, known).settings(toml.loads(text))
     except ImportError:
-        raise Missing(f"{printable(str(path))}, before Python 3.11,", "tomli") from None
+        raise MissingDependency(f"{printable(str(path))}, before Python 3.11,", "tomli") from None
     except SettingsError:
         raise
     except (ValueError, RecursionError) as error:

@@ -17,9 +17,9 @@ from gregorio_chant.reports import Checked, counted, summary_of
 from gregorio_chant.results import Kind
 from gregorio_chant.selection import UnknownCode
 from gregorio_chant.settings import Finder, NoSettings
-from gregorio_chant.sounds import NoSound, Sound, sounds_of
+from gregorio_chant.sounds import NoteBeforeClef, Sound, sounds_of
 from gregorio_chant.source import text_of
-from gregorio_chant.streams import CANNOT_READ_OR_WRITE, STDIN, CannotWrite, printable, reason_of, tell, write_data
+from gregorio_chant.streams import CANNOT_READ_OR_WRITE, STDIN, WriteError, printable, reason_of, tell, write_data
 from gregorio_chant.walk import find_scores
 
 MOST = 200
@@ -27,9 +27,8 @@ _INDEX = "index.html"
 
 
 @dataclass(frozen=True)
-class Wanted:
-    """What the words of the command ask for. `output` is a file or a folder; nothing is standard
-    output."""
+class Options:
+    """The options of `show`. `output` is a file or a folder, and `None` standard output."""
 
     paths: tuple[str, ...]
     output: str | None = None
@@ -55,23 +54,23 @@ def _sounds(data: bytes) -> tuple[Sound, ...]:
     """Returns the sounds of a score; none if it has no height."""
     try:
         return tuple(sounds_of(Score.parse(data).syllables))
-    except (NoSound, ScoreError):
+    except (NoteBeforeClef, ScoreError):
         return ()
 
 
 class _Scores:
     """Reads the scores, and counts what is found."""
 
-    def __init__(self, wanted: Wanted) -> None:
-        self._wanted = wanted
-        self._checking = checking.Wanted(wanted.paths, with_rules=wanted.with_rules, settings=wanted.settings)
-        self._reader = files.Reader.of(wanted.paths)
+    def __init__(self, options: Options) -> None:
+        self._options = options
+        self._checking = checking.Options(options.paths, with_rules=options.with_rules, settings=options.settings)
+        self._reader = files.Reader.of(options.paths)
         self.files, self.failed, self.status = 0, 0, 0
         self.kinds = Counter[Kind]()
 
     def names(self) -> list[str]:
-        found = find_scores(self._wanted.paths, lambda name, error: self._fail(name, reason_of(error)), self._wanted.exclude)
-        return self._wanted.settings.kept(found, self._wanted.paths)
+        found = find_scores(self._options.paths, lambda name, error: self._fail(name, reason_of(error)), self._options.exclude)
+        return self._options.settings.kept(found, self._options.paths)
 
     def _fail(self, name: str, reason: str) -> None:
         self.failed += 1
@@ -94,32 +93,32 @@ class _Scores:
 
     def shown(self, checked: Checked, data: bytes, prefix: str) -> Shown:
         """Returns a score as a page shows it: its picture, and one for a phone if the first is wider."""
-        wanted, look = self._wanted, self._wanted.look
-        messages = checked.messages if wanted.with_messages else ()
-        names = Names(prefix, links=True, has_heads=wanted.sings)
+        options, look = self._options, self._options.look
+        messages = checked.messages if options.with_messages else ()
+        names = Names(prefix, links=True, has_heads=options.sings)
         picture, narrow = draw(data, messages, look=look, names=names), None
         if look.width > NARROW:
             narrow = draw(data, messages, look=replace(look, width=NARROW), names=replace(names, prefix=f"{prefix}n-", messages=prefix))
-        sounds = _sounds(data) if wanted.sings else ()
-        return Shown(checked, printable(checked.shown_name), picture, text_of(data), prefix, narrow, wanted.with_messages, sounds)
+        sounds = _sounds(data) if options.sings else ()
+        return Shown(checked, printable(checked.shown_name), picture, text_of(data), prefix, narrow, options.with_messages, sounds)
 
     def summary(self) -> str:
         return summary_of(self.files, self.failed, self.kinds)
 
 
 def _put(path: Path, pieces: Iterable[str], below: Path | None = None) -> None:
-    """Writes a file anew, which the user has named, or which stands below a folder that he has named. Raises `CannotWrite`."""
+    """Writes a file anew, which the user has named, or which stands below a folder that he has named. Raises `WriteError`."""
     try:
         path.parent.mkdir(parents=True, exist_ok=True)
         files.write(str(path), (it.encode("utf-8") for it in pieces), is_named=below is None, below=None if below is None else str(below))
     except OSError as error:
-        raise CannotWrite(error) from None
+        raise WriteError(error) from None
 
 
-def _write(wanted: Wanted, pieces: Iterable[str]) -> None:
-    """Writes the page to where it is wanted. Raises `CannotWrite`."""
-    if wanted.output is not None:
-        _put(Path(wanted.output), pieces)
+def _write(options: Options, pieces: Iterable[str]) -> None:
+    """Writes the page to where it is options. Raises `WriteError`."""
+    if options.output is not None:
+        _put(Path(options.output), pieces)
     else:
         for it in pieces:
             write_data(it)
@@ -134,7 +133,7 @@ def _refuse_own_input(outputs: Iterable[Path], names: Iterable[str]) -> None:
 
 
 def _identity(path: str | Path) -> tuple[int, int] | None:
-    """Returns what tells a file from all others, by whichever name; nothing where there is none."""
+    """Returns the device and the inode of a file, or `None` if there is no such file."""
     try:
         state = os.stat(path)
     except OSError:
@@ -142,33 +141,33 @@ def _identity(path: str | Path) -> tuple[int, int] | None:
     return state.st_dev, state.st_ino
 
 
-def show(wanted: Wanted) -> int:
-    """Writes what is wanted, and returns the worst status. Raises `CannotWrite`, `UnknownCode`,
-    and `Missing` or `SettingsError` before any score is read."""
-    scores = _Scores(wanted)
+def show(options: Options) -> int:
+    """Writes what is wanted, and returns the worst status. Raises `WriteError`, `UnknownCode`,
+    and `MissingDependency` or `SettingsError` before any score is read."""
+    scores = _Scores(options)
     names = scores.names()
-    if wanted.svg:
-        _show_one(wanted, scores, names)
-    elif wanted.into_folder:
-        _show_folder(wanted, scores, names)
+    if options.svg:
+        _show_one(options, scores, names)
+    elif options.into_folder:
+        _show_folder(options, scores, names)
     else:
-        _show_page(wanted, scores, names)
+        _show_page(options, scores, names)
     return scores.status
 
 
-def _show_one(wanted: Wanted, scores: _Scores, names: list[str]) -> None:
+def _show_one(options: Options, scores: _Scores, names: list[str]) -> None:
     """Writes one picture. Raises `UnknownCode` where there is not one score."""
-    if len(names) != 1 or wanted.into_folder:
+    if len(names) != 1 or options.into_folder:
         raise UnknownCode(f"--svg writes one picture, and here are {counted(len(names), 'score')}" if len(names) != 1 else "--svg writes a file, and no folder")
-    _refuse_own_input(wanted.files, names)
+    _refuse_own_input(options.files, names)
     for checked, data in scores.all(names):
-        _write(wanted, draw(data, checked.messages if wanted.with_messages else (), look=wanted.look).pieces)
+        _write(options, draw(data, checked.messages if options.with_messages else (), look=options.look).pieces)
 
 
-def _show_page(wanted: Wanted, scores: _Scores, names: list[str]) -> None:
+def _show_page(options: Options, scores: _Scores, names: list[str]) -> None:
     """Writes one page: each score that is named, and of folders those with messages."""
-    _refuse_own_input(wanted.files, names)
-    named = {it for it in wanted.paths if it == STDIN or not os.path.isdir(it)}
+    _refuse_own_input(options.files, names)
+    named = {it for it in options.paths if it == STDIN or not os.path.isdir(it)}
     shown: list[Shown] = []
     left_out = from_folders = 0
     for checked, data in scores.all(names):
@@ -182,7 +181,7 @@ def _show_page(wanted: Wanted, scores: _Scores, names: list[str]) -> None:
         shown.append(scores.shown(checked, data, f"p{len(shown) + 1}-"))
     note = f"{counted(left_out, 'score')} more with messages: -o FOLDER/ writes a page for each." if left_out else ""
     title = shown[0].picture.name or shown[0].name if len(names) == len(shown) == 1 else scores.summary()
-    _write(wanted, page_of(shown, title, note))
+    _write(options, page_of(shown, title, note))
 
 
 def _page_names(names: list[str], paths: tuple[str, ...]) -> Iterator[str]:
@@ -201,10 +200,10 @@ def _page_names(names: list[str], paths: tuple[str, ...]) -> Iterator[str]:
         yield page
 
 
-def _show_folder(wanted: Wanted, scores: _Scores, names: list[str]) -> None:
+def _show_folder(options: Options, scores: _Scores, names: list[str]) -> None:
     """Writes a page for each score, and an index."""
-    folder = Path(wanted.output or ".")
-    pages = dict(zip(names, _page_names(names, wanted.paths)))
+    folder = Path(options.output or ".")
+    pages = dict(zip(names, _page_names(names, options.paths)))
     _refuse_own_input([folder / it for it in (*pages.values(), _INDEX)], names)
     entries: list[Entry] = []
     for checked, data in scores.all(names):

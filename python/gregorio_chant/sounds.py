@@ -14,7 +14,7 @@ LOWEST = 48
 _RESTS = {"virgula": 0.5, "minimis": 0.5, "minima": 1.0, "minor": 1.0, "maior": 2.0, "finalis": 2.0}
 
 
-class NoSound(ValueError):
+class NoteBeforeClef(ValueError):
     """A score that cannot be heard: a note stands before any clef."""
 
     def __init__(self, note: Note) -> None:
@@ -48,7 +48,7 @@ def _lyric(syllable: Syllable) -> str | None:
 
 
 def sounds_of(syllables: Iterable[Syllable]) -> Iterator[Sound]:
-    """Yields the notes and rests of syllables, in order. Raises `NoSound`."""
+    """Yields the notes and rests of syllables, in order. Raises `NoteBeforeClef`."""
     for syllable in syllables:
         text, number = _lyric(syllable), 0
         for snippet in syllable.snippets:
@@ -61,7 +61,7 @@ def sounds_of(syllables: Iterable[Syllable]) -> Iterator[Sound]:
                 if not isinstance(it, Note):
                     continue
                 if it.semitones is None:
-                    raise NoSound(it)
+                    raise NoteBeforeClef(it)
                 length = next(lengths)
                 for _ in range(it.times):
                     yield Sound(LOWEST + it.semitones, length * TICKS, text, syllable.number, number)

@@ -12,7 +12,7 @@ from gregorio_chant.walk import has_name_of_score
 _PLAIN_FILES = (b"100644", b"100755")
 
 
-class NoStage(Exception):
+class GitError(Exception):
     """Git does not say what is staged."""
 
 
@@ -20,10 +20,10 @@ def _git(*words: str, data: bytes = b"") -> bytes:
     try:
         ran = subprocess.run(["git", *words], input=data, stdout=subprocess.PIPE, stderr=subprocess.PIPE, check=False)
     except OSError as error:
-        raise NoStage(f"git cannot be run: {reason_of(error)}") from None
+        raise GitError(f"git cannot be run: {reason_of(error)}") from None
     if ran.returncode != 0:
         told = os.fsdecode(ran.stderr).strip().split("\n")[0]
-        raise NoStage(told or f"git {words[0]} ended with {ran.returncode}")
+        raise GitError(told or f"git {words[0]} ended with {ran.returncode}")
     return ran.stdout
 
 
@@ -48,7 +48,7 @@ class StagedFiles:
     """
 
     def __init__(self, paths: Iterable[str] = ()) -> None:
-        """Asks git. Raises `NoStage`."""
+        """Asks git. Raises `GitError`."""
         top = os.fsdecode(_git("rev-parse", "--show-toplevel")[:-1])
         named = {os.path.realpath(it) for it in paths}
         contents = {}
@@ -75,7 +75,7 @@ def _contents(names: dict[str, str]) -> dict[str, bytes]:
         line_end = told.index(b"\n", at)
         about = told[at:line_end].split(b" ")
         if about[1:2] != [b"blob"]:
-            raise NoStage(f"git has no content {content} of {name}")
+            raise GitError(f"git has no content {content} of {name}")
         begin = line_end + 1
         end = begin + int(about[2])
         found[name], at = told[begin:end], end + 1

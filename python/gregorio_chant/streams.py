@@ -13,7 +13,7 @@ STDIN = "-"
 _SHOWS_CURSOR = b"\r\x1b[2K\x1b[?25h"
 
 
-class CannotWrite(Exception):
+class WriteError(Exception):
     """Standard output takes no more."""
 
     def __init__(self, error: OSError) -> None:
@@ -41,7 +41,7 @@ def _put_out(content: bytes) -> None:
     try:
         _send(sys.__stdout__, 1, content)
     except OSError as error:
-        raise CannotWrite(error) from None
+        raise WriteError(error) from None
 
 
 def _bytes_of(text: str) -> bytes:
@@ -53,19 +53,19 @@ def _bytes_of(text: str) -> bytes:
 
 
 def write(text: str) -> None:
-    """Writes lines to standard output. Raises `CannotWrite` where it takes no more."""
+    """Writes lines to standard output. Raises `WriteError` where it takes no more."""
     _put_out(_bytes_of(text if isinstance(text, Styled) else printable_lines(text)))
 
 
 def write_data(text: str) -> None:
-    """Writes a score, a page, a table or a difference to standard output, as it is; a terminal shows its lines. Raises `CannotWrite` where it takes no more."""
+    """Writes a score, a page, a table or a difference to standard output, as it is; a terminal shows its lines. Raises `WriteError` where it takes no more."""
     _put_out(_bytes_of(printable_lines(text) if is_terminal() else text))
 
 
 def write_bytes(content: bytes) -> None:
-    """Writes bytes that are no text to standard output. Raises `CannotWrite` where it takes no more, as a terminal takes none."""
+    """Writes bytes that are no text to standard output. Raises `WriteError` where it takes no more, as a terminal takes none."""
     if is_terminal():
-        raise CannotWrite(OSError(0, "it is no text, and standard output is a terminal"))
+        raise WriteError(OSError(0, "it is no text, and standard output is a terminal"))
     _put_out(content)
 
 

@@ -51,8 +51,8 @@ class Maker(Protocol):
 
 
 @dataclass(frozen=True)
-class Wanted:
-    """What the words of the command ask for."""
+class Options:
+    """The options of a table."""
 
     paths: tuple[str, ...]
     form: str
@@ -190,21 +190,21 @@ def form_of(name: str, columns: Sequence[str]) -> Form:
 # ---- the run over files
 
 
-def for_each(wanted: Wanted, make: Maker, take: Callable[[Made], str]) -> int:
+def for_each(options: Options, make: Maker, take: Callable[[Made], str]) -> int:
     """Makes the rows of all files by all processors, writes what `take` returns for each in order,
-    and returns the worst status. Raises `CannotWrite`, and `SettingsError` or `Missing` before any
+    and returns the worst status. Raises `WriteError`, and `SettingsError` or `MissingDependency` before any
     score is read."""
     status = count = number = 0
     # A cell of CSV may hold whatever a score does.
-    put = write_data if wanted.form == "csv" else write
+    put = write_data if options.form == "csv" else write
 
     def fail(name: str, error: OSError) -> None:
         nonlocal status
         status = max(status, CANNOT_READ_OR_WRITE)
         tell(f"cannot read {name}: {reason_of(error)}")
 
-    names = wanted.settings.kept(find_scores(wanted.paths, fail, wanted.exclude), wanted.paths)
-    with by_processes(partial(made_of, make=make, reader=Reader.of(wanted.paths)), names, wanted.jobs) as all_made, bar("reading", len(names)) as shown:
+    names = options.settings.kept(find_scores(options.paths, fail, options.exclude), options.paths)
+    with by_processes(partial(made_of, make=make, reader=Reader.of(options.paths)), names, options.jobs) as all_made, bar("reading", len(names)) as shown:
         for it in all_made:
             status, count, number = max(status, it.status), count + sum(row.count for row in it.rows), number + (it.failure is None)
             text, told = take(it), it.told()
@@ -213,15 +213,15 @@ def for_each(wanted: Wanted, make: Maker, take: Callable[[Made], str]) -> int:
                 if told:
                     tell(told)
             shown.advance()
-    if not wanted.quiet:
+    if not options.quiet:
         tell(f"{counted(number, 'file')}: {count:,} found")
     return status
 
 
-def write_table(wanted: Wanted, columns: Sequence[str], make: Maker) -> int:
+def write_table(options: Options, columns: Sequence[str], make: Maker) -> int:
     """Writes the rows of all files, and returns the worst status. Raises as `for_each` does."""
-    form = form_of(wanted.form, columns)
+    form = form_of(options.form, columns)
     write(form.begin())
-    status = for_each(wanted, make, form.add)
+    status = for_each(options, make, form.add)
     write(form.end())
     return status

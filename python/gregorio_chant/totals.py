@@ -5,7 +5,7 @@ from collections import Counter
 
 from gregorio_chant.searching import COUNT, counted_neumes
 from gregorio_chant.streams import write
-from gregorio_chant.tables import Made, Row, Wanted, for_each, form_of
+from gregorio_chant.tables import Made, Row, Options, for_each, form_of
 
 
 class Totals:
@@ -32,11 +32,11 @@ class Totals:
         return found
 
 
-def write_totals(wanted: Wanted) -> int:
+def write_totals(options: Options) -> int:
     """Writes how often each kind of neume stands in all files, and returns the worst status. Raises
     as `for_each` does."""
     totals = Totals()
-    status = for_each(wanted, counted_neumes, totals.add)
-    form = form_of(wanted.form, COUNT)
+    status = for_each(options, counted_neumes, totals.add)
+    form = form_of(options.form, COUNT)
     write("".join([form.begin(), *map(form.add, totals.made()), form.end()]))
     return status

@@ -14,7 +14,7 @@ from gregorio_chant.ignored import FILE as IGNORED
 from gregorio_chant.selection import UnknownCode
 from gregorio_chant.settings import NAME as SETTINGS
 from gregorio_chant.settings import SettingsError
-from gregorio_chant.showing import Wanted, show
+from gregorio_chant.showing import Options, show
 from gregorio_chant.streams import CANNOT_READ_OR_WRITE, STDIN, reason_of, tell
 from gregorio_chant.walk import has_name_of_score
 
@@ -27,13 +27,13 @@ _HARMLESS = frozenset(("opened", "closed_no_write"))
 class _Watched:
     """The files and folders that are named, by their whole names, and what is written."""
 
-    def __init__(self, wanted: Wanted) -> None:
-        whole = [os.path.abspath(it) for it in wanted.paths]
+    def __init__(self, options: Options) -> None:
+        whole = [os.path.abspath(it) for it in options.paths]
         self._folders = [it for it in whole if os.path.isdir(it)]
         files = [it for it in whole if it not in self._folders]
         # A link changes in its own folder, and the file that it leads to in another one.
         self._files = {name for it in files for name in (it, os.path.realpath(it))}
-        self._output = None if wanted.output is None or wanted.into_folder else os.path.abspath(wanted.output)
+        self._output = None if options.output is None or options.into_folder else os.path.abspath(options.output)
 
     def places(self) -> Iterator[tuple[str, bool]]:
         """Yields each folder where something may change, and whether all below it is meant."""
@@ -64,19 +64,19 @@ class _Handler(FileSystemEventHandler):
             self._changed.set()
 
 
-def _refuse(wanted: Wanted) -> None:
+def _refuse(options: Options) -> None:
     """Raises `UnknownCode` where nothing can be watched, or nothing written again."""
-    if wanted.output is None:
+    if options.output is None:
         raise UnknownCode("--watch writes files again: -o FILE or -o FOLDER/ is needed")
-    if STDIN in wanted.paths:
+    if STDIN in options.paths:
         raise UnknownCode("--watch watches files, and standard input is none")
 
 
-def watch(wanted: Callable[[], Wanted]) -> int:
-    """Writes what is wanted, and again after each change, until it is ended. `wanted` is asked each
-    time, so that settings are read anew. Returns the exit status. Raises what `show` raises the
-    first time; later on it is told, and the next change awaited."""
-    first = wanted()
+def watch(options: Callable[[], Options]) -> int:
+    """Writes the pages, and again after each change, until it is ended. `options` is called each
+    time, so that settings are read anew. Returns the exit status. Raises the errors of `show` the
+    first time; later it reports them, and waits for the next change."""
+    first = options()
     _refuse(first)
     watched = _Watched(first)
     changed = threading.Event()
@@ -90,24 +90,24 @@ def watch(wanted: Callable[[], Wanted]) -> int:
         return CANNOT_READ_OR_WRITE
     try:
         _write(first)
-        _again(wanted, changed)
+        _again(options, changed)
     finally:
         observer.stop()
         observer.join()
 
 
-def _write(wanted: Wanted) -> None:
-    show(wanted)
-    tell(f"wrote {wanted.output or ''}")
+def _write(options: Options) -> None:
+    show(options)
+    tell(f"wrote {options.output or ''}")
 
 
-def _again(wanted: Callable[[], Wanted], changed: threading.Event) -> NoReturn:
+def _again(options: Callable[[], Options], changed: threading.Event) -> NoReturn:
     """Writes after each change."""
     while True:
         changed.wait()
         time.sleep(_PAUSE)
         changed.clear()
         try:
-            _write(wanted())
+            _write(options())
         except (SettingsError, UnknownCode) as error:
             tell(str(error))

@@ -167,7 +167,7 @@ class Files(InFolder):
         file = self.put("a.gabc", SCORE)
         content = files.read("a.gabc")
         file.write_text("other")
-        with self.assertRaises(files.Changed):
+        with self.assertRaises(files.FileChanged):
             files.replace("a.gabc", content, b"new")
         self.assertEqual(file.read_text(), "other")
         content = files.read("a.gabc")
@@ -232,8 +232,8 @@ class Words(InFolder):
 # Prints the most memory that `format --check` took for the file that is named, in MB.
 _MEASURED = """
 import resource, sys
-from gregorio_chant.formatting import Wanted, format_files
-assert format_files(Wanted((sys.argv[1],), checks=True, quiet=True)) == 1
+from gregorio_chant.formatting import Options, format_files
+assert format_files(Options((sys.argv[1],), checks=True, quiet=True)) == 1
 print(resource.getrusage(resource.RUSAGE_SELF).ru_maxrss // 1024)
 """
 

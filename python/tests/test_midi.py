@@ -57,14 +57,14 @@ class Midi(InFolder):
     def test_scores(self) -> None:
         """All notes of the examples come back, in order and with their heights."""
         from gregorio_chant.midi import midi_of
-        from gregorio_chant.sounds import NoSound
+        from gregorio_chant.sounds import NoteBeforeClef
 
         tried = 0
         for file in sorted(EXAMPLES.glob("*.gabc")):
             score = Score.parse(file.read_bytes())
             try:
                 notes, _ = self.read(midi_of(score, 140))
-            except NoSound as error:
+            except NoteBeforeClef as error:
                 self.assertIn("a note before any clef has no sound", str(error))
                 continue
             times = {"bivirga": 2, "distropha": 2, "trivirga": 3, "tristropha": 3}

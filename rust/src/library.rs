@@ -26,7 +26,7 @@ pub(crate) struct Lengths {
     pub messages: usize,
 }
 
-/// How many bytes a step has written, or wants.
+/// The numbers of bytes written, or required.
 #[repr(C)]
 #[derive(Default)]
 pub(crate) struct Step {

@@ -1,4 +1,4 @@
-"""The sub-command `check`: its words."""
+"""The sub-command `check`: its arguments."""
 from __future__ import annotations
 
 import argparse
@@ -22,7 +22,7 @@ _EXAMPLES = examples((
 
 
 def add(commands: argparse._SubParsersAction[Parser]) -> Parser:
-    """Adds the words of `check`."""
+    """Adds the arguments of `check`."""
     it = commands.add_parser(NAME, help="check scores, and repair them", description=_ABOUT, epilog=f"{_EXAMPLES}\n\n{STATUSES}")
     add_paths(it)
     it.add_argument(
@@ -34,7 +34,7 @@ def add(commands: argparse._SubParsersAction[Parser]) -> Parser:
     it.add_argument("--fail-on", metavar="CODES", help="end with status 1 if one of these is reported")
     it.add_argument("--rules", action="store_true", help="also try the rules, for mistakes that the language allows; explain --all lists them")
     it.add_argument("--fix", action="store_true", help="repair the files first, then report the rest; no note and no sung letter changes")
-    it.add_argument("--unsafe-fixes", action="store_true", help="with --fix: also guess, for example where a bracket is missing; each guess says what it changes")
+    it.add_argument("--unsafe-fixes", action="store_true", help="with --fix: also guess, as where a bracket is missing; each guess says what it changes")
     it.add_argument("--diff", action="store_true", help="with --fix: write no file, and show the changes as a diff")
     add_jobs(it)
     add_no_config(it)
@@ -46,7 +46,7 @@ def _codes(word: str | None) -> frozenset[str] | None:
     return None if word is None else codes_in(word, KNOWN)
 
 
-def _fix(words: argparse.Namespace, wanted: checking.Wanted) -> int:
+def _fix(words: argparse.Namespace, options: checking.Options) -> int:
     """Repairs files where that is asked for."""
     if not words.fix:
         if words.unsafe_fixes or words.diff:
@@ -54,15 +54,15 @@ def _fix(words: argparse.Namespace, wanted: checking.Wanted) -> int:
         return 0
     if words.staged or STDIN in words.paths:
         raise UnknownCode(f"--fix writes files, so it takes neither --staged nor {STDIN}")
-    return fix_files(wanted, words.unsafe_fixes, words.diff)
+    return fix_files(options, words.unsafe_fixes, words.diff)
 
 
 def run(words: argparse.Namespace) -> int:
-    """Checks the files. Raises `UnknownCode`, `CannotWrite`, `Missing`, `NoStage` and
+    """Checks the files. Raises `UnknownCode`, `WriteError`, `MissingDependency`, `GitError` and
     `SettingsError`."""
     chosen = Chosen(_codes(words.select), _codes(words.ignore), _codes(words.fail_on))
-    wanted = checking.Wanted(
+    options = checking.Options(
         paths_of(words), chosen, words.output_format, words.rules, words.jobs, words.quiet, tuple(words.exclude), words.staged, settings_of(words)
     )
-    fixed = _fix(words, wanted)
-    return fixed if words.diff else max(fixed, checking.check(wanted))
+    fixed = _fix(words, options)
+    return fixed if words.diff else max(fixed, checking.check(options))

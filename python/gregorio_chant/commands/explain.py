@@ -1,4 +1,4 @@
-"""The sub-command `explain`: its words."""
+"""The sub-command `explain`: its arguments."""
 from __future__ import annotations
 
 import argparse
@@ -14,7 +14,7 @@ _EXAMPLES = examples(("gregorio-chant explain E4", "gregorio-chant explain w3 ou
 
 
 def add(commands: argparse._SubParsersAction[Parser]) -> Parser:
-    """Adds the words of `explain`."""
+    """Adds the arguments of `explain`."""
     it = commands.add_parser(NAME, help="explain a code or a rule, with a wrong line and its right one", description=_ABOUT, epilog=_EXAMPLES)
     it.add_argument("codes", nargs="*", metavar="CODE", help="E4, W3, F6, or the name of a rule")
     it.add_argument("--all", action="store_true", help="explain all codes and rules")
@@ -22,7 +22,7 @@ def add(commands: argparse._SubParsersAction[Parser]) -> Parser:
 
 
 def run(words: argparse.Namespace) -> int:
-    """Writes the pages. Raises `UnknownCode` and `CannotWrite`."""
+    """Writes the pages. Raises `UnknownCode` and `WriteError`."""
     if not words.codes and not words.all:
         raise UnknownCode("a code or --all is needed")
     write(explain(() if words.all else words.codes))

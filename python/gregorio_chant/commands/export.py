@@ -1,10 +1,10 @@
-"""The sub-command `export`: its words."""
+"""The sub-command `export`: its arguments."""
 from __future__ import annotations
 
 import argparse
 
 from gregorio_chant.commands.words import OUTSIDE, STATUSES, Parser, add_files, add_no_config, examples, paths_of, positive, settings_of
-from gregorio_chant.exporting import Wanted, export
+from gregorio_chant.exporting import Options, export
 from gregorio_chant.formats import Way, mei, musicxml, volpiano
 from gregorio_chant.needs import need
 from gregorio_chant.selection import UnknownCode
@@ -21,7 +21,7 @@ _EXAMPLES = examples((
 
 
 def add(commands: argparse._SubParsersAction[Parser]) -> Parser:
-    """Adds the words of `export`."""
+    """Adds the arguments of `export`."""
     it = commands.add_parser(NAME, help="write scores as Volpiano, MusicXML, MEI or MIDI", description=_ABOUT, epilog=f"{_EXAMPLES}\n\n{STATUSES}")
     it.add_argument("--to", choices=(*_WAYS, "midi"), required=True, metavar="FORMAT", help="volpiano, musicxml, mei or midi")
     add_files(it, ", which is written to standard output")
@@ -40,9 +40,9 @@ def _midi(notes_a_minute: int) -> Way:
 
 
 def run(words: argparse.Namespace) -> int:
-    """Writes the files. Raises `UnknownCode`, `CannotWrite`, `Missing` and `SettingsError`."""
+    """Writes the files. Raises `UnknownCode`, `WriteError`, `MissingDependency` and `SettingsError`."""
     if words.tempo > 1_000:
         raise UnknownCode(f"--tempo {words.tempo}: at most 1,000 notes a minute")
     paths = paths_of(words)
     way = _WAYS[words.to] if words.to in _WAYS else _midi(words.tempo)
-    return export(Wanted(paths, way, words.folder, words.force, tuple(words.exclude), settings_of(words), words.quiet))
+    return export(Options(paths, way, words.folder, words.force, tuple(words.exclude), settings_of(words), words.quiet))

@@ -1,4 +1,4 @@
-"""The sub-command `find`: its words."""
+"""The sub-command `find`: its arguments."""
 from __future__ import annotations
 
 import argparse
@@ -18,7 +18,7 @@ _EXAMPLES = examples((
 
 
 def add(commands: argparse._SubParsersAction[Parser]) -> Parser:
-    """Adds the words of `find`."""
+    """Adds the arguments of `find`."""
     it = commands.add_parser(NAME, help="find intervals, neumes, words or melodies in scores", description=_ABOUT, epilog=f"{_EXAMPLES}\n\n{STATUSES}")
     it.add_argument("--interval", metavar="STEPS", help="notes in a row at these intervals in steps, as +2 -1, also across bars")
     it.add_argument("--neume", metavar="KIND", help="neumes of this kind; * is any text")
@@ -44,5 +44,5 @@ def _search(words: argparse.Namespace) -> Maker:
 
 
 def run(words: argparse.Namespace) -> int:
-    """Writes what is found. Raises `UnknownCode`, `CannotWrite`, `Missing` and `SettingsError`."""
+    """Writes what is found. Raises `UnknownCode`, `WriteError`, `MissingDependency` and `SettingsError`."""
     return write_table(table_of(words), FOUND, _search(words))

@@ -1,4 +1,4 @@
-"""The sub-command `format`: its words."""
+"""The sub-command `format`: its arguments."""
 from __future__ import annotations
 
 import argparse
@@ -23,7 +23,7 @@ _EXAMPLES = examples((
 
 
 def add(commands: argparse._SubParsersAction[Parser]) -> Parser:
-    """Adds the words of `format`."""
+    """Adds the arguments of `format`."""
     it = commands.add_parser(
         NAME, help="write files in canonical spelling, with the lines and comments of their editor", description=_ABOUT,
         epilog=f"{_EXAMPLES}\n\n{STATUSES}",
@@ -58,10 +58,10 @@ def _allowed(words: argparse.Namespace) -> frozenset[str]:
 
 
 def run(words: argparse.Namespace) -> int:
-    """Formats the files. Raises `UnknownCode`, `CannotWrite`, `Missing`, `NoStage` and
+    """Formats the files. Raises `UnknownCode`, `WriteError`, `MissingDependency`, `GitError` and
     `SettingsError`."""
     allow = _allowed(words)
     style = formatting.Style(words.canonical, words.wrap)
     return formatting.format_files(
-        formatting.Wanted(paths_of(words), style, allow, words.check, words.diff, words.staged, words.jobs, words.quiet, tuple(words.exclude), settings_of(words))
+        formatting.Options(paths_of(words), style, allow, words.check, words.diff, words.staged, words.jobs, words.quiet, tuple(words.exclude), settings_of(words))
     )

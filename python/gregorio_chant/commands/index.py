@@ -1,4 +1,4 @@
-"""The sub-command `index`: its words."""
+"""The sub-command `index`: its arguments."""
 from __future__ import annotations
 
 import argparse
@@ -16,12 +16,12 @@ _EXAMPLES = examples((
 
 
 def add(commands: argparse._SubParsersAction[Parser]) -> Parser:
-    """Adds the words of `index`."""
+    """Adds the arguments of `index`."""
     it = commands.add_parser(NAME, help="write a row for each score, with its first words and degrees", description=_ABOUT, epilog=f"{_EXAMPLES}\n\n{STATUSES}")
     add_table(it)
     return it
 
 
 def run(words: argparse.Namespace) -> int:
-    """Writes the rows. Raises `UnknownCode`, `CannotWrite`, `Missing` and `SettingsError`."""
+    """Writes the rows. Raises `UnknownCode`, `WriteError`, `MissingDependency` and `SettingsError`."""
     return write_table(table_of(words), INDEX, index_row)

@@ -1,4 +1,4 @@
-"""The sub-command `neumes`: its words."""
+"""The sub-command `neumes`: its arguments."""
 from __future__ import annotations
 
 import argparse
@@ -16,7 +16,7 @@ _EXAMPLES = examples((
 
 
 def add(commands: argparse._SubParsersAction[Parser]) -> Parser:
-    """Adds the words of `neumes`."""
+    """Adds the arguments of `neumes`."""
     it = commands.add_parser(NAME, help="count the neumes of scores", description=_ABOUT, epilog=f"{_EXAMPLES}\n\n{STATUSES}")
     it.add_argument("--each", action="store_true", help="write a row for each neume, in order")
     add_table(it)
@@ -24,6 +24,6 @@ def add(commands: argparse._SubParsersAction[Parser]) -> Parser:
 
 
 def run(words: argparse.Namespace) -> int:
-    """Writes the rows. Raises `UnknownCode`, `CannotWrite`, `Missing` and `SettingsError`."""
-    wanted = table_of(words)
-    return write_table(wanted, NEUME, each_neume) if words.each else write_totals(wanted)
+    """Writes the rows. Raises `UnknownCode`, `WriteError`, `MissingDependency` and `SettingsError`."""
+    options = table_of(words)
+    return write_table(options, NEUME, each_neume) if words.each else write_totals(options)

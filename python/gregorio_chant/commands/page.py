@@ -1,4 +1,4 @@
-"""The sub-command `page`: its words."""
+"""The sub-command `page`: its arguments."""
 from __future__ import annotations
 
 import argparse
@@ -23,7 +23,7 @@ def port(word: str) -> int:
 
 
 def add(commands: argparse._SubParsersAction[Parser]) -> Parser:
-    """Adds the words of `page`."""
+    """Adds the arguments of `page`."""
     it = commands.add_parser(NAME, help="serve a page to write a score in, with its picture", description=_ABOUT, epilog=f"{_EXAMPLES}\n\n{STATUSES}")
     it.add_argument("--port", type=port, default=0, metavar="N", help="serve at this port (default 0: any free port)")
     it.add_argument("--rules", action="store_true", help="also try the rules")
@@ -32,7 +32,7 @@ def add(commands: argparse._SubParsersAction[Parser]) -> Parser:
 
 
 def run(words: argparse.Namespace) -> int:
-    """Serves the page until it is ended. Raises `CannotWrite`, `Missing` and `SettingsError`."""
+    """Serves the page until it is ended. Raises `WriteError`, `MissingDependency` and `SettingsError`."""
     need(NAME, "starlette", "uvicorn")
     from gregorio_chant.web.answers import Answers
     from gregorio_chant.web.serving import serve

@@ -1,4 +1,4 @@
-"""The sub-command `server`: its words."""
+"""The sub-command `server`: its arguments."""
 from __future__ import annotations
 
 import argparse
@@ -10,7 +10,7 @@ _ABOUT = f"Serves an editor by the language server protocol over standard input 
 
 
 def add(commands: argparse._SubParsersAction[Parser]) -> Parser:
-    """Adds the words of `server`."""
+    """Adds the arguments of `server`."""
     it = commands.add_parser(NAME, help="serve an editor by the language server protocol", description=_ABOUT)
     it.add_argument("--rules", action="store_true", help="also try the rules")
     add_no_config(it)

@@ -1,4 +1,4 @@
-"""The sub-command `show`: its words."""
+"""The sub-command `show`: its arguments."""
 from __future__ import annotations
 
 import argparse
@@ -24,7 +24,7 @@ _EXAMPLES = examples((
 
 
 def add(commands: argparse._SubParsersAction[Parser]) -> Parser:
-    """Adds the words of `show`."""
+    """Adds the arguments of `show`."""
     it = commands.add_parser(NAME, help="write pictures of scores, with their messages, as a page", description=_ABOUT, epilog=f"{_EXAMPLES}\n\n{STATUSES}")
     add_files(it)
     it.add_argument(
@@ -45,7 +45,7 @@ def add(commands: argparse._SubParsersAction[Parser]) -> Parser:
 
 
 def run(words: argparse.Namespace) -> int:
-    """Writes the page. Raises `UnknownCode`, also if a page would go to a terminal, `CannotWrite`, `Missing` and `SettingsError`."""
+    """Writes the page. Raises `UnknownCode`, also if a page would go to a terminal, `WriteError`, `MissingDependency` and `SettingsError`."""
     if words.output is None and is_terminal():
         raise UnknownCode("a page is not for a terminal: write it into a file, as with -o page.html")
     try:
@@ -54,18 +54,18 @@ def run(words: argparse.Namespace) -> int:
         tell(f"cannot read {printable(words.font)}: {reason_of(error)}")
         return CANNOT_READ_OR_WRITE
 
-    def wanted() -> showing.Wanted:
+    def options() -> showing.Options:
         look = Look(float(words.width), face, words.neumes, has_initial=not words.no_initial, has_notes=not words.no_messages)
-        return showing.Wanted(
+        return showing.Options(
             paths_of(words), words.output, words.svg, look, with_messages=not words.no_messages, sings=words.play,
             with_rules=words.rules, exclude=tuple(words.exclude), settings=settings_of(words),
         )
 
     if not words.watch:
-        return showing.show(wanted())
+        return showing.show(options())
     need("show --watch", "watchdog")
     from gregorio_chant.watching import watch
-    return watch(wanted)
+    return watch(options)
 
 
 def _face_of(font: str) -> Face:

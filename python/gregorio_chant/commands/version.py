@@ -1,4 +1,4 @@
-"""The sub-command `version`: its words."""
+"""The sub-command `version`."""
 from __future__ import annotations
 
 import argparse
@@ -13,12 +13,12 @@ _ABOUT = "Writes the versions of the command and of its library, and the commit 
 
 
 def add(commands: argparse._SubParsersAction[Parser]) -> Parser:
-    """Adds the words of `version`, which are none."""
+    """Adds the sub-command `version`, which has no arguments."""
     return commands.add_parser(NAME, help="write the versions of the command and of its library", description=_ABOUT)
 
 
 def run(words: argparse.Namespace) -> int:
-    """Writes the lines. Raises `CannotWrite`."""
+    """Writes the lines. Raises `WriteError`."""
     it = origin()
     write(f"{COMMAND} {it.version}\nlibrary {it.library}\ncommit {it.commit}\nkit {it.kit}\n")
     return 0

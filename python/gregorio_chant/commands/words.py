@@ -1,5 +1,4 @@
-"""What the sub-commands share: how words are refused, how help is laid out, and the words for
-files."""
+"""What the sub-commands share: usage errors, the layout of help, and the arguments for files."""
 from __future__ import annotations
 
 import argparse
@@ -16,7 +15,7 @@ from gregorio_chant.selection import UnknownCode
 from gregorio_chant.settings import NAME as SETTINGS
 from gregorio_chant.settings import Finder, NoSettings
 from gregorio_chant.streams import STDIN, tell, write
-from gregorio_chant.tables import FORMS, Wanted
+from gregorio_chant.tables import FORMS, Options
 
 REFUSED = 3
 # All codes and rules.
@@ -40,8 +39,8 @@ class Help(argparse.HelpFormatter):
 
 
 class Parser(argparse.ArgumentParser):
-    """Refuses words with one line, which names the nearest right word, and the status of refused
-    words."""
+    """Prints usage errors on one line, with the nearest valid argument, and ends with the status of
+    wrong arguments."""
 
     def __init__(self, **settings: Any) -> None:
         super().__init__(**settings, formatter_class=Help)
@@ -71,10 +70,10 @@ class Command(Protocol):
     NAME: str
 
     def add(self, commands: argparse._SubParsersAction[Parser]) -> Parser:
-        """Adds the words of the sub-command, and returns their parser."""
+        """Adds the arguments of the sub-command, and returns their parser."""
 
     def run(self, words: argparse.Namespace) -> int:
-        """Does what the words ask for, and returns the exit status."""
+        """Runs the sub-command with these arguments, and returns the exit status."""
 
 
 def examples(lines: Iterable[str]) -> str:
@@ -83,7 +82,7 @@ def examples(lines: Iterable[str]) -> str:
 
 
 def add_files(parser: Parser, more: str = "") -> None:
-    """Adds the words for files and folders."""
+    """Adds the arguments for files and folders."""
     parser.add_argument("paths", nargs="*", metavar="PATH", help=f"{_PATHS}{more}")
     parser.add_argument(
         "--exclude", action="append", default=[], metavar="PATTERN",
@@ -92,38 +91,38 @@ def add_files(parser: Parser, more: str = "") -> None:
 
 
 def add_paths(parser: Parser, more: str = "", with_staged: str = "") -> None:
-    """Adds the words for files and folders, and for what is staged."""
+    """Adds the arguments for files and folders, and `--staged`."""
     add_files(parser, more)
     parser.add_argument("--staged", action="store_true", help=f"{with_staged}{_STAGED}")
 
 
 def add_jobs(parser: Parser) -> None:
-    """Adds the word for how many files are worked on at a time."""
+    """Adds `--jobs`."""
     parser.add_argument(
         "--jobs", type=positive, metavar="N", default=len(os.sched_getaffinity(0)), help="number of parallel jobs (default %(default)s)"
     )
 
 
 def add_no_config(parser: Parser) -> None:
-    """Adds the word that leaves settings unread."""
+    """Adds `--no-config`."""
     parser.add_argument("--no-config", action="store_true", help=f"read no {SETTINGS}")
 
 
 def settings_of(words: argparse.Namespace) -> Finder:
-    """Returns what finds the settings of scores."""
+    """Returns the finder of settings."""
     return NoSettings() if words.no_config else Finder(KNOWN)
 
 
 def paths_of(words: argparse.Namespace) -> tuple[str, ...]:
-    """Returns the files and folders that are named. Raises `UnknownCode` where there is none,
-    and what is staged is not asked for."""
+    """Returns the files and folders that are named. Raises `UnknownCode` if there are none and
+    `--staged` is not given."""
     if not words.paths and not getattr(words, "staged", False):
         raise UnknownCode("a PATH is needed, or --staged" if "staged" in words else "a PATH is needed")
     return tuple(words.paths)
 
 
 def add_table(parser: Parser) -> None:
-    """Adds the words of a table over files."""
+    """Adds the arguments of a table over files."""
     add_files(parser)
     parser.add_argument("--output-format", choices=FORMS, default="text", metavar="FORM", help="text (default), csv or json")
     add_jobs(parser)
@@ -131,13 +130,13 @@ def add_table(parser: Parser) -> None:
     parser.add_argument("--quiet", action="store_true", help="write no summary")
 
 
-def table_of(words: argparse.Namespace) -> Wanted:
-    """Returns what the words of a table ask for. Raises `UnknownCode` where no path is named."""
-    return Wanted(paths_of(words), words.output_format, words.jobs, tuple(words.exclude), settings_of(words), words.quiet)
+def table_of(words: argparse.Namespace) -> Options:
+    """Returns the options of a table. Raises `UnknownCode` if no path is named."""
+    return Options(paths_of(words), words.output_format, words.jobs, tuple(words.exclude), settings_of(words), words.quiet)
 
 
 def positive(word: str) -> int:
-    """Returns the number that `word` is. Raises `ValueError` where it is none from 1 on."""
+    """Returns the number in `word`. Raises `ValueError` if it is no number from 1."""
     number = int(word)
     if number < 1:
         raise ValueError

@@ -60,7 +60,7 @@ def draw(data: bytes, messages: Sequence[Message] | None = None, *, look: Look |
 
 @contextmanager
 def _uncollected() -> Iterator[None]:
-    """Looks for no garbage meanwhile: the objects of a score form no cycles, and to look for some
+    """Disables the garbage collector: the objects of a score form no cycles, and looking for cycles
     takes a tenth of the time of a picture."""
     was_enabled = gc.isenabled()
     gc.disable()

@@ -7,7 +7,7 @@ from gregorio_chant import __version__
 from gregorio_chant.server.actions import KINDS, actions, resolved
 from gregorio_chant.server.completion import TRIGGERS, completion
 from gregorio_chant.server.document import Document
-from gregorio_chant.server.formats import Refused, formatted_all, formatted_lines
+from gregorio_chant.server.formats import RequestRefused, formatted_all, formatted_lines
 from gregorio_chant.server.hover import hover
 from gregorio_chant.server.outline import foldings, symbols
 from gregorio_chant.server.pictures import svg
@@ -16,7 +16,7 @@ from gregorio_chant.server.tokens import KINDS as TOKENS
 from gregorio_chant.server.tokens import tokens
 from gregorio_chant.streams import NAME
 
-__all__ = ["CAPABILITIES", "FEATURES", "SHOW", "Refused"]
+__all__ = ["CAPABILITIES", "FEATURES", "SHOW", "RequestRefused"]
 
 _INCREMENTAL = 2
 # The request for the edits of an action that was chosen.

@@ -13,16 +13,16 @@ from gregorio_chant.server.protocol import Json, Params, Position, Range
 from gregorio_chant.server.text import Text
 
 
-class Refused(Exception):
+class RequestRefused(Exception):
     """What was asked for is not done, which is no fault of the editor's. It is shown."""
 
 
 def _formatted(document: Document) -> str:
-    """Returns what the score is formatted to. Raises `Refused` where it has to stay as it is."""
+    """Returns what the score is formatted to. Raises `RequestRefused` where it has to stay as it is."""
     made = formatted(document.text.data, document.file.style)
     reasons = made.reasons()
     if reasons:
-        raise Refused("\n".join([f"The score stays as it is: {reasons[0]}", *reasons[1:]]))
+        raise RequestRefused("\n".join([f"The score stays as it is: {reasons[0]}", *reasons[1:]]))
     return made.data.decode("utf-8")
 
 
@@ -32,7 +32,7 @@ def formatted_all(document: Document, params: Params) -> Json:
 
 
 def formatted_lines(document: Document, params: Params) -> Json:
-    """Returns the edits that format the lines of a range. Raises `Refused` where these alone would make another score."""
+    """Returns the edits that format the lines of a range. Raises `RequestRefused` where these alone would make another score."""
     where = params["range"].range()
     old, new = document.text.lines(), Text(_formatted(document)).lines()
     first, last = where.start.line, where.end.line + (where.end.character > 0 or where.end.line == where.start.line)
@@ -43,7 +43,7 @@ def formatted_lines(document: Document, params: Params) -> Json:
             edits.append({"range": Range(Position(begin, 0), Position(end, 0)).to_json(), "newText": "".join(lines)})
     made = Compiled("".join(kept).encode("utf-8"))
     if made.fault is not None or difference(Reading.of(document.compiled), Reading.of(made)) is not None:
-        raise Refused("These lines cannot be formatted by themselves: format the whole score")
+        raise RequestRefused("These lines cannot be formatted by themselves: format the whole score")
     return edits
 
 

@@ -10,7 +10,7 @@ from gregorio_chant.picture import Names, Picture, draw
 from gregorio_chant.picture.page import MOST_BYTES, Shown, leading_to, page_of
 from gregorio_chant.reports import Checked
 from gregorio_chant.server.document import Document
-from gregorio_chant.server.formats import Refused
+from gregorio_chant.server.formats import RequestRefused
 from gregorio_chant.server.protocol import Code, Json, Params, Position, ProtocolError
 from gregorio_chant.streams import STDIN, printable, reason_of
 
@@ -46,7 +46,7 @@ class Pages:
 
     def put(self, document: Document, position: Position) -> str:
         """Writes the page of a score, and returns the URI of one that leads to the syllable at
-        `position` of it. Raises `Refused` where it cannot be written."""
+        `position` of it. Raises `RequestRefused` where it cannot be written."""
         names = Names(links=True)
         picture = _drawn(document, names)
         file = document.file
@@ -59,7 +59,7 @@ class Pages:
             (folder / page).write_text("".join(page_of([shown], picture.name or name)), encoding="utf-8")
             (folder / way).write_text(leading_to(f"{page}#{names.syllable(_syllable_at(document, position))}"), encoding="utf-8")
         except OSError as error:
-            raise Refused(f"the picture cannot be written: {reason_of(error)}") from None
+            raise RequestRefused(f"the picture cannot be written: {reason_of(error)}") from None
         return (folder / way).as_uri()
 
     def _made_folder(self) -> Path:

@@ -7,10 +7,10 @@ from collections.abc import Callable
 from urllib.parse import unquote_to_bytes, urlsplit
 
 from gregorio_chant.dump import Pause
-from gregorio_chant.needs import Missing
+from gregorio_chant.needs import MissingDependency
 from gregorio_chant.server.diagnostics import diagnostics, no_diagnostics
 from gregorio_chant.server.document import Document, File
-from gregorio_chant.server.features import CAPABILITIES, FEATURES, RESOLVE, SHOW, Refused
+from gregorio_chant.server.features import CAPABILITIES, FEATURES, RESOLVE, SHOW, RequestRefused
 from gregorio_chant.server.inbox import Inbox, Message
 from gregorio_chant.server.pictures import Pages
 from gregorio_chant.server.protocol import Code, Json, Params, ProtocolError
@@ -160,7 +160,7 @@ class Session:
             return FEATURES[method](self._asked_about(uri), params)
         except _Overtaken:
             raise ProtocolError(Code.CHANGED, "the document was changed meanwhile") from None
-        except Refused as refused:
+        except RequestRefused as refused:
             self._warn(str(refused))
             return []
 
@@ -219,7 +219,7 @@ class Session:
     def _settings_of(self, name: str) -> Settings:
         try:
             return self._settings.of(name)
-        except (SettingsError, Missing) as error:
+        except (SettingsError, MissingDependency) as error:
             self._warn(str(error))
             return Settings()
 

@@ -10,7 +10,7 @@ from gregorio_chant.files import Content
 from gregorio_chant.picture import USUAL_WIDTH, Look, Names, draw
 from gregorio_chant.picture.page import Shown, list_of_messages, notes_of
 from gregorio_chant.settings import Finder
-from gregorio_chant.sounds import NoSound, sounds_of
+from gregorio_chant.sounds import NoteBeforeClef, sounds_of
 from gregorio_chant.source import text_of
 from gregorio_chant.streams import STDIN
 
@@ -37,8 +37,8 @@ class Answers:
 
     def of(self, data: bytes, width: float = USUAL_WIDTH) -> Answer:
         """Returns what is made of a score, with a picture this wide. Raises `MemoryError`."""
-        wanted = checking.Wanted((STDIN,), with_rules=self.with_rules, settings=self.settings)
-        checked = checking.check_file(STDIN, wanted, lambda _: Content(data))
+        options = checking.Options((STDIN,), with_rules=self.with_rules, settings=self.settings)
+        checked = checking.check_file(STDIN, options, lambda _: Content(data))
         picture = draw(data, checked.messages, look=Look(width=width), names=Names(_PREFIX, links=True, has_heads=True))
         messages = list_of_messages(Shown(checked, checked.shown_name, picture, text_of(data), _PREFIX))
         compiled = Compiled(data)
@@ -50,5 +50,5 @@ class Answers:
         dump = Compiled(data).dump
         try:
             return notes_of(sounds_of(read_in_turn(dump)[1])) if dump else []
-        except NoSound:
+        except NoteBeforeClef:
             return []

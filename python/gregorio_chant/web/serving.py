@@ -34,7 +34,7 @@ class _Server(uvicorn.Server):  # type: ignore[misc]
 def serve(port: int, answers: Answers) -> int:
     """Serves the page at this port of this machine, or at a free one where it is 0, until it is
     ended. Its address is the one line of standard output. Returns the exit status. Raises
-    `CannotWrite`."""
+    `WriteError`."""
     with socket.socket() as listening:
         try:
             listening.setsockopt(socket.SOL_SOCKET, socket.SO_REUSEADDR, 1)
