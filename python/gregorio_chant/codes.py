@@ -49,17 +49,17 @@ def shown(line: str) -> str:
 _ERRORS = (
     Code(
         "E1", "character left out of the notes",
-        "A character of the notes fits nowhere and was left out. Look for a slip of the key, as a capital letter or a digit after the wrong note.",
+        "A character of the notes fits nowhere, and was left out. Look for a typing mistake, such as a capital letter or a digit after the wrong note.",
         "Ky(g5)ri(g)", "Ky(g.)ri(g)",
     ),
     Code(
         "E2", "character left out of the text",
-        "A character of a text was left out: a ), ] or > with nothing to close. Remove it, or write $ before it.",
+        "A character of a text was left out: a ), ] or > without its opening bracket. Remove it, or write $ before it.",
         "Ky(f))ri(g)", "Ky(f)ri(g)",
     ),
     Code(
         "E3", "character left out of the NABC notes",
-        "A character of the NABC notes fits nowhere and was left out. Compare the descriptor with the manual.",
+        "A character of the NABC notes fits nowhere, and was left out. Compare the descriptor with the manual.",
         "Ky(fg|pe1)", "Ky(fg|peS1)", before=_NABC,
     ),
     Code(
@@ -69,12 +69,12 @@ _ERRORS = (
     ),
     Code(
         "E5", "nabc-lines out of range left out",
-        "The header nabc-lines is none of 0, 1, 2, 3 and 4. Write one of these, as one digit.",
+        "The header nabc-lines is not 0, 1, 2, 3 or 4. Write one of these digits.",
         "nabc-lines: 01;", "nabc-lines: 1;", before=_HEADERS, after=_BODY,
     ),
     Code(
         "E6", "unfinished end of the notes left out",
-        "The notes of a syllable end unfinished, as with a - that no note follows. Finish or remove the end.",
+        "The notes of a syllable end too early, for example with a - and no note after it. Finish or remove the end.",
         "Ky(fg-)", "Ky(f-g)",
     ),
 )
@@ -82,17 +82,17 @@ _ERRORS = (
 _WARNINGS = (
     Code("W1", "no name header", "There is no header name. Add one.", "mode: 1;", "name: Kyrie;", before="", after=_BODY),
     Code(
-        "W2", "header given again", "A header is given again. Its last value counts: remove the others.",
+        "W2", "header given again", "A header occurs twice. Its last value counts: remove the others.",
         "mode: 1;\nmode: 2;", "mode: 2;", before=_HEADERS, after=_BODY,
     ),
     Code(
         "W3", "style tag not matched",
-        "A style tag matches none, or a style is open where a text ends. Close each style in its own syllable.",
+        "A style tag has no partner, or a style is open at the end of a syllable. Close each style in its own syllable.",
         "<i>Ky(f)ri</i>(g)", "<i>Ky</i>(f)<i>ri</i>(g)",
     ),
     Code(
         "W4", "centring brace not matched or second",
-        "A brace of the centre matches none, is the second of its kind, or is still open. Keep one pair in a syllable.",
+        "A brace of the centre has no partner, is the second of its kind, or is still open. Keep one pair in a syllable.",
         "{K}{y}(f)", "{Ky}(f)",
     ),
     Code(
@@ -100,15 +100,15 @@ _WARNINGS = (
         "Ky[Lord]ri[God](f)", "Ky[Lord God]ri(f)",
     ),
     Code(
-        "W6", "tag not known", "A tag is not known. It is kept: look for a slip in its name.",
+        "W6", "tag not known", "A tag is unknown. It is kept: look for a mistake in its name.",
         "<it>Ky</it>(f)", "<i>Ky</i>(f)",
     ),
     Code(
-        "W7", "NABC code not known", "An NABC code is not known. It is kept: compare it with the manual.",
+        "W7", "NABC code not known", "An NABC code is unknown. It is kept: compare it with the manual.",
         "Ky(fg|ep)", "Ky(fg|pe)", before=_NABC,
     ),
     Code(
-        "W8", "macro not defined", "A macro is used whose header def-m with its digit is missing. Add the header.",
+        "W8", "macro not defined", "A macro is used, but the header def-m with its digit is missing. Add the header.",
         "%%\n(c4) Ky(f[nm1])", "def-m1: \\grecross;\n%%\n(c4) Ky(f[nm1])", before=_HEADERS,
     ),
     Code(
@@ -118,7 +118,7 @@ _WARNINGS = (
     ),
     Code(
         "W10", "fusion bracket not matched",
-        "A fusion bracket @[ matches no ], or the other way round. Close it in its own snippet.",
+        "A fusion bracket @[ has no ], or a ] has no @[. Close it in its own snippet.",
         "Ky(@[fg)", "Ky(@[fg])",
     ),
     Code(
@@ -126,7 +126,7 @@ _WARNINGS = (
         "<eu>e(h) u(g)", "<eu>e(h) u</eu>(g)",
     ),
     Code(
-        "W12", "note before any clef", "A note stands before any clef. Write a clef, as (c4), before the first note.",
+        "W12", "note before any clef", "The first note comes before any clef. Write a clef, such as (c4), before it.",
         "Ky(f)", "(c4) Ky(f)", before="name: Kyrie;\n%%\n",
     ),
 )
@@ -134,12 +134,12 @@ _WARNINGS = (
 _FAULTS = (
     Code("F1", "not UTF-8", "The input is not UTF-8 from here on. Convert it.", "Kyri\udce9(f)", "Kyri\u00e9(f)"),
     Code(
-        "F2", "no %% line", "There is no line that begins with %%. Write one between the headers and the score.",
+        "F2", "no %% line", "No line begins with %%. Write one between the headers and the score.",
         "(c4) Ky(f)", "%%\n(c4) Ky(f)", before=_HEADERS,
     ),
     Code(
         "F3", "header value not ended",
-        "The value of a header is not ended. End it with ;, or with ;; where it has several lines.",
+        "The value of a header has no end. End it with ;, or with ;; if it has several lines.",
         "mode: 1", "mode: 1;", before=_HEADERS, after=_BODY,
     ),
     Code(
@@ -147,12 +147,12 @@ _FAULTS = (
         "commentary: " + "Graduale " * 8_000 + ";", "commentary: Graduale;", before=_HEADERS, after=_BODY,
     ),
     Code(
-        "F5", "syllable limit", "A syllable is longer than 16,384 bytes. Look for a ( or ) that is missing.",
+        "F5", "syllable limit", "A syllable is longer than 16,384 bytes. Look for a missing ( or ).",
         "Kyrie " + "eleison " * 2_500 + "(f)", "Kyrie(f) eleison(g)",
     ),
     Code(
         "F6", "input ends inside notes, a tag, a raw part or a translation",
-        "The input ends inside notes, a tag, a raw part or a translation. Close what begins at this place.",
+        "The input ends inside notes, a tag, a raw part or a translation. Close the part that begins at this place.",
         "Ky(f)ri(g", "Ky(f)ri(g)",
     ),
     Code(

@@ -47,7 +47,7 @@ def _unclosed(subject: Subject, at: int) -> str | None:
     if opener is None:
         return None
     if subject.text.startswith("((", opener):
-        return f"the ( at {subject.place(opener)} stands twice: remove one of both"
+        return f"the ( at {subject.place(opener)} is doubled: remove one of them"
     it = closing_bracket(subject, at)
     told = f"the ( at {subject.place(opener)} lacks its )"
     return told if it is None else f"{told}: {_question(subject, it)}"
@@ -67,29 +67,29 @@ def _left_out_of_notes(subject: Subject, at: int) -> str:
     if bars_for(subject, at):
         return "a double bar is ::, and a simple one :"
     if it == "|":
-        return "'|' parts notes from NABC only if there is a header nabc-lines: write nabc-lines: 1; before the %%"
+        return "'|' separates notes from NABC only if there is a header nabc-lines: write nabc-lines: 1; before the %%"
     if subject.text.startswith("]", at - 1):
-        return f"{named(it)} stands after an attribute: write it before the ["
+        return f"{named(it)} follows an attribute: write it before the ["
     if it in APOSTROPHES:
         return f"{named(it)} is a typographic apostrophe: write ' for an ictus"
     if it.isdigit():
         return f"{named(it)} is no sign of the note before it: remove it"
     if it.isalpha():
-        return f"{named(it)} is no pitch, which are a to n and p, nor a sign of the note before it"
+        return f"{named(it)} is no pitch (a to n, p), and no sign of the note before it"
     return f"{named(it)} is no note and no sign: remove it"
 
 
 def _left_out_of_text(subject: Subject, at: int) -> str:
     it = subject.text[at : at + 1]
     if it == ")" and subject.text.startswith("))", at - 1):
-        return "the notes before it have their ) already: remove this one"
+        return "the notes before it already have their ): remove this one"
     bracket = opening_bracket(subject, at)
     if bracket is not None:
         return f"a ( is missing before it, probably at {subject.place(bracket.offset)}: {_question(subject, bracket)}"
     if it == ">":
-        return "'>' ends no tag: look for a < that is missing, or write $> for the character itself"
+        return "'>' ends no tag: look for a missing <, or write $> for the character itself"
     opener = {")": "(", "]": "["}.get(it, "")
-    return f"{named(it)} closes nothing: look for a {opener} that is missing before it, or remove it"
+    return f"{named(it)} closes nothing: look for a missing {opener} before it, or remove it"
 
 
 def _left_out_of_nabc(subject: Subject, at: int) -> str:
@@ -98,14 +98,14 @@ def _left_out_of_nabc(subject: Subject, at: int) -> str:
     if unclosed is not None:
         return unclosed
     if it.isdigit():
-        return f"{named(it)} has nothing to count: a number stands after a modifier, as in peS1, or after points and letters, as in pesu1 and pelse1"
+        return f"{named(it)} has nothing to count: write a number after a modifier, as in peS1, or after points and letters, as in pesu1 and pelse1"
     return f"{named(it)} fits nowhere in this descriptor: remove it"
 
 
 def _of_file(subject: Subject) -> str | None:
     """Returns what is wrong with a file whose headers cannot be read as such, if that is plain."""
     if _PAGE.match(subject.text):
-        return "this is a page of the web and no score: save the score itself, whose name ends in .gabc"
+        return "this is a web page and no score: save the score itself, whose name ends in .gabc"
     unread = unread_score_line(subject)
     if unread is not None:
         return f"line {subject.lines.place(unread.begin).line} is ' %%': remove the blank before it"
@@ -119,15 +119,15 @@ def _header_without_name(subject: Subject, at: int) -> str:
     if of_file is not None:
         return of_file
     if not colon:
-        told = f"write {named(meant)}" if meant else "a header is name: value;, and the notes stand after a line %%"
+        told = f"write {named(meant)}" if meant else "a header is name: value;, and the notes follow a line %%"
         return f"{named(line)} has no colon: {told}"
     length = len(name.strip(" \t").encode("utf-8", "replace"))
-    return f"the name has {length} bytes, and 64 are the most" if length else "there is no name before the colon: write one"
+    return f"the name has {length} bytes; the limit is 64" if length else "there is no name before the colon: write one"
 
 
 def _number_of_nabc_lines(subject: Subject, at: int) -> str:
     value = subject.text[at:].partition("\n")[0].partition(":")[2].partition(";")[0].strip(" \t")
-    return f"{named(value)} is none of 0, 1, 2, 3 and 4"
+    return f"{named(value)} is not 0, 1, 2, 3 or 4"
 
 
 def _unfinished(subject: Subject, at: int) -> str:
@@ -137,8 +137,8 @@ def _unfinished(subject: Subject, at: int) -> str:
     before = re.search(r"[^\s(|]*$", subject.text[:at])
     end = before[0] if before else ""
     if end.endswith("-"):
-        return "'-' stands before a note: write the note after it, or remove it"
-    return f"the end of {named(end)} wants more: finish or remove it"
+        return "'-' needs a note after it: write one, or remove the '-'"
+    return f"the end of {named(end)} is incomplete: finish or remove it"
 
 
 def _no_name(subject: Subject, at: int) -> str:
@@ -150,7 +150,7 @@ def _given_again(subject: Subject, at: int) -> str:
     names = [it for it in subject.scan.headers if header is not None and it.name == header.name and it.begin < at]
     if header is None or not names:
         return "its last value counts: remove the others"
-    return f"{named(header.name or '')} stands in line {subject.lines.place(names[-1].begin).line} already: remove one of them"
+    return f"{named(header.name or '')} is already in line {subject.lines.place(names[-1].begin).line}: remove one of them"
 
 
 def _style(subject: Subject, at: int) -> str:
@@ -162,13 +162,13 @@ def _style(subject: Subject, at: int) -> str:
         return f"{opened or 'a style'} ends with the text of its syllable: write {closed or 'its end'} here, and {opened or 'it'} again in the next text"
     if tag[1]:
         return f"{tag[0]} closes no style that is open in this syllable: open it here with <{tag[2]}>, or remove it"
-    return f"{tag[0]} is open already: write </{tag[2]}> if it ends here, or remove one of both"
+    return f"{tag[0]} is already open: write </{tag[2]}> if it ends here, or remove one of the two"
 
 
 def _centre(subject: Subject, at: int) -> str:
     it = subject.text[at : at + 1]
     if it == "{":
-        return "there is a centre already: keep one pair of { and } in a syllable"
+        return "there is already a centre: keep one pair of { and } in a syllable"
     return "'}' closes no {" if it == "}" else "the { of this syllable is not closed: write } after its vowel"
 
 
@@ -184,14 +184,14 @@ def _unknown_tag(subject: Subject, at: int) -> str:
     name = _NAME.match(tag[2])
     word = name[1].lower() if name else ""
     if "(" in tag[2] or "\n" in tag[2]:
-        return f"this < takes all up to the next > for its tag: write {'the > that is missing' if word else '$< for the character itself'}"
+        return f"this < makes everything up to the next > its tag: write {'the missing >' if word else '$< for the character itself'}"
     if tag[1] and tag[2] in _RAW:
         return f"{tag[0]} closes nothing, since no <{tag[2]}> is open: remove it"
     if word in HTML_TAGS:
         like = HTML_TAGS[word]
         return f"{named(tag[0])} is a tag of HTML: " + (f"write <{tag[1]}{like}>" if like else "remove it")
     near = nearest(tag[2], TAGS)
-    return f"there is no tag {named(tag[0])}" + (f": did you mean <{tag[1]}{near}>?" if near and near != tag[2] else "; it is kept as it stands")
+    return f"there is no tag {named(tag[0])}" + (f": did you mean <{tag[1]}{near}>?" if near and near != tag[2] else "; it is kept")
 
 
 def _unknown_code(subject: Subject, at: int) -> str:
@@ -200,7 +200,7 @@ def _unknown_code(subject: Subject, at: int) -> str:
         return unclosed
     code = subject.text[max(at - 1, 0) : at + 1]
     turned = code[::-1]
-    return f"{named(code)} is no code of the manual" + (f": did you mean {turned}?" if turned in NABC_CODES else "; it is kept as it stands")
+    return f"{named(code)} is no code of the manual" + (f": did you mean {turned}?" if turned in NABC_CODES else "; it is kept")
 
 
 def _macro(subject: Subject, at: int) -> str:
@@ -215,7 +215,7 @@ def _no_notes(subject: Subject, at: int) -> str:
 
 def _fusion(subject: Subject, at: int) -> str:
     if subject.text[at : at + 1] == "]":
-        return "no @[ stands before this ]"
+        return "this ] has no @[ before it"
     return "this @[ is not closed: write ] after its last note" if subject.text[at : at + 1] == "[" else "an @[ before this place is not closed: write ]"
 
 
@@ -232,7 +232,7 @@ def _no_clef(subject: Subject, at: int) -> str:
     clef = clef_for(subject, at)
     if clef is not None:
         return _no_such_clef(clef)
-    return "write a clef, as (c4), before the first note: without one no note has a degree"
+    return "write a clef, such as (c4), before the first note: without one no note has a degree"
 
 
 def _not_utf8(subject: Subject, at: int) -> str:
@@ -250,7 +250,7 @@ def _value_not_ended(subject: Subject, at: int) -> str:
     if of_file is not None:
         return of_file
     if NOTES.search(line):
-        return f"line {place.line} holds notes: write a line %% before the first line of the score"
+        return f"line {place.line} has notes: write a line %% before the first line of the score"
     struck = struck_for_mark(line)
     if struck:
         return f"line {place.line} ends with {struck} and not with ; : write {named(line[:-1] + ';')}"
@@ -258,13 +258,13 @@ def _value_not_ended(subject: Subject, at: int) -> str:
 
 
 def _headers_too_long(subject: Subject, at: int) -> str:
-    return "65,536 bytes are the most: look for a %% that is missing"
+    return "the limit is 65,536 bytes: look for a missing %%"
 
 
 def _syllable_too_long(subject: Subject, at: int) -> str:
     it = subject.syllable_at(at)
     begin = it.notes if it is not None and it.notes < at else it.begin if it is not None else at
-    return f"16,384 bytes are the most: look for a ( or ) that is missing after {subject.place(begin)}"
+    return f"the limit is 16,384 bytes: look for a missing ( or ) after {subject.place(begin)}"
 
 
 def _cut(subject: Subject, at: int) -> str:
@@ -275,7 +275,7 @@ def _cut(subject: Subject, at: int) -> str:
 
 
 def _input_too_long(subject: Subject, at: int) -> str:
-    return "4,294,967,295 bytes are the most: split the score"
+    return "the limit is 4,294,967,295 bytes: split the score"
 
 
 _HELPS: dict[str, _Help] = {
@@ -302,7 +302,7 @@ def helps_for(text: str, found: Iterable[Message], told: Iterable[Message]) -> t
         help, at = help_for(subject, it), subject.offset(it)
         is_told = help is not None and help in first and it.kind is not Kind.FATAL
         if is_told and help in (_unclosed(subject, at), _of_file(subject)):
-            helps.append(f"this is the slip that is told at {first[help or '']}")
+            helps.append(f"this is the mistake reported at {first[help or '']}")
             continue
         if help is not None:
             first.setdefault(help, f"{it.line}:{it.column}")

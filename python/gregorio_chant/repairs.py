@@ -267,25 +267,25 @@ _NABC = "name: Kyrie;\nnabc-lines: 1;\n%%\n(c4) "
 REPAIRS: dict[str, Repair] = {
     it.name: it
     for it in (
-        Repair("escape", _codes("E2"), "Write $ before a > that stands in a text for itself.", "", _escape, "Ky>(f)ri(g)", "Ky$>(f)ri(g)"),
+        Repair("escape", _codes("E2"), "Write $ before a > that is part of the text.", "", _escape, "Ky>(f)ri(g)", "Ky$>(f)ri(g)"),
         Repair(
             "style-in-each-syllable", _codes("W3"), "Close a style over several syllables in each of them, and open it again in the next.", "",
             _style_in_each_syllable, "<i>Ky(f)ri(g)e</i>(h)", "<i>Ky</i>(f)<i>ri</i>(g)<i>e</i>(h)",
         ),
         Repair(
-            "open-notes", _codes("E2"), "Write the ( that is missing before notes.", _TEXT_TO_NOTES,
+            "open-notes", _codes("E2"), "Write the missing ( before notes.", _TEXT_TO_NOTES,
             _open_notes, "Ky(f)rigfg)e(h)", "Ky(f)ri(gfg)e(h)",
         ),
         Repair(
-            "remove-opener", _codes("E1", "E3"), "Remove a ( that stands twice.", "no note changes",
+            "remove-opener", _codes("E1", "E3"), "Remove one of two (.", "no note changes",
             _remove_opener, "Ky((f)ri(g)", "Ky(f)ri(g)",
         ),
         Repair(
-            "close-notes", _codes("E1", "E3"), "Write the ) that is missing after notes.", _NOTES_TO_TEXT,
+            "close-notes", _codes("E1", "E3"), "Write the missing ) after notes.", _NOTES_TO_TEXT,
             _close_notes, "Ky(f ri(gfg)", "Ky(f) ri(gfg)",
         ),
         Repair(
-            "close-at-end", _codes("F6"), "Write the ) that is missing at the end.", "the last notes are read",
+            "close-at-end", _codes("F6"), "Write the missing ) at the end.", "the last notes are read",
             _close_at_end, "Ky(f)ri(gfg", "Ky(f)ri(gfg)",
         ),
         Repair(
@@ -299,24 +299,24 @@ REPAIRS: dict[str, Repair] = {
         Repair("double-bar", _codes("E1"), "Write a double bar as ::.", "a bar is added", _bars, "Ky(f) (||)", "Ky(f) (::)"),
         Repair("apostrophe", _codes("E1"), "Write the typewriter's apostrophe.", "a note gets an ictus", _apostrophe, "Ky(f’)ri(g)", "Ky(f')ri(g)"),
         Repair(
-            "sign-before-attribute", _codes("E1"), "Move a letter or sign of a note before the attribute that it stands after.", "a sign is added",
+            "sign-before-attribute", _codes("E1"), "Move a letter or sign of a note before the attribute.", "a sign is added",
             _sign_before_attribute, "Ky(f[ll:1]v)", "Ky(fv[ll:1])",
         ),
         Repair(
-            "nabc-header", _codes("E1", "nabc-without-header"), "Write the header nabc-lines, since a | stands in the notes and there is none.",
-            "what follows each | becomes neumes", _nabc_header, "%%\n(c4) Ky(f|pu)", "nabc-lines: 1;\n%%\n(c4) Ky(f|pu)", _BEGUN,
+            "nabc-header", _codes("E1", "nabc-without-header"), "Write the missing header nabc-lines, since the notes have a |.",
+            "the text after each | becomes neumes", _nabc_header, "%%\n(c4) Ky(f|pu)", "nabc-lines: 1;\n%%\n(c4) Ky(f|pu)", _BEGUN,
         ),
         Repair(
             "leave-out-of-nabc", _codes("E3"), "Remove a number or letter that NABC does not take.", "no neume changes",
             _leave_out_of_nabc, "Ky(f|un1)", "Ky(f|un)", _NABC,
         ),
-        Repair("close-tag", _codes("W6"), "Write the > that is missing after the name of a tag.", _TEXT_TO_NOTES, _close_tag, "<iKy</i>(f)", "<i>Ky</i>(f)"),
+        Repair("close-tag", _codes("W6"), "Write the missing > after the name of a tag.", _TEXT_TO_NOTES, _close_tag, "<iKy</i>(f)", "<i>Ky</i>(f)"),
         Repair(
             "escape-less", _codes("W6"), "Write $ before a < that takes notes for its tag.", _TEXT_TO_NOTES,
             _escape_less, "Ky<(f)ri(g>)", "Ky$<(f)ri(g>)",
         ),
         Repair(
-            "html-tag", _codes("W6"), "Remove a tag of HTML, or the end of a tag that is not open; write the tag of GABC that is like it.", "a tag goes",
+            "html-tag", _codes("W6"), "Remove a tag of HTML, or the end of a tag that is not open; or write the tag of GABC for it.", "a tag goes",
             _html_tag, "Ky<br>(f)", "Ky(f)",
         ),
         Repair(
@@ -328,11 +328,11 @@ REPAIRS: dict[str, Repair] = {
             _character, "D&oacute;(f)", "D\u00f3(f)",
         ),
         Repair(
-            "score-line", _codes("F2", "F3"), "Remove the blanks before %%.", "what is below becomes the score",
+            "score-line", _codes("F2", "F3"), "Remove the blanks before %%.", "the lines below become the score",
             _score_line, " %%", "%%", _BEGUN, "\n(c4) Ky(f)\n",
         ),
         Repair(
-            "end-header", _codes("F3"), "Write the ; that is missing after the value of a header.", "what is below is read", _end_header, "mode: 1", "mode: 1;",
+            "end-header", _codes("F3"), "Write the missing ; after the value of a header.", "the lines below are read", _end_header, "mode: 1", "mode: 1;",
             _BEGUN, _BODY,
         ),
         Repair(

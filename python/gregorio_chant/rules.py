@@ -30,48 +30,48 @@ def _unused_ignore(subject: Subject) -> Iterator[Found]:
 _ALL = (
     Rule(
         "outside-staff",
-        "A note, a sign or a custos is higher than the staff allows: more than three steps above its top line, by the header staff-lines, or 4 lines. "
-        "Look for a slip of the key.",
+        "A note, a sign or a custos is higher than the staff allows: more than three steps above its top line (header staff-lines, or 4 lines). "
+        "Look for a typing mistake.",
         outside_staff, "Ky(fn)", "Ky(fm)",
     ),
     Rule(
         "bracket-in-attribute",
-        "An attribute or a spacing in brackets holds a ( or a ). Its ] may be missing, so that it takes what follows for its own: write the ].",
+        "An attribute or a spacing in brackets contains a ( or a ). Its ] may be missing: write it.",
         bracket_in_attribute, "Ky(f[cs:a)ri(g])", "Ky(f[cs:a])ri(g)",
     ),
     Rule(
         "nabc-without-header",
-        "A | stands in the notes, and there is no header nabc-lines. Write one, as nabc-lines: 1;. One line tells it, in place of an E1 for each "
+        "The notes have a |, but there is no header nabc-lines. Write one, such as nabc-lines: 1;. This message replaces the E1 of each "
         "character after the |.",
         nabc_without_header, "%%\n(c4) Ky(f|pu) ri(gh|pe)", "nabc-lines: 1;\n%%\n(c4) Ky(f|pu) ri(gh|pe)", _BEGUN, kind=Kind.ERROR,
     ),
     Rule(
         "comment",
-        "A comment stands in the score, and the canonical form keeps none. This rule is tried only where the settings ask for the canonical form, "
-        "or if --select names it. Write the comment into a header, as user-notes.",
+        "The score has a comment, and the canonical form keeps none. This rule is tried only if the settings ask for the canonical form, "
+        "or if --select names it. Write the comment into a header, such as user-notes.",
         comment, "Ky(f) % by hand", "Ky(f)",
     ),
     Rule(
         "asterisk-without-bar",
-        "An asterisk tells where the choir comes in. No bar stands at this one, and one stands after the next word: look whether they belong together.",
+        "An asterisk marks the entry of the choir. This one has no bar, but there is one after the next word: look whether they belong together.",
         asterisk_without_bar, "Ky(f)ri(g)e(h) *() e(f)lé(g) (,) i(f)", "Ky(f)ri(g)e(h) *(,) e(f)lé(g) (,) i(f)",
     ),
     Rule(
-        "clef-off-staff", "A clef stands on a line that the staff does not have, by the header staff-lines, or 4 lines. Look for a slip of the key.",
+        "clef-off-staff", "A clef is on a line that the staff does not have (header staff-lines, or 4 lines). Look for a typing mistake.",
         clef_off_staff, "(c5) Ky(f)", "(c4) Ky(f)", before="name: Kyrie;\n%%\n",
     ),
     Rule(
-        "unknown-mode", "The header mode begins with a number that is none of 1 to 8. Look for a slip of the key.",
+        "unknown-mode", "The header mode begins with a number other than 1 to 8. Look for a typing mistake.",
         unknown_mode, "mode: 9;", "mode: 6;", _BEGUN, _BODY,
     ),
     Rule(
         "mode-without-number",
-        "The header mode has words or a Roman number. GregorioTeX wants 1 to 8 there. Write such a number, and the Roman one as an annotation.",
+        "The header mode has words or a Roman number. GregorioTeX needs 1 to 8 there. Write that, and the Roman number as an annotation.",
         mode_without_number, "mode: VII;", "mode: 7;", _BEGUN, _BODY,
     ),
     Rule(
         "misspelled-header",
-        "The name of a header is nearly one that GregorioTeX knows. A header by another name is kept, and does nothing: write the name that was meant.",
+        "The name of a header is nearly one of GregorioTeX's. An unknown header is kept, and does nothing: correct the name.",
         misspelled_header, "moed: 7;", "mode: 7;", _BEGUN, _BODY,
     ),
     Rule(
@@ -84,11 +84,11 @@ _ALL = (
     ),
     Rule(
         "missing-blank",
-        "A syllable ends with punctuation, and a letter stands directly after its notes. Both are one word so: write a blank after the ).",
+        "A syllable ends with punctuation, and a letter follows its notes directly. So both are one word: write a blank after the ).",
         missing_blank, "me,(f)et(g)", "me,(f) et(g)",
     ),
     Rule(
-        "bar-as-text", "A ; or another sign of a bar stands alone in a text, and is sung. Write a bar with ( and ) around it.",
+        "bar-as-text", "A ; or another sign of a bar is in a text, and would be sung. Write a bar with ( and ) around it.",
         bar_as_text, "me(f) ; et(g)", "me(f) (;) et(g)",
     ),
     Rule(
@@ -96,7 +96,7 @@ _ALL = (
         typed_hyphen, "Ky-(f)ri-(g)e(h)", "Ky(f)ri(g)e(h)",
     ),
     Rule(
-        "html-entity", "The name of a character in HTML stands in a text. It is kept letter for letter: write the character itself.",
+        "html-entity", "A text has the name of a character in HTML. It is kept letter for letter: write the character itself.",
         html_entity, "D&oacute;(f)mi(g)", "D\u00f3(f)mi(g)",
     ),
     Rule(
@@ -105,7 +105,7 @@ _ALL = (
     ),
     Rule(
         "notes-in-translation",
-        "A translation in [ and ] stands within a word, and looks like notes. Notes stand in ( and ): look for a slip of the key.",
+        "A translation in [ and ] is within a word, and looks like notes. Write notes in ( and ).",
         notes_in_translation, "D\u00f3[hi]mi(f)ne(g)", "D\u00f3(hi)mi(f)ne(g)",
     ),
     Rule(
@@ -114,23 +114,23 @@ _ALL = (
         unused_alteration, "De(hiix)us(h)", "De(hixi)us(h)",
     ),
     Rule(
-        "second-score-line", "A line %% stands in the score, where it is only a comment. Remove it, or make two files of what is two scores.",
+        "second-score-line", "The score has a line %%, which is only a comment there. Remove it, or split two scores into two files.",
         second_score_line, "Ky(f)\n%%\nri(g)", "Ky(f)\nri(g)",
     ),
     Rule(
         "lone-capital",
-        "A capital pitch, which is a punctum inclinatum, stands alone, and the notes around it have small letters. It may be a slip of the shift key. "
-        "If it is meant, silence it by a comment.",
+        "A capital pitch, which is a punctum inclinatum, is alone among notes with small letters. It may be a typing mistake. "
+        "If it is right, silence the message by a comment.",
         lone_capital, "Ky(f)ri(G)e(h)", "Ky(f)ri(g)e(h)",
     ),
     Rule(
         "unknown-special",
-        "The text between <sp> and </sp> is none of the special characters that GregorioTeX defines by default. Look for a slip, or define it there.",
+        "The text between <sp> and </sp> is none of GregorioTeX's own special characters. Look for a typing mistake, or define it there.",
         unknown_special, "<sp>Rx</sp>(::)", "<sp>R/</sp>(::)",
     ),
     Rule(
         "unused-ignore",
-        "A comment that silences messages silences none: there is no such message on its line, or in the score. Remove it, or look for a slip in the code.",
+        "A comment silences a code that has no message on its line, or in the score. Remove the code, or look for a mistake in it.",
         _unused_ignore, "<it>Ky</it>(f) % gregorio: ignore W6, W7, comment", "<it>Ky</it>(f) % gregorio: ignore W6, comment",
     ),
 )

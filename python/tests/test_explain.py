@@ -66,7 +66,7 @@ class Command(unittest.TestCase):
         ran = command("explain", "e6")
         self.assertEqual(
             ran.stdout.decode(),
-            "E6: error: unfinished end of the notes left out\n\nThe notes of a syllable end unfinished, as with a - that no note follows. Finish\nor remove the end.\n\n"
+            "E6: error: unfinished end of the notes left out\n\nThe notes of a syllable end too early, for example with a - and no note after\nit. Finish or remove the end.\n\n"
             "Wrong:\n    Ky(fg-)\n\nRight:\n    Ky(f-g)\n",
         )
         self.assertEqual((ran.returncode, ran.stderr), (0, b""))

@@ -82,7 +82,7 @@ class Actions(Served):
         self.open("name: a;\n%%\n(c4) <x>Ky<v>a\nb</v>(f)\n")
         self.assertEqual([it["title"] for it in self.offered(2, 0, 2, 9)], ["Silence W6 in this score"])
         self.change("name: a;\n%%\n(c4) Ky(f")
-        title = "Write the ) that is missing at the end (a guess: 'Ky(f' becomes 'Ky(f)'; the last notes are read)"
+        title = "Write the missing ) at the end (a guess: 'Ky(f' becomes 'Ky(f)'; the last notes are read)"
         self.assertEqual([it["title"] for it in self.offered(2, 0, 2, 9)], [title])
 
 
@@ -215,7 +215,7 @@ class Hover(Served):
         ):
             self.assertEqual(self.hover(line, character), told, (line, character))
         self.assertEqual(self.hover(3, 37), (
-            "W6: tag not known\nthere is no tag '<x>'; it is kept as it stands\nWrong:\n    <it>Ky</it>(f)\nRight:\n    <i>Ky</i>(f)\n"
+            "W6: tag not known\nthere is no tag '<x>'; it is kept\nWrong:\n    <it>Ky</it>(f)\nRight:\n    <i>Ky</i>(f)\n"
             "gregorio-chant explain W6 says more\n"
         ))
 
@@ -231,7 +231,7 @@ class Markdown(Served):
         shown = self.ask_here("hover", position=place(3, 22))["contents"]
         self.assertEqual(shown["kind"], "markdown")
         self.assertEqual(shown["value"], (
-            "**W6**: tag not known\n\nthere is no tag '\\<x\\>'; it is kept as it stands\n\nWrong:\n\n```gabc\n<it>Ky</it>(f)\n```\n\n"
+            "**W6**: tag not known\n\nthere is no tag '\\<x\\>'; it is kept\n\nWrong:\n\n```gabc\n<it>Ky</it>(f)\n```\n\n"
             "Right:\n\n```gabc\n<i>Ky</i>(f)\n```\n\n[All about W6](file:///usr/share/doc/gregorio-canonical/docs/LANGUAGE.md#errors-and-warnings)\n"
         ))
 
