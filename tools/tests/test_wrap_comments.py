@@ -22,7 +22,7 @@ class WrapTest(unittest.TestCase):
         self.stays("Some\nshort lines.\n\n- an item\n  of two lines\n- another\n")
 
     def test_what_is_no_words_stays(self):
-        self.stays(f"    {LONG}code\n\n| {LONG} |\n\n# {LONG}\n\n```\n{LONG}\n```\n\n<!-- {LONG} -->\n")
+        self.stays(f"    {LONG}code\n\n| {LONG} |\n![{LONG}](a.svg)\n\n# {LONG}\n\n```\n{LONG}\n```\n\n<!-- {LONG} -->\n")
 
     def test_an_item_hangs_below_its_words(self):
         for mark in ("- ", "1. ", "   - "):
