@@ -14,7 +14,7 @@ Ky(f)ri(//)
 3 15 E1 character left out of the notes
 
 `Run` takes a score in pieces. `gregorio_chant.dump` reads a score into objects, each with its place; the command `gregorio-chant` checks and formats
-files. The answers of `compile`, `check` and `Run` are proved. What else stands here is only tested.
+files. The answers of `compile`, `check` and `Run` are proved; the rest of the package is tested.
 """
 from __future__ import annotations
 

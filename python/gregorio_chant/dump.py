@@ -106,12 +106,12 @@ class Score:
         return self.phrases_at(FINALIS)
 
     def phrases_at(self, *kinds: str) -> tuple[Phrase, ...]:
-        """Returns what stands between bars of these kinds, if there is a note or a word in it."""
+        """Returns the music between bars of these kinds, if it has a note or a word."""
         return phrases_of(self.syllables, kinds)
 
     @property
     def range(self) -> Range | None:
-        """The lowest and the highest note; nothing where all stand before any clef."""
+        """The lowest and the highest note; `None` if all notes come before any clef."""
         return range_of(self.notes)
 
     @property
@@ -120,8 +120,8 @@ class Score:
         return self.notes[-1] if self.notes else None
 
     def edited(self) -> Edited:
-        """Returns changes of this score, to be collected: none yet. Raises `EditError` where a
-        fatal fault stops it."""
+        """Returns an empty collection of changes of this score. Raises `EditError` if the score has a
+        fatal fault."""
         return Edited(self)
 
     def source_offset(self, written: int) -> int:
@@ -141,9 +141,9 @@ class Score:
 
     @classmethod
     def parse(cls, score: str | bytes | bytearray | memoryview, limits: Limits | None = None) -> Score:
-        """Reads a score, under the usual limits where none are given, and compares the canonical
-        text of its dump with the compiler's. Raises `ScoreError` where its headers are not whole,
-        and `ValueError` for limits that are out of range."""
+        """Reads a score, under the default limits if none are given, and compares the canonical
+        text of its dump with the compiler's. Raises `ScoreError` if its headers are not whole,
+        and `ValueError` for limits out of range."""
         data = bytes(bytes_of(score))
         dump = _compiled(data, Format.DUMP, limits)
         messages = dump.messages

@@ -1,4 +1,4 @@
-"""Changes of a score that keep its file: what is not changed stays character for character.
+"""Changes of a score that keep the rest of its file character for character.
 
 >>> from gregorio_chant.dump import Score
 >>> score = Score.parse("name: Kyrie;\\n%%  the simple tone\\n(c4)  Ky(f)ri(gfg)")
@@ -29,7 +29,7 @@ _SCORE_LINE = re.compile("(?:^|[\r\n])(\ufeff*)%\ufeff*%")
 
 
 class EditError(ValueError):
-    """A change that is not made: `source` is where it cannot be made, and `reason` says why."""
+    """A change that cannot be made: `source` is its place, and `reason` says why."""
 
     def __init__(self, source: Source, reason: str) -> None:
         super().__init__(f"{source}: {reason}")
@@ -65,7 +65,7 @@ class Edited:
     changes themselves, so that calls can be joined."""
 
     def __init__(self, score: Score) -> None:
-        """Takes a score. Raises `EditError` where a fatal fault stops it."""
+        """Takes a score. Raises `EditError` if it has a fatal fault."""
         self._score = score
         self._changes: list[Change] = []
         found = _LINE_END.search(score.text)
@@ -82,9 +82,8 @@ class Edited:
         return EditError(Source(Place(offset, fault.line, fault.column), ""), f"the score is not whole: {fault.code}: {fault.text}")
 
     def replace(self, item: Item, text: str) -> Edited:
-        """Writes `text` in the place of `item`. Raises `EditError` where that would end what the
-        item stands in, or where another change overlaps, and `ValueError` for an object of
-        another score."""
+        """Replaces `item` by `text`. Raises `EditError` if the text would end the snippet of the
+        item, or if another change overlaps, and `ValueError` for an object of another score."""
         source = self._source_of(item)
         begin, end, written, written_end = source.place.offset, source.end, item.place.offset, item.place.offset + len(item.spelling)
         if isinstance(item, Header) and not text:
@@ -128,9 +127,9 @@ class Edited:
         return self
 
     def text(self) -> str:
-        """Returns the file with these changes. Raises `EditError` where the compiler would read
-        something otherwise that was not changed, would leave out something of a new text, or where
-        the neumes of NABC would lose their note."""
+        """Returns the file with these changes. Raises `EditError` if the compiler would read
+        an unchanged part differently or leave out a part of a new text, or if neumes of NABC would
+        lose their note."""
         from gregorio_chant.verdict import look_at
 
         text = _applied(self._score.text, [(it.begin, it.end, it.text) for it in self._changes])

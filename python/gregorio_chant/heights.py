@@ -9,8 +9,8 @@ from gregorio_chant.items import Note
 
 @dataclass(frozen=True, slots=True)
 class Interval:
-    """How far it is up from one note to another, below 0 for down: `steps` from degree to degree,
-    and `semitones` with what alters both notes."""
+    """The distance from one note up to another, below 0 for down: `steps` from degree to degree,
+    and `semitones` with the alterations of both notes."""
 
     steps: int
     semitones: int
@@ -25,8 +25,8 @@ class Range:
 
 
 def interval(first: Note, second: Note) -> Interval | None:
-    """Returns how far it is from `first` up to `second`; nothing where one of them stands before
-    any clef."""
+    """Returns the distance from `first` up to `second`; `None` if one of them comes before any
+    clef."""
     if first.step is None or second.step is None or first.semitones is None or second.semitones is None:
         return None
     return Interval(second.step - first.step, second.semitones - first.semitones)
@@ -38,8 +38,8 @@ def intervals(notes: Sequence[Note]) -> tuple[Interval | None, ...]:
 
 
 def range_of(notes: Iterable[Note]) -> Range | None:
-    """Returns the lowest and the highest of the notes; nothing where all stand before any clef, or
-    there are none."""
+    """Returns the lowest and the highest of the notes; `None` if all come before any clef, or there
+    are no notes."""
     by_height = [(it.semitones, it) for it in notes if it.semitones is not None]
     if not by_height:
         return None

@@ -39,10 +39,10 @@ MARKUP = re.compile(r"\$(?P<escaped>.)|<sp>(?P<special>.*?)</sp>|<(?P<raw>v|alt)
 
 
 class Sources(Protocol):
-    """Where items stand in the file that was read."""
+    """The places of items in the file."""
 
     def of(self, item: Item) -> Source:
-        """Returns where `item` stands in the file, and how it is spelled there."""
+        """Returns the place and the spelling of `item` in the file."""
 
 
 @dataclass(frozen=True, slots=True)
@@ -88,13 +88,13 @@ class Clef(Item):
         return Clef(Place(self.place.offset + at, self.place.line, self.place.column + at), second, _sources=self._sources)
 
     def step(self, height: int) -> int:
-        """Returns the step of what stands at this height."""
+        """Returns the step of a note at this height."""
         return height - 2 * self.line - 1 + _CLEF_STEPS[self.letter]
 
 
 @dataclass(frozen=True, slots=True)
 class Note(Item):
-    """A note. `pitch` is its small letter, `degree` how it sounds (`None` before any clef),
+    """A note. `pitch` is its small letter, `degree` its degree (`None` before any clef),
     `alteration` one of none, flat, natural, sharp; `clef` is the one in force."""
 
     pitch: str
@@ -110,13 +110,13 @@ class Note(Item):
 
     @property
     def step(self) -> int | None:
-        """How many degrees it stands above the ut an octave below that of a c clef: 7 is what a c
-        clef stands for, and 3 what an f clef does. `None` before any clef."""
+        """The number of degrees above the ut an octave below that of a c clef: 7 on the line of a c
+        clef, 3 on that of an f clef. `None` before any clef."""
         return None if self.clef is None else self.clef.step(self.height)
 
     @property
     def semitones(self) -> int | None:
-        """The same in semitones, with what alters it."""
+        """The same in semitones, with its alteration."""
         step = self.step
         return None if step is None else 12 * (step // 7) + _SEMITONES[step % 7] + _ALTERED[self.alteration]
 
@@ -267,7 +267,7 @@ class Break(Item):
 
 @dataclass(frozen=True, slots=True)
 class Attribute(Item):
-    """An attribute; `raw` is what stands between its brackets."""
+    """An attribute; `raw` is the text between its brackets."""
 
     raw: str
 
@@ -296,8 +296,8 @@ class NabcGlyph(NabcPart):
 
 @dataclass(frozen=True, slots=True)
 class NabcPoints(NabcPart):
-    """Points after a glyph, `su`, or before it, `pp`: `letter` says which, and is empty where none
-    stands; `count` is how many they are."""
+    """Points after a glyph, `su`, or before it, `pp`: `letter` is their kind, and may be empty;
+    `count` is their number."""
 
     kind: str
     letter: str
@@ -439,7 +439,7 @@ def header_spelling(name: str, value: str) -> str:
 
 
 def special_character(name: str) -> str:
-    """Returns what the special character `name` of the manual looks like; one that is not known is its own name."""
+    """Returns the text of the special character `name` of the manual; an unknown one is its own name."""
     return _SPECIAL.get(name, name)
 
 

@@ -1,4 +1,4 @@
-"""Calls the library for C on whole scores. What that answers is proved; everything else in this package is only tested."""
+"""Calls the library for C on whole scores. The answers of the library are proved; the rest of this package is tested."""
 from __future__ import annotations
 
 import ctypes
@@ -16,7 +16,7 @@ LEAST = 4096
 
 
 class Lengths(ctypes.Structure):
-    """How many bytes the output and the messages have."""
+    """The lengths of the output and of the messages, in bytes."""
 
     _fields_ = [("output", ctypes.c_size_t), ("messages", ctypes.c_size_t)]
 
@@ -66,9 +66,9 @@ def _call(data: Borrowed, format: Format, all_warnings: bool, output: Room, mess
 def compile(score: str | bytes | bytearray | memoryview, format: str | Format = Format.GABC, *, all_warnings: bool = True) -> Result:
     """Compiles `score` under the default limits.
 
-    `format` is `"gabc"` for canonical GABC or `"dump"`. Warnings are told if `all_warnings` are wanted. A score that is a `str` is read as
-    its UTF-8. Raises `TypeError` for a score that is neither `str` nor bytes and for `all_warnings` that are no `bool`, `ValueError` for another
-    format, and `MemoryError` where there is not enough memory. While it reads, other threads run; they must not change a `bytearray` that is read.
+    `format` is `"gabc"` for canonical GABC or `"dump"`. `all_warnings` says whether warnings are reported. A `str` is encoded as UTF-8. Raises
+    `TypeError` if the score is neither `str` nor bytes, or `all_warnings` is no `bool`; `ValueError` for another format; and `MemoryError` if memory
+    runs out. While it reads, other threads run; they must not change a `bytearray` that is being read.
 
     >>> compile("%%\\nA(f)", all_warnings=False).canonical
     '%%\\nA(f)\\n'
@@ -86,7 +86,7 @@ def compile(score: str | bytes | bytearray | memoryview, format: str | Format = 
 
 
 def check(score: str | bytes | bytearray | memoryview, *, all_warnings: bool = True) -> Report:
-    """Reads `score` as `compile` does, and returns its status and messages alone.
+    """Reads `score` as `compile` does, and returns only its status and messages.
 
     >>> check("%%\\nA(&)", all_warnings=False).messages
     (Message(line=2, column=3, kind=<Kind.ERROR: 'error'>, code='E1', text='character left out of the notes'),)

@@ -115,6 +115,6 @@ def _divided(syllables: Sequence[Syllable], kinds: Collection[str] | None) -> It
 
 
 def phrases_of(syllables: Sequence[Syllable], kinds: Collection[str] | None = None) -> tuple[Phrase, ...]:
-    """Returns what stands between bars of these kinds, or of any kind where none are given, if
-    there is a note or a word in it."""
+    """Returns the music between bars of these kinds, or of any kind if none are given, if it has a
+    note or a word."""
     return tuple(it for it in _divided(syllables, kinds) if it.notes or _has_letters(it.text))

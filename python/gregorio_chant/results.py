@@ -1,4 +1,4 @@
-"""What the compiler answers of a score: messages, a status, and the output."""
+"""The results of the compiler: messages, a status, and the output."""
 from __future__ import annotations
 
 import enum
@@ -8,14 +8,14 @@ from dataclasses import dataclass, field
 
 
 class Format(enum.Enum):
-    """What a score is compiled to."""
+    """The format of the output."""
 
     GABC = "gabc"
     DUMP = "dump"
 
 
 class Kind(enum.Enum):
-    """How grave a message is."""
+    """The severity of a message."""
 
     WARNING = "warning"
     ERROR = "error"
@@ -23,8 +23,8 @@ class Kind(enum.Enum):
 
 
 class Status(enum.IntEnum):
-    """How a score was read: to its end without an error, to its end with errors, up to a fatal fault, or, by `Run.broken`, up to where its
-    source failed."""
+    """The status of a score: read to its end without an error, read to its end with errors, read up to a fatal fault, or, by `Run.broken`, up to the
+    failure of its source."""
 
     WHOLE = 0
     ERRORS = 1
@@ -37,7 +37,7 @@ class StateError(ValueError):
 
 
 class RunOverError(RuntimeError):
-    """A run that is over was to go on."""
+    """A call of a run that is over."""
 
 
 @dataclass(frozen=True)
@@ -55,7 +55,7 @@ _LINE = re.compile(r"<stdin>:(\d+):(\d+): (warning|error|fatal): (\w+): (.*)\n")
 
 
 def messages_of(text: str) -> tuple[Message, ...]:
-    """Returns the messages that the lines of `text` tell, with no list of the lines. Raises `ValueError` for a line that is none."""
+    """Returns the messages in the lines of `text`. Raises `ValueError` for a line that is no message."""
     messages = []
     start = 0
     while start < len(text):
@@ -69,7 +69,7 @@ def messages_of(text: str) -> tuple[Message, ...]:
 
 @dataclass(frozen=True)
 class Result:
-    """What is made of a score. It can be iterated over: its messages, in the order of their places."""
+    """The result of `compile`. Iterating over it yields its messages, in the order of their places."""
 
     output: str = field(repr=False)
     status: Status
@@ -78,12 +78,12 @@ class Result:
 
     @property
     def canonical(self) -> str:
-        """The canonical GABC, where that format was asked for."""
+        """The canonical GABC, if that is the format."""
         return self._output_as(Format.GABC)
 
     @property
     def dump(self) -> str:
-        """The dump, where that format was asked for."""
+        """The dump, if that is the format."""
         return self._output_as(Format.DUMP)
 
     @property
@@ -102,8 +102,8 @@ class Result:
 
 @dataclass(frozen=True)
 class Step:
-    """What became known with a piece of a run, or at its end. The status is `None` as long as the run goes on. It can be iterated over: its
-    messages, in the order of their places."""
+    """The result of a step of a run. The status is `None` until the run ends. Iterating over it yields its messages, in the order of their
+    places."""
 
     output: str = field(repr=False)
     status: Status | None
@@ -120,7 +120,7 @@ class Step:
 
 @dataclass(frozen=True)
 class Report:
-    """What was found in a score, without an output."""
+    """The result of `check`."""
 
     status: Status
     messages: tuple[Message, ...]

@@ -1,4 +1,4 @@
-"""Runs: scores that come in pieces, whose state between two pieces is bytes."""
+"""Runs: scores in pieces. Between two pieces the state of a run is bytes."""
 from __future__ import annotations
 
 import ctypes
@@ -58,7 +58,7 @@ class Limits:
         return (_Options * 1)(_Options(*astuple(self), 0, new_key()))
 
     def _bound(self) -> int:
-        """Returns how many bytes a state has at most. Raises `ValueError` where a limit is out of
+        """Returns the largest length of a state, in bytes. Raises `ValueError` if a limit is out of
         range."""
         bound: int = LIBRARY.gregorio_state_bound(self._options(), 1) if all(0 <= it <= _MOST for it in astuple(self)) else 0
         if not bound:
@@ -76,10 +76,10 @@ class _Source(Protocol):
 
 
 def pieces(file: _Source, size: int = 1 << 16) -> Iterator[memoryview]:
-    """Yields what stands in the binary `file`, in pieces of at most `size` bytes. Each is lent until the next one is read, and copied nowhere.
+    """Yields the bytes of the binary `file`, in pieces of at most `size` bytes. A piece is valid until the next one is read; it is not copied.
 
-    Of a pipe or a connection that was opened with a buffer a piece is what has come; no piece is waited for until it is full. Raises
-    `ValueError` for a size below 1, and `BlockingIOError` where a file that does not wait has nothing yet.
+    For a pipe or a connection with a buffer, a piece is whatever has arrived, full or not. Raises `ValueError` for a size below 1, and
+    `BlockingIOError` if a file that does not block has nothing yet.
     """
     if size < 1:
         raise ValueError(f"a piece of {size} bytes")
@@ -95,7 +95,7 @@ def pieces(file: _Source, size: int = 1 << 16) -> Iterator[memoryview]:
 
 
 def _raise_where_wrong(answer: int) -> None:
-    """Raises what stands for a step that was not made."""
+    """Raises the error of a step that was not made."""
     if answer == NO_MEMORY:
         raise MemoryError("not enough memory for the next step of the run")
     if answer == _NO_STATE:
@@ -105,7 +105,7 @@ def _raise_where_wrong(answer: int) -> None:
 
 
 class Run:
-    """A run over a score that comes in pieces, under the usual limits where none are given.
+    """A run over a score in pieces, under the default limits if none are given.
 
     The outputs of all steps joined, and their messages joined, are those of one `compile` over the whole score, and so is the last status.
     `format` and `all_warnings` are as for `compile`. A run holds nothing but its state, and need not be closed. One thread at a time may feed a
@@ -125,8 +125,7 @@ class Run:
     """
 
     def __init__(self, format: str | Format = Format.GABC, *, all_warnings: bool = True, limits: Limits = USUAL) -> None:
-        """Begins a run. Raises `ValueError` for another format and for limits that are out of
-        range."""
+        """Begins a run. Raises `ValueError` for another format and for limits out of range."""
         self._format = Format(format)
         self._all_warnings = truth("all_warnings", all_warnings)
         self._limits, self._bound = limits, limits._bound()
@@ -142,12 +141,10 @@ class Run:
     def restore(
         cls, state: bytes | bytearray | memoryview, format: str | Format = Format.GABC, *, all_warnings: bool = True, limits: Limits = USUAL,
     ) -> Run:
-        """Returns a run that goes on from `state`, in this process or another than that which saved
-        it.
+        """Returns a run that goes on from `state`, in the same process or another.
 
-        Raises `TypeError` for a state that is not bytes, and `StateError`, a `ValueError`, for bytes
-        that are no state, and for the state of a run with another format, other warnings or other
-        limits.
+        Raises `TypeError` if the state is not bytes, and `StateError`, a `ValueError`, if the bytes are
+        no state, or are the state of a run with another format, other warnings or other limits.
         """
         if not isinstance(state, (bytes, bytearray, memoryview)):
             raise TypeError(f"a state is bytes, not {type(state).__name__}")
@@ -158,7 +155,7 @@ class Run:
 
     @property
     def state(self) -> bytes:
-        """The state: all that a later process needs to go on, besides the format and the warnings. Raises `RunOverError` after the end."""
+        """The state. With it, the format, the warnings and the limits another process can go on. Raises `RunOverError` after the end."""
         self._look_whether_over()
         return self._state
 
@@ -168,10 +165,10 @@ class Run:
         return self._status
 
     def feed(self, piece: bytes | bytearray | memoryview) -> Step:
-        """Reads `piece`, of any length, and returns what became known. Its status is `None`, or `Status.FATAL` where a fatal fault ended the run.
+        """Reads `piece`, of any length, and returns the new output and messages. The status is `None`, or `Status.FATAL` if a fatal fault ended the run.
 
-        Raises `RunOverError` where the run is over, `TypeError` for a piece that is not bytes, and `MemoryError` where there is not enough
-        memory. The run is as it was before then, and can be fed again.
+        Raises `RunOverError` if the run is over, `TypeError` if the piece is not bytes, and `MemoryError` if memory runs out. Then the run is as it was
+        before, and can be fed again.
         """
         self._look_whether_over()
         if not isinstance(piece, (bytes, bytearray, memoryview)):
@@ -189,12 +186,12 @@ class Run:
         return self._finish(_end)
 
     def broken(self) -> Step:
-        """Ends the run where the source of its input failed: the status is `Status.BROKEN`, unless a fatal fault was found."""
+        """Ends a run whose source failed: the status is `Status.BROKEN`, unless there was a fatal fault."""
         return self._finish(_broken)
 
     def steps(self, pieces: Iterable[bytes | bytearray | memoryview]) -> Iterator[Step]:
-        """Yields what becomes known with each of `pieces`, and at their end, or up to a fatal fault. Where reading a piece fails, that is
-        raised: the run goes on then, and can be ended by `broken`."""
+        """Yields a step for each of `pieces` and one for their end, or the steps up to a fatal fault. If reading a piece fails, its error is
+        raised; the run is not over then, and can be ended by `broken`."""
         for piece in pieces:
             step = self.feed(piece)
             yield step
@@ -203,7 +200,7 @@ class Run:
         yield self.end()
 
     def _what(self) -> tuple[int, int, ctypes.Array[_Options], int]:
-        """Returns what each step is told: format, flags, limits and a new key."""
+        """Returns the arguments of each step: format, flags, limits and a new key."""
         return NUMBERS[self._format], int(self._all_warnings), self._limits._options(), 1
 
     def _look_whether_over(self) -> None:

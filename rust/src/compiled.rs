@@ -6,7 +6,7 @@ use crate::library::{self, Lengths};
 use crate::run::Run;
 use crate::texts::Texts;
 
-/// What is made of a score.
+/// The result of [`compile`].
 #[derive(Clone, Debug, PartialEq, Eq)]
 pub struct Compiled {
     /// The output.
@@ -21,7 +21,7 @@ pub struct Compiled {
 ///
 /// # Errors
 ///
-/// [`Error::NoMemory`], and [`Error::Limits`] where a limit of the job is out of range.
+/// [`Error::NoMemory`], and [`Error::Limits`] if a limit of the job is out of range.
 pub fn compile(score: impl AsRef<[u8]>, job: &Job) -> Result<Compiled, Error> {
     let score = score.as_ref();
     if job.limits != Limits::default() {

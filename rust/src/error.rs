@@ -1,4 +1,4 @@
-//! Why a call did nothing, and how a score was read.
+//! Errors and statuses.
 
 use crate::library;
 use std::fmt;
@@ -17,7 +17,7 @@ pub enum Status {
     Broken,
 }
 
-/// Why a call did nothing. What it was called on is as it was before.
+/// The error of a call that did nothing: its arguments are unchanged.
 #[derive(Clone, Copy, Debug, PartialEq, Eq, Hash)]
 #[non_exhaustive]
 pub enum Error {
@@ -31,7 +31,7 @@ pub enum Error {
     OtherState,
     /// The run is over: a fatal fault ended it.
     Over,
-    /// The library answered this, which no library of this version answers.
+    /// The library returned this number, which no library of this version returns.
     Library(u32),
 }
 
@@ -63,7 +63,7 @@ impl From<Error> for io::Error {
     }
 }
 
-/// Returns the status with this number, or the error that it stands for.
+/// Returns the status or the error with this number.
 pub(crate) fn status_of(answer: u32) -> Result<Status, Error> {
     match answer {
         library::WHOLE => Ok(Status::Whole),

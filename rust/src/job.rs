@@ -1,6 +1,6 @@
-//! What is to be done.
+//! Jobs.
 
-/// What a score is compiled to.
+/// The format of the output.
 #[derive(Clone, Copy, Debug, Default, PartialEq, Eq, Hash)]
 pub enum Format {
     /// Canonical GABC: one fixed spelling.
@@ -10,29 +10,29 @@ pub enum Format {
     Dump,
 }
 
-/// Whether warnings are told beside errors and fatal faults.
+/// Whether warnings are reported, beside errors and fatal faults.
 #[derive(Clone, Copy, Debug, Default, PartialEq, Eq, Hash)]
 pub enum Warnings {
-    /// They are told.
+    /// They are reported.
     #[default]
     Told,
     /// They are not.
     Untold,
 }
 
-/// How many bytes may be read.
+/// Limits in bytes.
 #[derive(Clone, Copy, Debug, PartialEq, Eq, Hash)]
 pub struct Limits {
-    /// How many bytes the headers may have: 64 to 16,777,216.
+    /// The limit of all headers: 64 to 16,777,216.
     pub header: u32,
-    /// How many bytes a syllable may have: 64 to 16,777,216.
+    /// The limit of a syllable: 64 to 16,777,216.
     pub syllable: u32,
-    /// How many bytes the whole input may have: at least 64.
+    /// The limit of the whole input: at least 64.
     pub input: u32,
 }
 
 impl Default for Limits {
-    /// Returns the usual limits: 65,536 bytes of headers, 16,384 of a syllable, 4,294,967,295 of input.
+    /// Returns the default limits: 65,536 bytes of headers, 16,384 of a syllable, 4,294,967,295 of input.
     fn default() -> Limits {
         Limits {
             header: 65_536,
@@ -42,13 +42,13 @@ impl Default for Limits {
     }
 }
 
-/// What is to be done with a score. The default is canonical GABC, with warnings, under the usual limits.
+/// The options of a call or a run. The default is canonical GABC, with warnings, under the default limits.
 #[derive(Clone, Copy, Debug, Default, PartialEq, Eq, Hash)]
 pub struct Job {
-    /// What the score is compiled to.
+    /// The format of the output.
     pub format: Format,
-    /// Whether warnings are told.
+    /// Whether warnings are reported.
     pub warnings: Warnings,
-    /// How many bytes may be read.
+    /// The limits.
     pub limits: Limits,
 }

@@ -1,8 +1,8 @@
 //! Reads Gregorian chant scores in GABC, with unheighted neumes in NABC, by a proved compiler.
 //!
-//! [`compile`] takes a score in memory, [`messages`] tells what is found in it, and a [`Run`] takes a score in pieces. The crate stands over the C library
-//! `libgregorio.a`, which `tools/build_c` of the project makes; its folder is named by the environment variable `GREGORIO_LIBRARY` when the crate is
-//! built. What the library answers is proved. This crate is only tested.
+//! [`compile`] takes a score in memory, [`messages`] returns only its messages, and a [`Run`] takes a score in pieces. The crate links the C library
+//! `libgregorio.a`, which `tools/build_c` of the project makes; the environment variable `GREGORIO_LIBRARY` names its folder at build time. The answers of
+//! the library are proved; this crate is tested.
 //!
 //! ```
 //! use gregorio_chant::{compile, Job, Status};
@@ -31,7 +31,7 @@ pub use job::{Format, Job, Limits, Warnings};
 pub use message::{messages, Code, Message, Messages, NoCode, Severity};
 pub use run::{Run, Step};
 
-/// Returns the version of the library that is linked. That of this crate is the same where both come from one build.
+/// Returns the version of the linked library. It is that of this crate if both come from one build.
 #[must_use]
 pub fn version() -> &'static str {
     library::version().to_str().unwrap_or_default()

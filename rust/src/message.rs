@@ -7,23 +7,23 @@ use crate::texts::filled;
 use std::fmt;
 use std::str::FromStr;
 
-/// How grave a message is.
+/// The severity of a message.
 #[derive(Clone, Copy, Debug, PartialEq, Eq, PartialOrd, Ord, Hash)]
 pub enum Severity {
-    /// Something looks like a slip.
+    /// Something looks like a mistake.
     Warning,
     /// Something was left out.
     Error,
-    /// Nothing after it was read.
+    /// The reading stopped here.
     Fatal,
 }
 
-/// The code of a message, as `E1`. [`Code::number`] is the one by which C knows it.
+/// The code of a message, such as `E1`. [`Code::number`] is its number in C.
 #[derive(Clone, Copy, Debug, PartialEq, Eq, PartialOrd, Ord, Hash)]
 pub struct Code(u32);
 
 impl Code {
-    /// Returns 101 to 106 for E1 to E6, 201 to 212 for W1 to W12, 301 to 307 for F1 to F7. A code keeps its number.
+    /// Returns 101 to 106 for E1 to E6, 201 to 212 for W1 to W12, 301 to 307 for F1 to F7. The number of a code never changes.
     #[must_use]
     pub fn number(self) -> u32 {
         self.0
@@ -33,7 +33,7 @@ impl Code {
 /// The kinds of codes: their letter, what their numbers begin with for C, and how many there are.
 const KINDS: [(char, u32, u32); 3] = [('E', 100, 6), ('W', 200, 12), ('F', 300, 7)];
 
-/// A text is no code of this version.
+/// The error for a text that is no code of this version.
 #[derive(Clone, Copy, Debug, PartialEq, Eq, Hash)]
 pub struct NoCode;
 
@@ -48,7 +48,7 @@ impl std::error::Error for NoCode {}
 impl FromStr for Code {
     type Err = NoCode;
 
-    /// Reads a code as it is written in messages.
+    /// Reads a code as messages have it.
     ///
     /// # Errors
     ///
@@ -83,9 +83,9 @@ pub struct Message {
     pub line: u64,
     /// The column in characters, from 1.
     pub column: u64,
-    /// How grave it is.
+    /// Its severity.
     pub severity: Severity,
-    /// What it tells.
+    /// Its code.
     pub code: Code,
 }
 
@@ -147,7 +147,7 @@ fn message_of(record: &Record) -> Message {
     }
 }
 
-/// Reads `score` under the usual limits, and returns its messages and its status alone.
+/// Reads `score` under the default limits, and returns only its messages and its status.
 ///
 /// # Errors
 ///

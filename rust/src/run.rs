@@ -1,11 +1,11 @@
-//! Runs: scores that come in pieces.
+//! Runs: scores in pieces.
 
 use crate::error::{status_of, Error, Status};
 use crate::job::Job;
 use crate::library::{self, Lengths};
 use crate::texts::{filled, Texts};
 
-/// What became known with a piece of a run, or at its end.
+/// The result of a step of a run.
 #[derive(Clone, Debug, PartialEq, Eq)]
 pub struct Step {
     /// Whole syllables of the output.
@@ -16,11 +16,10 @@ pub struct Step {
     pub status: Option<Status>,
 }
 
-/// A run over a score that comes in pieces.
+/// A run over a score in pieces.
 ///
 /// The outputs of all steps joined, and their messages joined, are those of one [`compile`](crate::compile) over the whole score, and so is the last
-/// status. What a run knows between two pieces is a state of bytes: they can be kept in a file, and a run of the same job goes on from them in
-/// another process.
+/// status. Between two pieces the state of a run is bytes: you can keep them in a file, and go on from them in another process, with the same job.
 ///
 /// # Examples
 ///
@@ -54,7 +53,7 @@ impl Run {
     ///
     /// # Errors
     ///
-    /// [`Error::Limits`] where a limit is out of range, and [`Error::NoMemory`].
+    /// [`Error::Limits`] if a limit is out of range, and [`Error::NoMemory`].
     pub fn new(job: Job) -> Result<Run, Error> {
         let mut run = Run {
             job,
@@ -74,7 +73,7 @@ impl Run {
     ///
     /// # Errors
     ///
-    /// [`Error::NoState`] where the bytes are no state, whoever wrote them; [`Error::OtherState`] where they are that of another job;
+    /// [`Error::NoState`] if the bytes are no state, whoever wrote them; [`Error::OtherState`] if they are the state of another job;
     /// [`Error::Limits`] and [`Error::NoMemory`].
     pub fn restore(job: Job, state: &[u8]) -> Result<Run, Error> {
         let mut run = Run::new(job)?;
@@ -88,23 +87,23 @@ impl Run {
         Ok(run)
     }
 
-    /// Returns what is to be done.
+    /// Returns the job.
     #[must_use]
     pub fn job(&self) -> &Job {
         &self.job
     }
 
-    /// Returns the state: with the job all that a later process needs to go on. Once a fatal fault has ended the run, there is none: it is empty.
+    /// Returns the state. With it and the job another process can go on. It is empty after a fatal fault.
     #[must_use]
     pub fn state(&self) -> &[u8] {
         &self.state[..self.length]
     }
 
-    /// Reads `piece`, of any length, and returns what became known. Its status is `None`, or [`Status::Fatal`] where a fatal fault ended the run.
+    /// Reads `piece`, of any length, and returns the new output and messages. The status is `None`, or [`Status::Fatal`] if a fatal fault ended the run.
     ///
     /// # Errors
     ///
-    /// [`Error::Over`] after a fatal fault, and [`Error::NoMemory`]; the run is as it was then, and can be fed again.
+    /// [`Error::Over`] after a fatal fault, and [`Error::NoMemory`]; then the run is as it was, and can be fed again.
     pub fn feed(&mut self, piece: &[u8]) -> Result<Step, Error> {
         if self.is_over {
             return Err(Error::Over);
@@ -134,7 +133,7 @@ impl Run {
         }
     }
 
-    /// Returns what the end of the input gives here: the last output and messages, and how the whole score was read. The run stays as it is, and may
+    /// Returns the result of an end of the input here: the last output and messages, and the status of the whole score. The run stays as it is, and may
     /// be fed further.
     ///
     /// # Errors
@@ -144,8 +143,8 @@ impl Run {
         self.finish(false)
     }
 
-    /// Returns what a source that fails here gives: as [`Run::end`], but what is unfinished is not written, and the status is [`Status::Broken`] unless a
-    /// fatal fault was found.
+    /// Returns the result of a failure of the source here. It is that of [`Run::end`] without an unfinished part, and the status is [`Status::Broken`]
+    /// unless there was a fatal fault.
     ///
     /// # Errors
     ///

@@ -1,11 +1,10 @@
-"""A score as a picture: what was read, as singers read it, with its messages in their places.
+"""A score as a picture, as singers read it, with its messages in their places.
 
 >>> svg = picture("name: Kyrie;\\n%%\\n(c4) Ky(f)ri(gfg)e(e.) (::)")
 >>> svg.startswith("<svg "), svg.count("<g id=")
 (True, 5)
 
-It is a view of what was read, and no typesetting. It stands outside the proof, and only its
-tests show what it draws.
+It shows only what was read, and is no typesetting. It is tested, not proved.
 """
 from __future__ import annotations
 

@@ -29,8 +29,8 @@ _NO_SCORE = "Nothing of this score was read."
 
 @dataclass(frozen=True)
 class Picture:
-    """A picture of a score, with what it is about. `pieces` are its SVG, in order; `places` has
-    the id of the element where each message stands, by its number from 1."""
+    """A picture of a score. `pieces` are its SVG, in order; `places` has the id of the element of
+    each message, by the number of the message from 1."""
 
     name: str
     messages: tuple[Message, ...]
@@ -43,8 +43,8 @@ class Picture:
 
 
 def draw(data: bytes, messages: Sequence[Message] | None = None, *, look: Look | None = None, names: Names = Names()) -> Picture:
-    """Returns a picture of a score that looks so, with these messages: all of the compiler's if none
-    are given."""
+    """Returns a picture of a score, with these messages. If none are given, it has all of the
+    compiler's."""
     told = tuple(library.check(data).messages if messages is None else messages)
     dump = library.compile(data, Format.DUMP).output
     with _uncollected():

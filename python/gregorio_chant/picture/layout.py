@@ -88,7 +88,7 @@ class Layout:
 
     @property
     def not_drawn(self) -> str:
-        """A note on what is not drawn; nothing where all is."""
+        """A note on signs that are not drawn; empty if all are."""
         things = [counted(self.attributes, "attribute")] if self.attributes else []
         things += [f"{counted(self.raw, 'part')} of raw TeX"] if self.raw else []
         return f"Not drawn: {' and '.join(things)}." if things else ""
