@@ -75,11 +75,11 @@ _ALL = (
         misspelled_header, "moed: 7;", "mode: 7;", _BEGUN, _BODY,
     ),
     Rule(
-        "blank-before-notes", "A blank stands between a word and the ( of its notes. GregorioTeX sets it as part of the text. Remove it.",
+        "blank-before-notes", "There is a blank between a word and the ( of its notes. GregorioTeX sets it as part of the text. Remove it.",
         blank_before_notes, "Ky (f)ri(g)", "Ky(f)ri(g)",
     ),
     Rule(
-        "late-punctuation", "A comma or another sign of punctuation stands after the notes of its word. Write it before their (.",
+        "late-punctuation", "A comma or another sign of punctuation follows the notes of its word. Write it before their (.",
         late_punctuation, "Ky(f)ri(g)e(h), (;)", "Ky(f)ri(g)e,(h) (;)",
     ),
     Rule(

@@ -57,7 +57,7 @@ def nabc_without_header(subject: Subject) -> Iterator[Found]:
         return
     after = nabc_after_bars(subject)
     if after:
-        where = f"a | stands in the notes of {counted(len(after), 'syllable')}, and there is no header nabc-lines"
+        where = f"there is a | in the notes of {counted(len(after), 'syllable')}, but no header nabc-lines"
         yield Found(after[0][0], f"{where}: what follows it is not read. Write nabc-lines: 1; before the %%")
 
 

@@ -45,7 +45,7 @@ def blank_before_notes(subject: Subject) -> Iterator[Found]:
         word = text[it.begin : it.notes].rstrip(" \t\n")
         begin = it.begin + len(word)
         if begin < it.notes < it.end and _TAG.sub("", word).strip(" \t\n") and "%" not in word:
-            yield Found(begin, "a blank stands between a word and its notes: the compiler drops it")
+            yield Found(begin, "there is a blank between a word and its notes: the compiler drops it")
 
 
 def unknown_special(subject: Subject) -> Iterator[Found]:
@@ -64,7 +64,7 @@ def asterisk_without_bar(subject: Subject) -> Iterator[Found]:
         after = syllables[number + 1 :]
         if after and not _begins_with_bar(after[0]) and _bar_after_word(after):
             at = max(syllable.text.find("*"), 0)
-            yield subject.found(syllable, "no bar follows this asterisk, and one stands after the next word", at)
+            yield subject.found(syllable, "no bar follows this asterisk, but one follows the next word", at)
 
 
 def _has_bar(syllable: Syllable) -> bool:
@@ -110,7 +110,7 @@ def mode_without_number(subject: Subject) -> Iterator[Found]:
 def late_punctuation(subject: Subject) -> Iterator[Found]:
     for it in subject.score.syllables:
         if not it.begins_word and it.plain.startswith(_PUNCTUATION):
-            yield subject.found(it, f"'{it.plain[0]}' stands after the notes of its word: write it before their (")
+            yield subject.found(it, f"'{it.plain[0]}' follows the notes of its word: write it before their (")
 
 
 def missing_blank(subject: Subject) -> Iterator[Found]:
@@ -118,7 +118,7 @@ def missing_blank(subject: Subject) -> Iterator[Found]:
     for it in subject.score.syllables:
         is_inside = before is not None and not it.begins_word and bool(before.notes)
         if is_inside and before is not None and _ENDS_SENTENCE.match(before.plain) and it.plain[:1].isalpha():
-            yield subject.found(it, f"no blank stands between '{before.plain.strip()}' and '{it.plain.strip()}', so both are one word: write one after the )")
+            yield subject.found(it, f"there is no blank between '{before.plain.strip()}' and '{it.plain.strip()}', so both are one word: write a blank after the )")
         before = it
 
 
@@ -126,7 +126,7 @@ def bar_as_text(subject: Subject) -> Iterator[Found]:
     for it in subject.comparison.source.syllables:
         found = _BAR_AS_TEXT.match(subject.comparison.lines.text, it.begin, it.notes)
         if found is not None:
-            yield Found(found.start(1), f"'{found[1]}' stands alone as text: did you mean the bar ({found[1]})?")
+            yield Found(found.start(1), f"'{found[1]}' is alone in a text: did you mean the bar ({found[1]})?")
 
 
 # ---- words
@@ -144,7 +144,7 @@ def html_entity(subject: Subject) -> Iterator[Found]:
         for it in ENTITY.finditer(subject.comparison.lines.text, syllable.begin, syllable.notes):
             character = html.unescape(it[0])
             if character != it[0]:
-                yield Found(it.start(), f"{it[0]} is a name of HTML, and is sung as it stands: write {character}")
+                yield Found(it.start(), f"{it[0]} is a name of HTML, and is sung letter for letter: write {character}")
 
 
 def syllable_without_notes(subject: Subject) -> Iterator[Found]:

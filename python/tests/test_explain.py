@@ -93,8 +93,8 @@ class Command(unittest.TestCase):
         """The page of a rule says why, what is wrong and right, and how to silence it."""
         shown = command("explain", "late-punctuation").stdout.decode()
         self.assertEqual(shown, (
-            "late-punctuation: warning, by check --rules alone\n\nA comma or another sign of punctuation stands after the notes of its word. Write\n"
-            "it before their (.\n\nWrong:\n    Ky(f)ri(g)e(h), (;)\n\nRight:\n    Ky(f)ri(g)e,(h) (;)\n\nSilence it, on its line or in the whole score:\n"
+            "late-punctuation: warning, by check --rules alone\n\nA comma or another sign of punctuation follows the notes of its word. Write it\n"
+            "before their (.\n\nWrong:\n    Ky(f)ri(g)e(h), (;)\n\nRight:\n    Ky(f)ri(g)e,(h) (;)\n\nSilence it, on its line or in the whole score:\n"
             "    % gregorio: ignore late-punctuation\n    % gregorio: ignore-file late-punctuation\n"
         ))
         for rule in RULES.values():

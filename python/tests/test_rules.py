@@ -105,7 +105,7 @@ class Rules(unittest.TestCase):
         score = "name: a;\n%%\n(c4) A-(e)sp\u00e9r-(f)ges(g) me-(h) -(f)b(g) D&oacute;(f)mi&x;(g)ne&#233;(h) De()us(f) V() *() a()"
         self.assertEqual([it[:2] for it in found(score, "typed-hyphen")], [(3, 6), (3, 11)])
         self.assertEqual([it[1:] for it in found(score, "html-entity")], [
-            (43, "&oacute; is a name of HTML, and is sung as it stands: write \u00f3"), (64, "&#233; is a name of HTML, and is sung as it stands: write \u00e9"),
+            (43, "&oacute; is a name of HTML, and is sung letter for letter: write \u00f3"), (64, "&#233; is a name of HTML, and is sung letter for letter: write \u00e9"),
         ])
         self.assertEqual([it[:2] for it in found(score, "syllable-without-notes")], [(3, 74)])
 
