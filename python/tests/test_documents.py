@@ -45,7 +45,7 @@ class Documents(InFolder):
     def test_options(self) -> None:
         """Each option of the command stands in the page, and no other."""
         helps = "".join(command(*it, "--help").stdout.decode() for it in ((), *((it.NAME,) for it in COMMANDS)))
-        options = set(re.findall(r"(?<![\w.-])--[a-z][a-z-]+", PAGE + OBJECTS)) - {"--no-deps"}
+        options = set(re.findall(r"(?<![\w.-])--[a-z][a-z-]+", PAGE + OBJECTS)) - {"--no-deps", "--help"}
         self.assertEqual(set(re.findall(r"--[a-z][a-z-]+", helps)) - {"--help", "--"}, options)
 
     def test_example(self) -> None:
