@@ -63,7 +63,7 @@ SLIPS = (
     Slip(r"^%%\n", "%\n", "F3", "write a line %% before the first line of the score"),
     Slip(r"^%%\n", "", "F3", "write a line %% before the first line of the score"),
     Slip(r"\A", "Just a text file\n", "E4", "a header is name: value;"),
-    Slip(r"\A", "<!DOCTYPE html>\n<html>\n<body>\n", "E4", "this is a page of the web"),
+    Slip(r"\A", "<!DOCTYPE html>\n<html>\n<body>\n", "E4", "this is a web page"),
     # Clefs and bars.
     Slip(r"^\(c(\d)\)", r"(C\1)", "W12", "is no clef: write c3", BACK),
     Slip(r"^\(c(\d)\)", r"(\1c)", "E1", "is no clef: write c3", BACK),
@@ -104,7 +104,7 @@ SLIPS = (
     Slip(r"\([a-m]\)", "(o)", "E1", "is no pitch"),
     Slip(r"\([a-m]\)", "(h5)", "E1", "is no sign of the note before it"),
     Slip(r"\([a-m]\)", "(h&)", "E1", "is no note and no sign"),
-    Slip(r"\([a-m]\)", "(-)", "E6", "write the note after it"),
+    Slip(r"\([a-m]\)", "(-)", "E6", "needs a note after it"),
     Slip(r"\([a-m]\)", "(n)", "outside-staff", "is outside a staff of 4 lines"),
     Slip(_WORD + r"\(h\)", "(H)", "lone-capital", "did you mean h?"),
     Slip(r"\(h\)", "(hs)", None),
@@ -146,8 +146,8 @@ SLIPS = (
     Slip(r"(?<= )(\w+)(\([a-m]+v?\))(\w)", r"\2\1\3", None),
     Slip(r"(?<=\w)(?=\([a-m]\))", "{", "W4", "is not closed"),
     Slip(r"(?<=\w)(?=\([a-m]\))", "[Lord][God]", "W5", "put both into one pair of brackets"),
-    Slip(r"(?<=\w)(?=\([a-m]\))", "]", "E2", "look for a [ that is missing"),
-    Slip(r"(?<=\w)(?=\([a-m]\))", " ", "blank-before-notes", "a blank stands between a word and its notes"),
+    Slip(r"(?<=\w)(?=\([a-m]\))", "]", "E2", "look for a missing ["),
+    Slip(r"(?<=\w)(?=\([a-m]\))", " ", "blank-before-notes", "there is a blank between a word and its notes"),
     Slip(r"\n(?=et)", "\n%%\n", "second-score-line", "is a comment"),
     Slip(r"\(::\)\n\Z", "(::) et\n", "W9", "has no notes"),
 )

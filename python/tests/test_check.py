@@ -189,7 +189,7 @@ class Paths(InFolder):
         self.assertEqual(ran.returncode, 0)
         self.assertIn(b"usage: gregorio-chant check", ran.stdout)
         about = command("--help")
-        self.assertIn(b"stands outside that proof", b" ".join(about.stdout.split()))
+        self.assertIn(b"is outside that proof", b" ".join(about.stdout.split()))
         self.assertEqual(command("--version").stdout, f"gregorio-chant {__version__}\n".encode())
         for words in ((), ("check",), ("lint", "."), ("check", "--jobs", "0", "."), ("check", "--none", ".")):
             ran = command(*words)
