@@ -69,7 +69,7 @@ def clef_off_staff(subject: Subject) -> Iterator[Found]:
         if isinstance(item, Clef):
             for clef in _CLEF.finditer(item.spelling):
                 if clef[1] > lines:
-                    yield subject.found(item, f"the clef {clef[0]} wants a line {clef[1]}, and the staff has {lines} lines")
+                    yield subject.found(item, f"the clef {clef[0]} needs a line {clef[1]}, but the staff has {lines} lines")
 
 
 def unused_alteration(subject: Subject) -> Iterator[Found]:

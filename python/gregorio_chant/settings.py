@@ -110,7 +110,7 @@ class _Reader:
         taken = {}
         for key, value in table.items():
             if key not in readers:
-                raise self.fail(key, f"there is no such key; there are {', '.join(readers)}")
+                raise self.fail(key, f"unknown key; the keys are {', '.join(readers)}")
             field, read = readers[key]
             taken[field] = read(key, value)
         return taken
@@ -123,7 +123,7 @@ class _Reader:
 
     def _words(self, key: str, value: Any) -> tuple[str, ...]:
         if not isinstance(value, list) or not all(isinstance(it, str) for it in value):
-            raise self.fail(key, 'a list of texts is wanted, as ["W3"]')
+            raise self.fail(key, 'expected a list of texts, such as ["W3"]')
         return tuple(value)
 
     def _patterns(self, key: str, value: Any) -> tuple[str, ...]:
@@ -142,17 +142,17 @@ class _Reader:
 
     def _flag(self, key: str, value: Any) -> bool:
         if not isinstance(value, bool):
-            raise self.fail(key, "true or false is wanted")
+            raise self.fail(key, "expected true or false")
         return value
 
     def _number(self, key: str, value: Any) -> int:
         if not isinstance(value, int) or isinstance(value, bool) or value < 1:
-            raise self.fail(key, "a number from 1 on is wanted")
+            raise self.fail(key, "expected a number from 1")
         return value
 
     def _table(self, key: str, value: Any) -> dict[str, Any]:
         if not isinstance(value, dict):
-            raise self.fail(key, "a table is wanted")
+            raise self.fail(key, "expected a table")
         return value
 
     def _format(self, key: str, value: Any) -> dict[str, Any]:

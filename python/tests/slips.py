@@ -72,7 +72,7 @@ SLIPS = (
     Slip(r"^\(c\d\)", "(g2)", "E1", "is no clef: write c or f and its line"),
     Slip(r"^\(c\d\) ", "", "W12", "write a clef"),
     Slip(r"^\(c\d\)", "()", "W12", "write a clef"),
-    Slip(r"^\(c\d\)", "(c5)", "clef-off-staff", "wants a line 5"),
+    Slip(r"^\(c\d\)", "(c5)", "clef-off-staff", "needs a line 5"),
     Slip(r"\(::\)", "(||)", "E1", "a double bar is ::", BACK),
     Slip(r"\(::\)", "(| |)", "E1", "a double bar is ::", BACK),
     Slip(r" \(;\)", " ;", "bar-as-text", "did you mean the bar (;)?"),

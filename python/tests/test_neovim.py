@@ -145,7 +145,7 @@ qall!
                 ["picture", "1.html#s2", [*head, "(c4) Ky$>(f)ri(g)"]],
                 ["completed", ["ae", "oe"], [*head, "(c4) <sp>"]],
                 ["completed by omnifunc", [6, "<sc>", "<sp>"], [*head, "(c4) <s"]],
-                ["another score", [[2, 1, "clef-off-staff", "the clef c5 wants a line 5, and the staff has 4 lines"]], other],
+                ["another score", [[2, 1, "clef-off-staff", "the clef c5 needs a line 5, but the staff has 4 lines"]], other],
                 ["servers", 1, other],
             ],
         )

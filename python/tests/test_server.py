@@ -65,7 +65,7 @@ class Serving(Served):
             self.version = 1
             Path(folder, "gregorio-chant.toml").write_text("rules = 3")
             self.tell("textDocument/didOpen", {"textDocument": {"uri": self.uri, "languageId": "gabc", "version": 1, "text": FAULTY}})
-            self.assertIn("gregorio-chant.toml:1: rules: true or false is wanted", self.receive()["params"]["message"])
+            self.assertIn("gregorio-chant.toml:1: rules: expected true or false", self.receive()["params"]["message"])
             self.assertEqual(len(self.shown()), 1)
 
     def test_end(self) -> None:
