@@ -79,7 +79,7 @@ try_zsh_of() {
   check "$what: zsh: a format" shows 'gregorio-canonical -F d' '-F dump'
   check "$what: zsh: a score" shows 'gregorio-canonical -W a' 'score\.gabc'
   check "$what: zsh: a score for the script" shows 'check_canonical a' 'score\.gabc'
-  check "$what: zsh: sub-commands" shows 'gregorio-chant ' 'explain  *-- say what a code or a rule means'
+  check "$what: zsh: sub-commands" shows 'gregorio-chant ' 'explain  *-- explain a code or a rule'
   check "$what: zsh: options of a sub-command" shows 'gregorio-chant check --' '--fail-on  *-- end with status 1'
   check "$what: zsh: a form" shows 'gregorio-chant check --output-format s' '--output-format sarif\|--output-format=sarif'
   check "$what: zsh: a code" shows 'gregorio-chant explain W12' 'W12 '
