@@ -25,13 +25,34 @@ struct test_case {
   struct text messages;
 };
 
+/* A run that is saved: the state that it has after its first `fed` bytes, and how many bytes of output and of messages it has written there. */
+struct saved_case {
+  struct test_case run;
+  size_t fed;
+  struct text state;
+  size_t output, messages;
+};
+
+/* Bytes that are given as a state, and the answer to them: GREGORIO_NO_STATE, GREGORIO_OTHER_STATE, or GREGORIO_RUNS where the run goes on. Then `rest`
+ * has what it is fed and what comes of that. */
+struct state_case {
+  struct test_case rest;
+  struct text state;
+  uint32_t answer;
+};
+
 /* Reads the next case, of any limits, of a whole input or of one whose source fails. Ends the program where a line has other columns. */
 bool next_run(FILE *table, struct test_case *found);
 
 /* Reads the next case of a whole input under the default limits. */
 bool next_case(FILE *table, struct test_case *found);
+/* Read the next run that is saved, and the next state. They end the program where a line has other columns. */
+bool next_saved(FILE *table, struct saved_case *found);
+bool next_state(FILE *table, struct state_case *found);
+
 bool has_default_limits(const struct test_case *it);
 void free_case(struct test_case *it);
+bool is_same(struct text a, struct text b);
 
 /* Tells of a trial that failed, and counts it. */
 void check(bool passed, const char *what, size_t number);
