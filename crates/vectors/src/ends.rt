@@ -4,7 +4,8 @@
 ghost use Rattle.std.specs.Prelude.{◌<◌};
 ghost use Rattle.gregorio.specs.Engine.{NothingWaits};
 
-use crate::pieces::{Wanted, end};
+use crate::known::{Known, Wanted};
+use crate::pieces::end;
 use crate::run::{Request, job};
 use gabc_places::{TrialSink, TrialSource, Unsent, send_all};
 use gregorio::{Engine, Status, compile};
@@ -63,23 +64,13 @@ impl Sinks {
     }
 }
 
-/// A run, and what it writes and how it ends where no sink fails.
-#[derive(Clone, Copy)]
-pub(crate) struct Known<'a> {
-    pub asked: Request<'a>,
-    pub wanted: Wanted<'a>,
-    pub status: u8,
-}
-
-impl Known<'_> {
-    /// Returns how the run ends with sinks that hold so much.
-    fn status_with(self, holding: Holding) -> u8 {
-        let output_fails = holding.output < self.wanted.output.len();
-        if output_fails || holding.messages < self.wanted.messages.len() {
-            Status::WriteFault.code()
-        } else {
-            self.status
-        }
+/// Returns how a run ends with sinks that hold so much.
+fn status_with(known: Known, holding: Holding) -> u8 {
+    let output_fails = holding.output < known.wanted.output.len();
+    if output_fails || holding.messages < known.wanted.messages.len() {
+        Status::WriteFault.code()
+    } else {
+        known.status
     }
 }
 
@@ -108,7 +99,7 @@ fn compile_fills(
         &mut sinks.output,
         &mut sinks.messages,
     );
-    Ok(status.code() == known.status_with(holding) && sinks.are_filled(known.wanted, holding))
+    Ok(status.code() == status_with(known, holding) && sinks.are_filled(known.wanted, holding))
 }
 
 /// Feeds bytes to an engine, and sends what it writes.
@@ -154,7 +145,7 @@ fn engine_fills(
             let status = run_engine(&mut engine, asked, &mut sinks);
             // A proof follows a call faster than all that lies inside an engine.
             drop(engine);
-            Ok(status == known.status_with(holding) && sinks.are_filled(known.wanted, holding))
+            Ok(status == status_with(known, holding) && sinks.are_filled(known.wanted, holding))
         }
         Err(error) => Err(error),
     }

@@ -3,8 +3,9 @@
 ghost use Rattle.std.specs.Prelude.{◌≡◌, ◌<◌, ◌≤◌, length, true, IfSome, OnOk};
 ghost use Rattle.gregorio.specs.Engine.{NothingWaits};
 
+use crate::known::Wanted;
 use crate::mutated::{Numbers, mutated};
-use crate::pieces::{Wanted, end};
+use crate::pieces::end;
 use crate::run::job;
 use gabc_places::Limits;
 use gregorio::{Engine, Format};

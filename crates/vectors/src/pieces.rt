@@ -1,51 +1,17 @@
-//! Runs of engines that take their input in pieces, against what a run must give.
+//! Runs of one engine that takes its input in pieces, and begins again and again, against what a
+//! run must give.
 
 ghost use Rattle.std.specs.Prelude.{◌<◌};
 ghost use Rattle.gregorio.specs.Engine.{NothingWaits};
 
-use crate::row::Row;
-use crate::run::{Request, job};
+use crate::known::{Known, Wanted};
+use crate::run::job;
 use gregorio::{Engine, Status};
 use std::alloc::Global;
 
-/// How many bytes the pieces of an input have: each run is made with each of these.
+/// How many bytes the pieces of an input have: each run is made with each of these, after the
+/// engine was fed a part of the input in vain: nothing, a quarter, and so on up to the whole.
 const LENGTHS: [usize; 5] = [1, 2, 3, 7, 8192];
-
-/// What a run has to write.
-#[derive(Clone, Copy)]
-pub(crate) struct Wanted<'a> {
-    pub output: &'a [u8],
-    pub messages: &'a [u8],
-}
-
-impl<'a> Wanted<'a> {
-    /// What a row says that is written.
-    pub(crate) fn of(row: &'a Row) -> Wanted<'a> {
-        Wanted {
-            output: row.output.as_slice(),
-            messages: row.messages.as_slice(),
-        }
-    }
-
-    /// Takes what waits, and leaves what has to follow it. Returns whether this was wanted.
-    pub(crate) fn take(&mut self, engine: &mut Engine) -> bool
-        ensures waits { NothingWaits engine.new }
-    {
-        let output = self.output.strip_prefix(engine.out());
-        let messages = self.messages.strip_prefix(engine.messages());
-        engine.taken();
-        let (Some(output), Some(messages)) = (output, messages) else {
-            return false;
-        };
-        *self = Wanted { output, messages };
-        true
-    }
-
-    /// Whether nothing has to follow.
-    pub(crate) fn is_empty(self) -> bool {
-        self.output.is_empty() && self.messages.is_empty()
-    }
-}
 
 /// Feeds a piece, and takes what is written of it. Returns whether this was wanted.
 pub(crate) fn feed_piece(engine: &mut Engine, piece: &[u8], wanted: &mut Wanted) -> bool
@@ -93,45 +59,55 @@ pub(crate) fn end(engine: &mut Engine, broken: bool) -> Status
 }
 
 /// Whether an engine that takes the bytes of a run in pieces of this length gives what is wanted.
-pub(crate) fn has_output(
-    engine: &mut Engine,
-    asked: Request,
-    length: usize,
-    mut wanted: Wanted,
-    status: u8,
-) -> bool
+pub(crate) fn has_output(engine: &mut Engine, known: Known, length: usize) -> bool
     requires length { 0 < length }
     requires waits { NothingWaits engine.old }
 {
-    feed_all(engine, asked.bytes, length, &mut wanted)
-        && end(engine, asked.broken).code() == status
+    let mut wanted = known.wanted;
+    feed_all(engine, known.asked.bytes, length, &mut wanted)
+        && end(engine, known.asked.broken).code() == known.status
         && wanted.take(engine)
         && wanted.is_empty()
 }
 
-/// Whether an engine that takes the bytes of a run in pieces of this length gives what is wanted.
-/// Where there is no room for one, it does not.
-fn agrees_in(alloc: Global, asked: Request, length: usize, wanted: Wanted, status: u8) -> bool
-    requires { 0 < length }
-{
+/// Feeds `bytes`, and takes what is written of them but what waits last.
+fn feed_in_vain(engine: &mut Engine, bytes: &[u8]) {
+    let mut count = 0;
+    while count < bytes.len() {
+        engine.taken();
+        count += engine.feed(&bytes[count..]);
+    }
+}
+
+/// Whether `engine` gives what is wanted where it begins again after a part of the input, of which
+/// something may wait, and after its end, however long the pieces are.
+fn gives_again(engine: &mut Engine, known: Known) -> bool {
+    let bytes = known.asked.bytes;
+    let len = bytes.len();
+    let mut read = 0usize;
+    for length in LENGTHS {
+        feed_in_vain(engine, &bytes[..read.min(len)]);
+        engine.restart();
+        if !has_output(engine, known, length) {
+            return false;
+        }
+        engine.restart();
+        read = read.saturating_add(len / 4 + 1);
+    }
+    true
+}
+
+/// Whether an engine that takes the bytes of a run in pieces gives what is wanted, however long the
+/// pieces are, and wherever it begins again. If there is no room for one, it does not.
+pub(crate) fn agrees_in_pieces(alloc: Global, known: Known) -> bool {
+    let asked = known.asked;
     match Engine::new(alloc, &job(asked.format, asked.all_warnings), asked.limits) {
         Ok(mut engine) => {
-            let agrees = has_output(&mut engine, asked, length, wanted, status);
+            let agrees = gives_again(&mut engine, known);
             // A proof follows a call faster than all that lies inside an engine.
             drop(engine);
             agrees
         }
         Err(_) => false,
     }
-}
-
-/// Whether each engine that takes the bytes of a run in pieces gives what is wanted, however long
-/// the pieces are.
-pub(crate) fn agrees_in_pieces(alloc: Global, asked: Request, wanted: Wanted, status: u8) -> bool {
-    for length in LENGTHS {
-        if !agrees_in(alloc, asked, length, wanted, status) {
-            return false;
-        }
-    }
-    true
 }

@@ -1,8 +1,9 @@
 //! Runs over each prefix of an input in pieces, against what the whole forms make of it.
 
-use crate::pieces::{Wanted, agrees_in_pieces};
+use crate::known::{Known, Wanted, known_of};
+use crate::pieces::agrees_in_pieces;
 use crate::row::row_of;
-use crate::run::{Request, request_of};
+use crate::run::Request;
 use crate::wholes::{messages_of, output_of};
 use gregorio::{Outcome, SourceEnding};
 use std::alloc::{AllocError, Global};
@@ -16,7 +17,15 @@ fn agrees_with_whole(alloc: Global, asked: Request) -> Result<bool, AllocError> 
         output: output.slice(),
         messages: messages.slice(),
     };
-    Ok(agrees_in_pieces(alloc, asked, wanted, outcome.status().code()))
+    let status = outcome.status().code();
+    Ok(agrees_in_pieces(
+        alloc,
+        Known {
+            asked,
+            wanted,
+            status,
+        },
+    ))
 }
 
 /// Returns whether that holds of each prefix of the input on this line of a file.
@@ -24,9 +33,10 @@ pub(crate) fn has_prefixes_alike(alloc: Global, line: &str) -> Result<bool, Allo
     let Some(row) = row_of(alloc, line)? else {
         return Ok(false);
     };
-    let Some(asked) = request_of(&row) else {
+    let Some(known) = known_of(&row) else {
         return Ok(false);
     };
+    let asked = known.asked;
     for len in 0..=asked.bytes.len() {
         let bytes = &asked.bytes[..len];
         if !agrees_with_whole(alloc, Request { bytes, ..asked })? {

@@ -38,7 +38,7 @@ pub(crate) fn digit(byte: u8) -> u8 {
 }
 
 /// The bytes of a column: `\n`, `\r`, `\t`, `\\` and `\xNN` are escapes.
-pub(crate) fn unescaped(alloc: Global, column: &str) -> Result<Vec<u8>, AllocError> {
+fn unescaped(alloc: Global, column: &str) -> Result<Vec<u8>, AllocError> {
     let mut bytes = Vec::new(alloc);
     let mut escape = Escape::None;
     for byte in column.bytes() {
@@ -69,7 +69,7 @@ pub(crate) fn unescaped(alloc: Global, column: &str) -> Result<Vec<u8>, AllocErr
 }
 
 /// The three limits of a column, in bytes.
-pub(crate) fn limits_of(column: &str) -> Option<(u32, u32, u32)> {
+fn limits_of(column: &str) -> Option<(u32, u32, u32)> {
     let mut numbers = column.split(',');
     let header = numbers.next()?.parse::<u32>().ok()?;
     let syllable = numbers.next()?.parse::<u32>().ok()?;
@@ -77,42 +77,8 @@ pub(crate) fn limits_of(column: &str) -> Option<(u32, u32, u32)> {
     Some((header, syllable, input))
 }
 
-/// The format of a run, whether it has the option `-W`, its three limits in bytes, and whether its
-/// source fails.
-#[derive(Clone, Copy)]
-pub(crate) struct Settings {
-    pub format: Format,
-    pub all_warnings: bool,
-    pub limits: (u32, u32, u32),
-    pub broken: bool,
-    pub status: u8,
-}
-
-/// The row with these settings and these three columns of bytes.
-pub(crate) fn row_with(
-    alloc: Global,
-    settings: Settings,
-    bytes: &str,
-    output: &str,
-    messages: &str,
-) -> Result<Row, AllocError> {
-    let (header, syllable, input) = settings.limits;
-    Ok(Row {
-        format: settings.format,
-        all_warnings: settings.all_warnings,
-        header,
-        syllable,
-        input,
-        broken: settings.broken,
-        bytes: unescaped(alloc, bytes)?,
-        output: unescaped(alloc, output)?,
-        messages: unescaped(alloc, messages)?,
-        status: settings.status,
-    })
-}
-
 /// The format that these options name.
-pub(crate) fn format_of(options: &str) -> Format {
+fn format_of(options: &str) -> Format {
     if options.contains("-F dump") {
         Format::Dump
     } else {
@@ -120,33 +86,38 @@ pub(crate) fn format_of(options: &str) -> Format {
     }
 }
 
-/// The row of a line: options, limits, ending, input, output, messages and status, split by tabs.
-pub(crate) fn row_of(alloc: Global, line: &str) -> Result<Option<Row>, AllocError> {
-    let mut columns = line.split('\t');
-    let (Some(options), Some(limits), Some(ending)) = (
-        columns.next(),
-        columns.next(),
-        columns.next(),
-    ) else {
+/// The column of `line` with this number, from 0; an empty one if there is none.
+pub(crate) fn column(line: &str, number: usize) -> &str {
+    line.split('\t').nth(number).unwrap_or("")
+}
+
+/// The run of a line. Its options, its limits, its ending and its input stand in the first four
+/// columns, and its output, its messages and its status from the column with the number `written`
+/// on. A status that is no number is 255, with which no run ends.
+pub(crate) fn run_of(alloc: Global, line: &str, written: usize) -> Result<Option<Row>, AllocError> {
+    let Some((header, syllable, input)) = limits_of(column(line, 1)) else {
         return Ok(None);
     };
-    let (Some(bytes), Some(output), Some(messages), Some(status)) = (
-        columns.next(),
-        columns.next(),
-        columns.next(),
-        columns.next(),
-    ) else {
-        return Ok(None);
-    };
-    let (Some(limits), Ok(status)) = (limits_of(limits), status.parse::<u8>()) else {
-        return Ok(None);
-    };
-    let settings = Settings {
+    let options = column(line, 0);
+    let bytes = unescaped(alloc, column(line, 3))?;
+    let output = unescaped(alloc, column(line, written))?;
+    let messages = unescaped(alloc, column(line, written.saturating_add(1)))?;
+    let status = column(line, written.saturating_add(2));
+    Ok(Some(Row {
         format: format_of(options),
         all_warnings: options.ends_with("-W"),
-        limits,
-        broken: ending == "broken",
-        status,
-    };
-    Ok(Some(row_with(alloc, settings, bytes, output, messages)?))
+        header,
+        syllable,
+        input,
+        broken: column(line, 2) == "broken",
+        bytes,
+        output,
+        messages,
+        status: status.parse::<u8>().unwrap_or(255),
+    }))
+}
+
+/// The row of a line: options, limits, ending, input, output, messages and status, split by tabs.
+pub(crate) fn row_of(alloc: Global, line: &str) -> Result<Option<Row>, AllocError> {
+    run_of(alloc, line, 4)
 }

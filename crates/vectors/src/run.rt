@@ -1,6 +1,5 @@
 //! One run of the reader, whose output and messages are kept.
 
-use crate::row::Row;
 use gabc_places::{Limits, ToWriter, TrialSource};
 use gregorio::{Format, Input, Job, Output, compile};
 use std::alloc::Global;
@@ -13,30 +12,6 @@ pub(crate) struct Request<'a> {
     pub broken: bool,
     pub limits: Limits,
     pub all_warnings: bool,
-}
-
-impl<'a> Request<'a> {
-    /// A run on bytes from a source that does not fail, which wants no warnings.
-    pub(crate) fn on(format: Format, bytes: &'a [u8], limits: Limits) -> Request<'a> {
-        Request {
-            format,
-            bytes,
-            broken: false,
-            limits,
-            all_warnings: false,
-        }
-    }
-}
-
-/// The run that a row asks for, if there are such limits.
-pub(crate) fn request_of(row: &Row) -> Option<Request<'_>> {
-    Some(Request {
-        format: row.format,
-        bytes: row.bytes.as_slice(),
-        broken: row.broken,
-        limits: Limits::new(row.header, row.syllable, row.input)?,
-        all_warnings: row.all_warnings,
-    })
 }
 
 /// What a run wrote, and its exit status.

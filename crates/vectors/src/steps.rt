@@ -3,9 +3,10 @@
 ghost use Rattle.std.specs.Prelude.{◌≡◌, false};
 ghost use Rattle.gregorio.specs.Engine.{NothingWaits};
 
-use crate::pieces::{Wanted, end};
-use crate::row::row_of;
-use crate::run::{Request, job, request_of};
+use crate::known::{Known, Wanted, known_of};
+use crate::pieces::end;
+use crate::row::{column, row_of};
+use crate::run::job;
 use gabc_places::Fault;
 use gregorio::Engine;
 use std::alloc::{AllocError, Global};
@@ -25,12 +26,10 @@ const NONE: Step = Step {
     messages: 0,
 };
 
-/// A run, what it writes, its exit status, and the bytes with which it writes something.
+/// A run, and the bytes with which it writes something.
 #[derive(Clone, Copy)]
 struct Trial<'a> {
-    asked: Request<'a>,
-    wanted: Wanted<'a>,
-    status: u8,
+    known: Known<'a>,
     steps: &'a [Step],
 }
 
@@ -48,18 +47,18 @@ impl Trial<'_> {
 
     /// Returns whether all but `left` is what is known after a step.
     fn is_known(self, left: Wanted, step: Step) -> bool {
-        left.output.len().saturating_add(step.output) == self.wanted.output.len()
-            && left.messages.len().saturating_add(step.messages) == self.wanted.messages.len()
+        left.output.len().saturating_add(step.output) == self.known.wanted.output.len()
+            && left.messages.len().saturating_add(step.messages) == self.known.wanted.messages.len()
     }
 
     /// Returns whether this is the fault of the run, with which its messages end, or none if it has
     /// none. The error is for want of memory.
     fn has_fault(self, alloc: Global, fault: Option<Fault>) -> Result<bool, AllocError> {
         let Some(fault) = fault else {
-            return Ok(self.status != 2);
+            return Ok(self.known.status != 2);
         };
         let line = format!(in alloc; "<stdin>:{fault}\n")?;
-        Ok(self.status == 2 && self.wanted.messages.ends_with(line.as_bytes()))
+        Ok(self.known.status == 2 && self.known.wanted.messages.ends_with(line.as_bytes()))
     }
 }
 
@@ -73,7 +72,7 @@ fn waits(engine: &Engine) -> bool
 /// Returns whether a fresh engine that is fed the whole input takes up to the byte of each step in
 /// a call, and then all that is left.
 fn takes_steps(engine: &mut Engine, trial: Trial) -> bool {
-    let mut rest = trial.asked.bytes;
+    let mut rest = trial.known.asked.bytes;
     let mut taken = 0usize;
     for step in trial.steps {
         if waits(engine) {
@@ -93,7 +92,7 @@ fn takes_steps(engine: &mut Engine, trial: Trial) -> bool {
 /// Returns whether a fresh engine that is filled from the whole input goes on up to the byte that
 /// stops the run, with all that it writes waiting, and then takes what is left.
 fn is_filled(engine: &mut Engine, trial: Trial) -> bool {
-    let bytes = trial.asked.bytes;
+    let bytes = trial.known.asked.bytes;
     let count = engine.fill(bytes);
     let last = trial.step_at(bytes.len());
     let stop = if engine.running() {
@@ -103,16 +102,16 @@ fn is_filled(engine: &mut Engine, trial: Trial) -> bool {
     };
     count == stop
         && engine.out().len() == last.output
-        && trial.wanted.output.starts_with(engine.out())
+        && trial.known.wanted.output.starts_with(engine.out())
         && engine.messages().len() == last.messages
-        && trial.wanted.messages.starts_with(engine.messages())
+        && trial.known.wanted.messages.starts_with(engine.messages())
         && engine.fill(&bytes[count..]) == bytes.len() - count
 }
 
 /// Returns whether a fresh engine gives the steps of a run byte by byte, and nothing beside them,
 /// and has a fault only once it has stopped.
 fn gives_steps(engine: &mut Engine, trial: Trial, left: &mut Wanted) -> bool {
-    let bytes = trial.asked.bytes;
+    let bytes = trial.known.asked.bytes;
     for index in 0..bytes.len() {
         if waits(engine) {
             return false;
@@ -128,10 +127,10 @@ fn gives_steps(engine: &mut Engine, trial: Trial, left: &mut Wanted) -> bool {
 
 /// Returns whether a fresh engine gives the steps of a run, and then its end.
 fn gives_all(engine: &mut Engine, trial: Trial) -> bool {
-    let mut left = trial.wanted;
+    let mut left = trial.known.wanted;
     gives_steps(engine, trial, &mut left)
         && left.take(engine)
-        && end(engine, trial.asked.broken).code() == trial.status
+        && end(engine, trial.known.asked.broken).code() == trial.known.status
         && left.take(engine)
         && left.is_empty()
 }
@@ -159,7 +158,7 @@ fn agrees(alloc: Global, engine: &mut Engine, trial: Trial) -> Result<bool, Allo
     engine.restart();
     let filled = is_filled(engine, trial);
     engine.restart();
-    let given = gives_all(engine, trial) && !waits(engine) && is_over(engine, trial.status);
+    let given = gives_all(engine, trial) && !waits(engine) && is_over(engine, trial.known.status);
     let faulty = trial.has_fault(alloc, engine.fault())?;
     engine.restart();
     Ok(taken && filled && given && faulty && engine.fault().is_none())
@@ -187,17 +186,16 @@ fn steps_of(alloc: Global, column: &str) -> Result<Vec<Step>, AllocError> {
 /// Returns whether the run on this line of a file is made as its row says; the row has the steps
 /// behind the status.
 pub(crate) fn has_steps(alloc: Global, line: &str) -> Result<bool, AllocError> {
-    let steps = steps_of(alloc, line.split('\t').nth(7).unwrap_or(""))?;
+    let steps = steps_of(alloc, column(line, 7))?;
     let Some(row) = row_of(alloc, line)? else {
         return Ok(false);
     };
-    let Some(asked) = request_of(&row) else {
+    let Some(known) = known_of(&row) else {
         return Ok(false);
     };
+    let asked = known.asked;
     let trial = Trial {
-        asked,
-        wanted: Wanted::of(&row),
-        status: row.status,
+        known,
         steps: steps.as_slice(),
     };
     match Engine::new(alloc, &job(asked.format, asked.all_warnings), asked.limits) {

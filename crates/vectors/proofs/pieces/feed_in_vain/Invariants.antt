@@ -1,12 +1,8 @@
 use Rattle.std.proofs.Common.{◌-◌, ◌≤◌, length}
-use Rattle.gregorio.specs.Engine.{NothingWaits}
-use Rattle.vectors.proofs.flipped.run_to_an_end.Given as goal
+use Rattle.vectors.proofs.pieces.feed_in_vain.Given as goal
 
 abbrev pub invariant-loop-count : goal.invariant-loop-count
-invariant-loop-count l = record {
-  within : l.count ≤ length l.bytes;
-  waits : NothingWaits l.engine;
-}
+invariant-loop-count l = l.count ≤ length l.bytes
 
 abbrev pub decreases-loop-count : goal.decreases-loop-count
 decreases-loop-count l = length l.bytes - l.count
