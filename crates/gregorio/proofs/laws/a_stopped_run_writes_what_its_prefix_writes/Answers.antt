@@ -1,4 +1,3 @@
-use Rattle.gregorio.proofs.OutcomeIsEmitted.{ScoresAreRead}
 use Rattle.gregorio.proofs.PrefixesAreReadAlike.{has_front}
 use Rattle.gregorio.proofs.laws.a_stopped_run_writes_what_its_prefix_writes.Goals as goal
 

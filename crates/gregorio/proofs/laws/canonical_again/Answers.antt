@@ -1,5 +1,4 @@
 use Rattle.std.proofs.Common.{arith}
-use Rattle.gregorio.proofs.OutcomeIsEmitted.{ScoresAreRead}
 use Rattle.gregorio.proofs.OutputIsCompiledAgain.{compiled_again, output_short}
 use Rattle.gregorio.proofs.laws.canonical_again.Goals as goal
 
