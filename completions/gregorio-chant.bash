@@ -9,9 +9,9 @@ _gregorio_chant_options() {
     page) echo '--port --rules --no-config --help' ;;
     explain) echo '--all --help' ;;
     export) echo '--to --exclude --folder --force --tempo --no-config --quiet --help' ;;
-    find) echo '--interval --neume --text --volpiano --semitones --exclude --output-format --jobs --no-config --quiet --help' ;;
-    index) echo '--exclude --output-format --jobs --no-config --quiet --help' ;;
-    neumes) echo '--each --exclude --output-format --jobs --no-config --quiet --help' ;;
+    find) echo '--interval --volpiano --neume --text --semitones --exclude --output-format --bom --jobs --no-config --quiet --help' ;;
+    index) echo '--header --exclude --output-format --bom --jobs --no-config --quiet --help' ;;
+    neumes) echo '--each --exclude --output-format --bom --jobs --no-config --quiet --help' ;;
     server) echo '--rules --no-config --help' ;;
     version) echo '--help' ;;
     *) echo '--version --help' ;;
@@ -58,7 +58,7 @@ _gregorio_chant() {
     --neumes) mapfile -t COMPREPLY < <(compgen -W 'auto stgall modern laon text' -- "$word") ;;
     --to) mapfile -t COMPREPLY < <(compgen -W 'volpiano musicxml mei midi' -- "$word") ;;
     --folder) mapfile -t COMPREPLY < <(compgen -d -- "$word") ;;
-    --jobs | --wrap | --width | --port | --interval | --neume | --text | --volpiano | --tempo) ;;
+    --jobs | --wrap | --width | --port | --interval | --volpiano | --neume | --text | --header | --tempo) ;;
     *)
       if [[ $word == -* ]]; then
         mapfile -t COMPREPLY < <(compgen -W "$(_gregorio_chant_options "$command")" -- "$word")

@@ -13,7 +13,7 @@ Ky(f)ri(//)
 ...     print(message.line, message.column, message.code, message.text)
 3 15 E1 character left out of the notes
 
-`Run` takes a score in pieces. `gregorio_chant.dump` reads a score into objects, each with its place; the command `gregorio-chant` checks and formats
+`lint`, `fix`, `format_text`, `draw` and `index` do what the commands do (`gregorio_chant.calls`). `Run` takes a score in pieces. `gregorio_chant.dump` reads a score into objects, each with its place; the command `gregorio-chant` checks and formats
 files. The answers of `compile`, `check` and `Run` are proved; the rest of the package is tested.
 """
 from __future__ import annotations
@@ -22,19 +22,23 @@ from importlib import import_module
 from typing import TYPE_CHECKING
 
 if TYPE_CHECKING:
+    from gregorio_chant.calls import draw, fix, format_text, index, lint
     from gregorio_chant.library import check, compile
     from gregorio_chant.results import Format, Kind, Message, Report, Result, RunOverError, StateError, Status, Step
     from gregorio_chant.runs import Limits, Run, pieces
+    from gregorio_chant.settings import Settings
 
     __version__: str
 
 # Where each name stands. A module is imported when a name of it is asked for, so that the command begins at once.
 _MODULES = {
     **dict.fromkeys(("check", "compile"), "library"), **dict.fromkeys(("Limits", "Run", "pieces"), "runs"),
+    **dict.fromkeys(("draw", "fix", "format_text", "index", "lint"), "calls"), "Settings": "settings",
     **dict.fromkeys(("Format", "Kind", "Message", "Report", "Result", "RunOverError", "StateError", "Status", "Step"), "results"),
 }
 __all__ = [
-    "Format", "Kind", "Limits", "Message", "Report", "Result", "Run", "RunOverError", "StateError", "Status", "Step", "check", "compile", "pieces",
+    "Format", "Kind", "Limits", "Message", "Report", "Result", "Run", "RunOverError", "Settings", "StateError", "Status", "Step",
+    "check", "compile", "draw", "fix", "format_text", "index", "lint", "pieces",
 ]
 
 

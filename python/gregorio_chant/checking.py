@@ -18,6 +18,7 @@ from gregorio_chant.reports import Annotations, Checked, Json, Lines, Reporter, 
 from gregorio_chant.results import Kind, Message
 from gregorio_chant.rules import messages_with_rules, unsilenced
 from gregorio_chant.sarif import Sarif
+from gregorio_chant.selection import Selection
 from gregorio_chant.settings import Chosen, Finder, NoSettings
 from gregorio_chant.source import text_of
 from gregorio_chant.staged import StagedFiles
@@ -51,6 +52,27 @@ def check_data(data: bytes, with_rules: bool) -> tuple[Message, ...]:
     return unsilenced(data, library.check(data).messages)
 
 
+@dataclass(frozen=True)
+class Told:
+    """What is reported of a score: `messages`, each with its help or nothing, of all that is `found`
+    in its `text`. The text is empty if nothing is reported."""
+
+    found: tuple[Message, ...]
+    messages: tuple[Message, ...] = ()
+    text: str = ""
+    helps: tuple[str | None, ...] = ()
+
+
+def told_of(data: bytes, selection: Selection, with_rules: bool) -> Told:
+    """Returns what is reported of a score."""
+    found = check_data(data, with_rules)
+    messages = selection.of(found)
+    if not messages:
+        return Told(found)
+    text = text_of(data)
+    return Told(found, messages, text, helps_for(text, found, messages))
+
+
 _Read = Callable[[str], Content]
 
 
@@ -59,17 +81,12 @@ def check_file(name: str, options: Options, read_it: _Read) -> Checked:
     settings = options.settings.of(name)
     selection = settings.selection(name, options.chosen)
     try:
-        data = read_it(name).data
-        found = check_data(data, options.with_rules or settings.rules is True)
-        messages = selection.of(found)
+        told = told_of(read_it(name).data, selection, options.with_rules or settings.rules is True)
     except OSError as error:
         return Checked(name, failure=reason_of(error), status=CANNOT_READ_OR_WRITE)
     except MemoryError:
         return Checked(name, failure="there is no memory for it", status=NO_MEMORY)
-    if not messages:
-        return Checked(name)
-    text = text_of(data)
-    return Checked(name, messages, text, status=int(selection.status_of(messages)), helps=helps_for(text, found, messages))
+    return Checked(name, told.messages, told.text, status=int(selection.status_of(told.messages)), helps=told.helps)
 
 
 @contextmanager

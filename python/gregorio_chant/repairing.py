@@ -17,6 +17,7 @@ from gregorio_chant.codes import CODES
 from gregorio_chant.compiled import Compiled
 from gregorio_chant.dump import Pause, go_on, plain_text
 from gregorio_chant.helps import named
+from gregorio_chant.problems import Change, ProblemRepair
 from gregorio_chant.repairs import REPAIRS, Edit, Edits, Repair
 from gregorio_chant.results import Kind, Message
 from gregorio_chant.rules import RULES, messages_with_rules, unsilenced
@@ -148,12 +149,17 @@ class _Draft:
         line_end = _LINE_END.search(self._raw)
         self._line_end = line_end[0] if line_end else "\n"
 
+    def changes(self, edits: Iterable[Edit]) -> Iterator[Change]:
+        """Yields what these edits change in the score as it is written, with its own line ends."""
+        for it in edits:
+            yield Change(self._offsets[it.offset], self._offsets[it.end], it.new.replace("\n", self._line_end))
+
     def with_edits(self, edits: Iterable[Edit]) -> bytes:
         """Returns the score with these edits, of which none begins before the one before it ends."""
         parts, at = [], 0
-        for it in edits:
-            parts += [self._raw[at : self._offsets[it.offset]], it.new.replace("\n", self._line_end)]
-            at = self._offsets[it.end]
+        for it in self.changes(edits):
+            parts += [self._raw[at : it.begin], it.new]
+            at = it.end
         return "".join([*parts, self._raw[at:]]).encode("utf-8")
 
     def takes(self, proposals: Sequence[Proposal]) -> bool:
@@ -175,6 +181,21 @@ class _Draft:
         if _comments(old) != _comments(new) or not _differs_there_alone(old, new, places):
             return False
         return not all(it.repair.is_safe for it in proposals) or _sings_the_same(old, new)
+
+
+class _Judge:
+    """Judges repairs of one score, until their time is over."""
+
+    def __init__(self) -> None:
+        self._left = _MOST_COMPILED
+
+    def takes(self, draft: _Draft, proposals: Sequence[Proposal]) -> bool:
+        """Returns whether these repairs may be made together, and there was time to look."""
+        cost = len(draft.score.data) * (_RULES_TAKE if draft.with_rules else 1)
+        if cost > self._left:
+            return False
+        self._left -= cost
+        return draft.takes(proposals)
 
 
 # ---- what is made of a score
@@ -221,17 +242,46 @@ def proposals_for(score: Compiled, messages: Iterable[Message], with_rules: bool
                 yield it
 
 
+def repair_of_each(score: Compiled, found: Iterable[Message], messages: Iterable[Message], with_rules: bool) -> dict[Message, ProblemRepair]:
+    """Returns for each of these messages, of all that are `found`, the likeliest repair that may be made by itself; of a fatal fault alone, if there is
+    one. Messages for which no time is left have none, and a message that shares its repair with one before it."""
+    if not is_text(score.data):
+        return {}
+    draft, judge = _Draft(score, found, with_rules), _Judge()
+    told = messages if score.fault is None else (score.fault,)
+    subject = Subject(text_of(score.data), score.messages)
+    repairs = {}
+    for them in _proposals(subject, told, lambda _: True):
+        it = next((it for it in them if judge.takes(draft, [it])), None)
+        if it is not None:
+            repairs[it.message] = ProblemRepair(it.repair.name, it.repair.is_safe, it.line(subject.text), tuple(draft.changes(it.edits)))
+    return repairs
+
+
 def has_safe_repair(subject: Subject, messages: Iterable[Message]) -> bool:
     """Returns whether a safe repair is proposed for one of these messages; it may be refused."""
     return any(_proposals(subject, messages, lambda it: it.is_safe))
 
 
 @dataclass(frozen=True)
+class Guess:
+    """A guess that was made: its place in the score before it, the name of its repair, and what it changes."""
+
+    line: int
+    column: int
+    repair: str
+    text: str
+
+    def __str__(self) -> str:
+        return f"{self.line}:{self.column}: {self.repair}: {self.text}"
+
+
+@dataclass(frozen=True)
 class Repaired:
-    """A score with its repairs, and a line for each guess that was made: its place before it, the repair, and what it changes."""
+    """A score with its repairs, and the guesses that were made."""
 
     data: bytes
-    guesses: tuple[str, ...] = ()
+    guesses: tuple[Guess, ...] = ()
 
 
 class _Repairing:
@@ -239,8 +289,8 @@ class _Repairing:
 
     def __init__(self, how: How, pause: Pause) -> None:
         self._how, self._pause = how, pause
-        self._left = _MOST_COMPILED
-        self.guesses: list[str] = []
+        self._judge = _Judge()
+        self.guesses: list[Guess] = []
 
     def once(self, data: bytes, is_safe: bool) -> bytes:
         """Returns the score with as many safe repairs, or guesses, as can be made together."""
@@ -255,7 +305,7 @@ class _Repairing:
             made = self._taken(draft, batch)
             if made:
                 if not is_safe:
-                    self.guesses += [f"{it.message.line}:{it.message.column}: {it.repair.name}: {it.line(subject.text)}" for it in made]
+                    self.guesses += [Guess(it.message.line, it.message.column, it.repair.name, it.line(subject.text)) for it in made]
                 return draft.with_edits(edit for it in made for edit in it.edits)
         return data
 
@@ -274,11 +324,7 @@ class _Repairing:
 
     def _is_taken(self, draft: _Draft, proposals: Sequence[Proposal]) -> bool:
         self._pause()
-        cost = len(draft.score.data) * (_RULES_TAKE if draft.with_rules else 1)
-        if cost > self._left:
-            return False
-        self._left -= cost
-        return draft.takes(proposals)
+        return self._judge.takes(draft, proposals)
 
 
 def _apart(waiting: Iterable[list[Proposal]]) -> tuple[list[Proposal], list[list[Proposal]]]:

@@ -4,12 +4,12 @@ from __future__ import annotations
 import json
 from collections import Counter
 from collections.abc import Iterator
-from dataclasses import dataclass
+from dataclasses import asdict, dataclass
 from itertools import zip_longest
 from typing import Protocol
 
+from gregorio_chant.problems import problems_of
 from gregorio_chant.results import Kind, Message
-from gregorio_chant.source import Lines as LinesOfText
 from gregorio_chant.streams import STDIN, printable
 
 LEVELS = {Kind.WARNING: "warning", Kind.ERROR: "error", Kind.FATAL: "error"}
@@ -103,12 +103,11 @@ class Json:
         self._objects: list[dict[str, object]] = []
 
     def add(self, checked: Checked) -> str:
-        lines = LinesOfText(checked.text)
-        for it, help in checked.helped():
-            place = {
-                "file": checked.shown_name, "line": it.line, "column": it.column, "end_line": it.line, "end_column": lines.column_after(it.line, it.column),
-            }
-            self._objects.append({**place, "kind": it.kind.value, "code": it.code, "text": it.text, "help": help})
+        for it in problems_of(checked.text, checked.messages, checked.helps):
+            plain = asdict(it)
+            # No repair is looked for here.
+            del plain["repair"]
+            self._objects.append({"file": checked.shown_name, **plain})
         return ""
 
     def end(self, summary: str | None) -> str:

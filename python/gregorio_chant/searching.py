@@ -1,4 +1,4 @@
-"""What is looked for in scores: neumes, intervals, words, and what an index says of each score."""
+"""What is looked for in scores: intervals, melodies, neumes and words."""
 from __future__ import annotations
 
 import fnmatch
@@ -7,11 +7,12 @@ import unicodedata
 from collections import Counter
 from collections.abc import Iterator, Sequence
 from dataclasses import dataclass
+from typing import Protocol
 
 from gregorio_chant.dump import Glyph, Note, Score, Syllable
-from gregorio_chant.formats.volpiano import LETTERS, letter_of, volpiano_of
+from gregorio_chant.formats.volpiano import LETTERS, letter_of
 from gregorio_chant.nearest import did_you_mean
-from gregorio_chant.passages import Word, text_of_syllables
+from gregorio_chant.passages import text_of_syllables
 from gregorio_chant.selection import UnknownCode
 from gregorio_chant.tables import Row
 
@@ -30,12 +31,9 @@ _SIGNS = {"none": "", "natural": "", "flat": "\u266d", "sharp": "\u266f"}
 # What a melody in Volpiano has beside its letters.
 _NO_LETTERS = re.compile("[-1-7iIwWxXyYzZ\\s]")
 _STEP = re.compile(r"[+-]?[0-9]{1,2}")
-# How much of a score an index shows.
-_NOTES, _WORDS = 12, 6
 
 NEUME = ("neume", "spelling", "degrees", "text")
 COUNT = ("neume", "count", "spelling", "text")
-INDEX = ("name", "office_part", "mode", "text", "degrees", "final", "lowest", "highest", "steps", "volpiano")
 FOUND = ("notes", "degrees", "text")
 
 
@@ -68,25 +66,33 @@ def counted_neumes(score: Score) -> Iterator[Row]:
         yield Row(it.source.line, it.source.column, (kind, count[kind], it.spelling, syllable.plain), count[kind])
 
 
-def _incipit(words: Sequence[Word]) -> str | None:
-    """Returns the melody of words in Volpiano, if it has letters for it."""
-    try:
-        return volpiano_of(syllable for it in words for syllable in it.syllables)
-    except ValueError:
-        return None
+@dataclass(frozen=True, slots=True)
+class Match:
+    """What a search finds: its notes, and the row of it."""
+
+    notes: tuple[Note, ...]
+    row: Row
 
 
-def index_row(score: Score) -> Iterator[Row]:
-    """Yields one row for the score, at its first note or else its first line of notes."""
-    notes, reach = score.notes, score.range
-    first = notes[0] if notes else score.syllables[0] if score.syllables else None
-    line, column = (first.source.line, first.source.column) if first else (1, 1)
-    words = score.words[:_WORDS]
-    yield Row(line, column, (
-        score.header("name"), score.header("office-part"), score.header("mode"), " ".join(it.text for it in words), degrees_of(notes[:_NOTES]),
-        degree_of(notes[-1]) if notes else None, degree_of(reach.low) if reach else None, degree_of(reach.high) if reach else None,
-        (reach.high.step or 0) - (reach.low.step or 0) if reach else None, _incipit(words),
-    ))
+class Search(Protocol):
+    """Finds places in a score."""
+
+    def matches(self, score: Score) -> Iterator[Match]:
+        """Yields what is found, in order."""
+
+
+@dataclass(frozen=True)
+class Together:
+    """Makes the rows of what the first search finds, if it shares a note with something that each of the others finds."""
+
+    first: Search
+    others: tuple[Search, ...] = ()
+
+    def __call__(self, score: Score) -> Iterator[Row]:
+        of_others = [{note for it in search.matches(score) for note in it.notes} for search in self.others]
+        for it in self.first.matches(score):
+            if all(not notes.isdisjoint(it.notes) for notes in of_others):
+                yield it.row
 
 
 @dataclass(frozen=True)
@@ -103,10 +109,10 @@ class NeumeSearch:
             raise UnknownCode(f"{word} is no kind of neume: {did_you_mean(word, KINDS, 'docs/LANGUAGE.md lists them')}")
         return cls(pattern)
 
-    def __call__(self, score: Score) -> Iterator[Row]:
+    def matches(self, score: Score) -> Iterator[Match]:
         for syllable, it in _neumes(score):
             if fnmatch.fnmatchcase(it.kind, self.pattern):
-                yield Row.at(it.source, it.spelling, degrees_of(it.notes), syllable.plain)
+                yield Match(it.notes, Row.at(it.source, it.spelling, degrees_of(it.notes), syllable.plain))
 
 
 @dataclass(frozen=True)
@@ -124,21 +130,21 @@ class IntervalSearch:
             raise UnknownCode(f'--interval {words}: numbers are needed, as in "+2 +1 -3"')
         return cls(tuple(map(int, steps)), in_semitones)
 
-    def __call__(self, score: Score) -> Iterator[Row]:
+    def matches(self, score: Score) -> Iterator[Match]:
         of_notes = [(syllable, note) for syllable in score.syllables for note in syllable.notes]
         heights = [note.semitones if self.in_semitones else note.step for _, note in of_notes]
         count = len(self.wanted)
         rises = tuple(None if a is None or b is None else b - a for a, b in zip(heights, heights[1:]))
         for at in range(len(rises) - count + 1):
             if rises[at : at + count] == self.wanted:
-                yield _row_of(of_notes[at : at + count + 1])
+                yield _match_of(of_notes[at : at + count + 1])
 
 
-def _row_of(found: Sequence[tuple[Syllable, Note]]) -> Row:
-    """Returns the row of notes that follow each other, each with its syllable."""
-    notes = [note for _, note in found]
+def _match_of(found: Sequence[tuple[Syllable, Note]]) -> Match:
+    """Returns the match of notes that follow each other, each with its syllable."""
+    notes = tuple(note for _, note in found)
     syllables = list({it.number: it for it, _ in found}.values())
-    return Row.at(notes[0].source, "".join(it.pitch for it in notes), degrees_of(notes), text_of_syllables(syllables))
+    return Match(notes, Row.at(notes[0].source, "".join(it.pitch for it in notes), degrees_of(notes), text_of_syllables(syllables)))
 
 
 @dataclass(frozen=True)
@@ -155,12 +161,12 @@ class VolpianoSearch:
             raise UnknownCode(f"--volpiano {word}: letters of a melody are needed, as in 1---f--gh")
         return cls(letters)
 
-    def __call__(self, score: Score) -> Iterator[Row]:
+    def matches(self, score: Score) -> Iterator[Match]:
         sung = [(syllable, note) for syllable in score.syllables for note in syllable.notes for _ in range(note.times)]
         melody = "".join(letter_of(note) or "?" for _, note in sung)
         at = melody.find(self.letters)
         while at >= 0:
-            yield _row_of(list(dict.fromkeys(sung[at : at + len(self.letters)])))
+            yield _match_of(list(dict.fromkeys(sung[at : at + len(self.letters)])))
             at = melody.find(self.letters, at + 1)
 
 
@@ -186,11 +192,11 @@ class TextSearch:
             raise UnknownCode('--text needs a word, as in "Kyri*"')
         return cls(patterns)
 
-    def __call__(self, score: Score) -> Iterator[Row]:
+    def matches(self, score: Score) -> Iterator[Match]:
         words = score.words
         texts = [folded(it.text) for it in words]
         for at in range(len(words) - len(self.patterns) + 1):
             if all(fnmatch.fnmatchcase(text, it) for text, it in zip(texts[at:], self.patterns)):
                 found = words[at : at + len(self.patterns)]
-                notes = [note for it in found for note in it.notes]
-                yield Row.at(found[0].source, "".join(it.pitch for it in notes), degrees_of(notes), " ".join(it.text for it in found))
+                notes = tuple(note for it in found for note in it.notes)
+                yield Match(notes, Row.at(found[0].source, "".join(it.pitch for it in notes), degrees_of(notes), " ".join(it.text for it in found)))

@@ -17,12 +17,13 @@ from gregorio_chant.reports import counted, json_of
 from gregorio_chant.results import Kind, Message, Status
 from gregorio_chant.settings import Finder
 from gregorio_chant.source import Source
-from gregorio_chant.streams import CANNOT_READ_OR_WRITE, STDIN, printable, reason_of, tell, write, write_data
+from gregorio_chant.streams import CANNOT_READ_OR_WRITE, STDIN, is_terminal, printable, reason_of, tell, write, write_data
 from gregorio_chant.walk import find_scores
 
 FORMS = ("text", "csv", "json")
 _NO_MEMORY = 5
-_PLACE = ("file", "line", "column")
+_CSV_END = "\r\n"
+PLACE = ("file", "line", "column")
 
 Cell = Union[str, int, None]
 
@@ -52,7 +53,7 @@ class Maker(Protocol):
 
 @dataclass(frozen=True)
 class Options:
-    """The options of a table."""
+    """The options of a table; `has_mark` puts a byte order mark before CSV."""
 
     paths: tuple[str, ...]
     form: str
@@ -60,6 +61,7 @@ class Options:
     exclude: tuple[str, ...]
     settings: Finder
     quiet: bool
+    has_mark: bool = False
 
 
 @dataclass(frozen=True, slots=True)
@@ -135,13 +137,13 @@ class Text:
 
 
 class Csv:
-    """CSV with the names of the columns in its first line."""
+    """CSV as RFC 4180 has it, with the names of the columns in its first line, and a byte order mark before it if that is wanted."""
 
-    def __init__(self, columns: Sequence[str]) -> None:
-        self._columns = columns
+    def __init__(self, columns: Sequence[str], has_mark: bool = False) -> None:
+        self._columns, self._mark = columns, "\ufeff" * has_mark
 
     def begin(self) -> str:
-        return _csv_line((*_PLACE, *self._columns))
+        return self._mark + _csv_line((*PLACE, *self._columns))
 
     def add(self, made: Made) -> str:
         return "".join(_csv_line((made.shown_name, it.line, it.column, *it.cells)) for it in made.rows)
@@ -151,8 +153,8 @@ class Csv:
 
 
 def _csv_line(cells: Iterable[Cell]) -> str:
-    line = io.StringIO()
-    csv.writer(line, lineterminator="\n").writerow(cells)
+    line = io.StringIO(newline="")
+    csv.writer(line, lineterminator=_CSV_END).writerow(cells)
     return line.getvalue()
 
 
@@ -169,7 +171,7 @@ class Json:
     def add(self, made: Made) -> str:
         written = []
         for it in made.rows:
-            row = dict(zip((*_PLACE, *self._columns), (made.shown_name, it.line, it.column, *it.cells)))
+            row = dict(zip((*PLACE, *self._columns), (made.shown_name, it.line, it.column, *it.cells)))
             written.append(("\n" if self._is_first else ",\n") + json_of(row))
             self._is_first = False
         return "".join(written)
@@ -178,16 +180,23 @@ class Json:
         return "]\n" if self._is_first else "\n]\n"
 
 
-def form_of(name: str, columns: Sequence[str]) -> Form:
-    """Returns the form of this name."""
-    if name == "text":
+def form_of(options: Options, columns: Sequence[str]) -> Form:
+    """Returns the form that is wanted."""
+    if options.form == "text":
         return Text()
-    if name == "csv":
-        return Csv(columns)
+    if options.form == "csv":
+        return Csv(columns, options.has_mark)
     return Json(columns)
 
 
 # ---- the run over files
+
+
+def put_for(options: Options) -> Callable[[str], None]:
+    """Returns what writes rows. A cell of CSV may hold whatever a score does; a terminal shows its lines without their CR."""
+    if options.form != "csv":
+        return write
+    return (lambda text: write(text.replace(_CSV_END, "\n"))) if is_terminal() else write_data
 
 
 def for_each(options: Options, make: Maker, take: Callable[[Made], str]) -> int:
@@ -195,8 +204,7 @@ def for_each(options: Options, make: Maker, take: Callable[[Made], str]) -> int:
     and returns the worst status. Raises `WriteError`, and `SettingsError` or `MissingDependency` before any
     score is read."""
     status = count = number = 0
-    # A cell of CSV may hold whatever a score does.
-    put = write_data if options.form == "csv" else write
+    put = put_for(options)
 
     def fail(name: str, error: OSError) -> None:
         nonlocal status
@@ -220,8 +228,8 @@ def for_each(options: Options, make: Maker, take: Callable[[Made], str]) -> int:
 
 def write_table(options: Options, columns: Sequence[str], make: Maker) -> int:
     """Writes the rows of all files, and returns the worst status. Raises as `for_each` does."""
-    form = form_of(options.form, columns)
-    write(form.begin())
+    form = form_of(options, columns)
+    put_for(options)(form.begin())
     status = for_each(options, make, form.add)
     write(form.end())
     return status

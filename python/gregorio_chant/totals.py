@@ -4,8 +4,7 @@ from __future__ import annotations
 from collections import Counter
 
 from gregorio_chant.searching import COUNT, counted_neumes
-from gregorio_chant.streams import write
-from gregorio_chant.tables import Made, Row, Options, for_each, form_of
+from gregorio_chant.tables import Made, Options, Row, for_each, form_of, put_for
 
 
 class Totals:
@@ -37,6 +36,6 @@ def write_totals(options: Options) -> int:
     as `for_each` does."""
     totals = Totals()
     status = for_each(options, counted_neumes, totals.add)
-    form = form_of(options.form, COUNT)
-    write("".join([form.begin(), *map(form.add, totals.made()), form.end()]))
+    form = form_of(options, COUNT)
+    put_for(options)("".join([form.begin(), *map(form.add, totals.made()), form.end()]))
     return status

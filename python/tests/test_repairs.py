@@ -172,7 +172,7 @@ class Repairs(unittest.TestCase):
 
     def test_what_is_told_of_a_guess(self) -> None:
         made = repair(f"{_SCORE}mun9hh)d\u00e1(ij)\n".encode(), ALL)
-        self.assertEqual(made.guesses, ("3:12: open-notes: a guess: 'mun9hh)d\u00e1(ij)' becomes 'mun(hh)d\u00e1(ij)'; text becomes notes",))
+        self.assertEqual(tuple(map(str, made.guesses)), ("3:12: open-notes: a guess: 'mun9hh)d\u00e1(ij)' becomes 'mun(hh)d\u00e1(ij)'; text becomes notes",))
         self.assertEqual(repair(f"{_SCORE}a>(g)\n".encode(), ALL).guesses, ())
 
     def test_fatal_faults(self) -> None:

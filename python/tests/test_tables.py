@@ -8,7 +8,8 @@ import unittest
 from pathlib import Path
 
 from gregorio_chant.dump import Score, intervals
-from gregorio_chant.searching import KINDS, IntervalSearch, NeumeSearch, TextSearch, each_neume, folded, index_row
+from gregorio_chant.indexing import Index
+from gregorio_chant.searching import KINDS, IntervalSearch, NeumeSearch, TextSearch, Together, each_neume, folded
 from support import EXAMPLES, FAULTY, InFolder, command, scores_of_tables
 
 A = "name: A;\nmode: 1;\n%%\n(c4) Ký(f)ri(gfg)e,(e.) % (fgh)\n e(fg)lé(ixi)i(h)son(g) (::)\n"
@@ -47,7 +48,7 @@ class Found(InFolder):
         self.assertEqual(len(self.found("--text", "*")), 5)
         self.assertEqual(folded("«Dómine!»"), "domine")
         sharp = Score.parse("name: a;\n%%\n(c4) Stra\u00dfe(f)")
-        self.assertEqual(len(list(TextSearch.of("strasse")(sharp))), 1)
+        self.assertEqual(len(list(TextSearch.of("strasse").matches(sharp))), 1)
 
     def test_melodies(self) -> None:
         """A melody is found by its letters, whatever stands between them; what is none is refused."""
@@ -56,6 +57,35 @@ class Found(InFolder):
         self.assertEqual(self.found("--volpiano", "fggggggg"), [])
         for word in ("---", "1", "f?g", "t"):
             self.assertEqual(command("find", "--volpiano", word, "s").returncode, 3, word)
+
+    def test_together(self) -> None:
+        """With several options all have to be found over one note; what the first of them finds is written."""
+        self.assertEqual(self.found("--interval", "+1 -1", "--text", "rie"), [])
+        self.assertEqual(self.found("--interval", "-1", "--text", "eleison"), [
+            "s/a.gabc:5:12: ih  si\u266d la  l\u00e9i", "s/a.gabc:5:16: hg  la sol  ison", "s/b.gabc:2:22: hg  fa mi  e eleison.",
+            "s/b.gabc:2:34: gf  mi re  eleison.", "s/b.gabc:2:35: fe  re ut  eleison.",
+        ])
+        self.assertEqual(self.found("--interval", "+1", "--neume", "pes"), ["s/a.gabc:4:21: ef  mi fa  e, e", "s/a.gabc:5:4: fg  fa sol  e"])
+        self.assertEqual(self.found("--text", "Kyrie", "--neume", "porrectus", "--volpiano", "gfg"), ["s/a.gabc:4:14: gfg  sol fa sol  ri"])
+        self.assertEqual(self.found("--text", "eleison", "--neume", "porrectus"), [])
+
+    def test_spreadsheets(self) -> None:
+        """CSV is that of RFC 4180; a byte order mark stands before it if that is asked for."""
+        self.put("s/c.gabc", 'name: "a, b";\nbook: two\nlines;;\n%%\n(c4) a(f)')
+        csv_of = ("index", "--header", "book", "--output-format", "csv", "s")
+        data = command(*csv_of).stdout
+        self.assertEqual(command(*csv_of, "--bom").stdout, b"\xef\xbb\xbf" + data)
+        self.assertEqual((data.count(b"\r\n"), data.count(b"\n"), data[:17]), (4, 5, b"file,line,column,"))
+        self.assertIn(b'"""a, b"""', data)
+        rows = list(csv.DictReader(io.StringIO(data.decode(), newline="")))
+        self.assertEqual([(it["name"], it["book"]) for it in rows], [("A", ""), ("", ""), ('"a, b"', "two\nlines")])
+
+    def test_headers(self) -> None:
+        """A column for each header that is asked for stands after the others, in that order."""
+        self.put("s/c.gabc", "name: c;\nbook: Graduale;\n%%\n(c4) a(f)")
+        rows = json.loads(command("index", "--header", "commentary,book", "--header", "book", "--output-format", "json", "s").stdout)
+        self.assertEqual([*rows[0]][-3:], ["volpiano", "commentary", "book"])
+        self.assertEqual([(it["commentary"], it["book"]) for it in rows], [(None, None), (None, None), (None, "Graduale")])
 
     def test_forms(self) -> None:
         """The three forms say the same."""
@@ -75,7 +105,7 @@ class Found(InFolder):
         ])
         self.assertEqual(rows[0]["degrees"], "fa sol fa sol mi fa sol si♭ la sol")
         self.assertEqual(rows[0]["volpiano"].replace("-", ""), "1fgfge" + "3" * rows[0]["volpiano"].count("3") + "fgijhg")
-        (row,) = index_row(Score.parse("name: a;\n%%\n(c4) " + " ".join(f"w{it}(iyi)" for it in "abcdefgh")))
+        (row,) = Index()(Score.parse("name: a;\n%%\n(c4) " + " ".join(f"w{it}(iyi)" for it in "abcdefgh")))
         self.assertEqual((row.cells[3], row.cells[5]), ("wa wb wc wd we wf", "si"))
 
     def test_neumes_counted(self) -> None:
@@ -105,7 +135,9 @@ class Found(InFolder):
 
     def test_refusals(self) -> None:
         for words, told in (
-            (("find", "s"), "one of --interval, --neume, --text and --volpiano is needed"), (("find", "--text", "a", "--neume", "pes", "s"), "one of --interval"),
+            (("find", "s"), "one of --interval, --volpiano, --neume and --text is needed"), (("find", "--bom", "--text", "a", "s"), "--bom is for --output-format csv"),
+            (("index", "--header", ",", "s"), "--header needs the name"), (("index", "--header", "a:b", "s"), "has no colon"),
+            (("index", "--header", "book,office-part", "s"), "has a column of this name already"), (("index", "--header", "file", "s"), "already"),
             (("find", "--interval", "one", "s"), "numbers are needed"), (("find", "--neume", "tortulus", "s"), "did you mean torculus?"),
             (("find", "--text", " ", "s"), "needs a word"), (("find", "--text", "a", "--semitones", "s"), "--semitones is for --interval"),
             (("neumes",), "a PATH is needed\n"), (("index", "--output-format", "sarif", "s"), "text, csv, json"),
@@ -149,10 +181,10 @@ class Everywhere(unittest.TestCase):
                 found = rises[at : at + 3]
                 wanted = tuple(it.steps for it in found if it)
                 if len(wanted) == 3:
-                    places = [(it.line, it.column) for it in IntervalSearch(wanted, False)(score)]
+                    places = [(it.line, it.column) for it in Together(IntervalSearch(wanted, False))(score)]
                     self.assertIn((score.notes[at].source.line, score.notes[at].source.column), places)
             glyphs = [glyph for syllable in score.syllables for glyph in syllable.glyphs]
             for kind in {it.kind for it in glyphs}:
                 of_kind = [(it.source.line, it.source.column) for it in glyphs if it.kind == kind]
-                self.assertEqual(of_kind, [(it.line, it.column) for it in NeumeSearch(kind)(score)])
-            self.assertEqual([(it.source.line, it.source.column) for it in score.words], [(it.line, it.column) for it in TextSearch.of("*")(score)])
+                self.assertEqual(of_kind, [(it.line, it.column) for it in Together(NeumeSearch(kind))(score)])
+            self.assertEqual([(it.source.line, it.source.column) for it in score.words], [(it.line, it.column) for it in Together(TextSearch.of("*"))(score)])

@@ -125,14 +125,18 @@ def add_table(parser: Parser) -> None:
     """Adds the arguments of a table over files."""
     add_files(parser)
     parser.add_argument("--output-format", choices=FORMS, default="text", metavar="FORM", help="text (default), csv or json")
+    parser.add_argument("--bom", action="store_true", help="with csv: begin with a byte order mark, as some spreadsheets need it for accents")
     add_jobs(parser)
     add_no_config(parser)
     parser.add_argument("--quiet", action="store_true", help="write no summary")
 
 
 def table_of(words: argparse.Namespace) -> Options:
-    """Returns the options of a table. Raises `UnknownCode` if no path is named."""
-    return Options(paths_of(words), words.output_format, words.jobs, tuple(words.exclude), settings_of(words), words.quiet)
+    """Returns the options of a table. Raises `UnknownCode` if no path is named, and for `--bom`
+    without CSV."""
+    if words.bom and words.output_format != "csv":
+        raise UnknownCode("--bom is for --output-format csv")
+    return Options(paths_of(words), words.output_format, words.jobs, tuple(words.exclude), settings_of(words), words.quiet, words.bom)
 
 
 def positive(word: str) -> int:
