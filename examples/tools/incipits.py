@@ -2,10 +2,8 @@
 import sys
 from pathlib import Path
 
-from gregorio_chant.dump import Score
+from gregorio_chant import index
 
-for file in sorted(Path(sys.argv[1]).rglob("*.gabc")):
-    score = Score.parse(file.read_bytes())
-    degrees = [f"{it.degree or '?'}{'' if it.alteration == 'none' else ' ' + it.alteration}" for it in score.notes[:12]]
-    text = "".join(" " * it.begins_word + it.plain for it in score.syllables)
-    print(score.header("name") or file.name, " ".join(degrees), " ".join(text.split()[:6]), sep=", ")
+files = sorted(Path(sys.argv[1]).rglob("*.gabc"))
+for file, it in zip(files, index(file.read_bytes() for file in files)):
+    print(it.name or file.name, it.degrees, it.text, sep=", ")

@@ -53,6 +53,11 @@ class Documents(InFolder):
             exec(block("docs/OBJECTS.md", "test: places"), {})
         self.assertEqual(written.getvalue(), block("docs/OBJECTS.md", "test: places, printed"))
 
+    def test_calls(self) -> None:
+        with contextlib.redirect_stdout(io.StringIO()) as written:
+            exec(block("docs/PYTHON.md", "test: calls"), {})
+        self.assertEqual(written.getvalue(), block("docs/PYTHON.md", "test: calls, printed"))
+
     def test_edits(self) -> None:
         with contextlib.redirect_stdout(io.StringIO()) as written:
             exec(block("docs/OBJECTS.md", "test: edits"), {})

@@ -1,6 +1,7 @@
 """Tries the worked tools of examples/tools: what they print, how long they are, and a server that is ended in the middle of an upload."""
 from __future__ import annotations
 
+import json
 import os
 import re
 import resource
@@ -27,17 +28,30 @@ def run(tool: str, *words: str, data: bytes = b"") -> subprocess.CompletedProces
 class Tools(InFolder):
     def test_length(self) -> None:
         tools = sorted(TOOLS.glob("*.py"))
-        self.assertEqual([it.name for it in tools], ["incipits.py", "neumes.py", "steps.py", "transpose.py", "upload_server.py"])
-        for it in tools[:4]:
-            self.assertLessEqual(it.read_text(encoding="utf-8").count("\n"), 11 if it.name == "incipits.py" else 10)
+        self.assertEqual([it.name for it in tools], ["incipits.py", "messages.py", "neumes.py", "steps.py", "tidy.py", "transpose.py", "upload_server.py"])
+        for it in tools[:6]:
+            self.assertLessEqual(it.read_text(encoding="utf-8").count("\n"), 10)
 
     def test_incipits(self) -> None:
         self.put("a/1.gabc", "name: Veni;\n%%\n(c4) Ve(gh)ni(g) Cre(ixi)<i>á</i>(f)tor,(gh) (,) a b c d e f(g)")
         self.put("2.gabc", "%%\n(fb3) A(h)ve[Hail](fe)")
         ran = run("incipits.py", ".")
         self.assertEqual(
-            ran.stdout.decode(), "2.gabc, fa re ut, Ave\nVeni, sol la sol si flat fa sol la sol, Veni Creátor, a b c d\n", ran.stderr
+            ran.stdout.decode(), "2.gabc, fa re ut, Ave\nVeni, sol la sol si♭ fa sol la sol, Veni Creátor, a b c d e f\n", ran.stderr
         )
+
+    def test_messages(self) -> None:
+        self.put("a.gabc", "name: a;\n%%\n(c4) a>(f)")
+        self.put("b.gabc", "name: b;\n%%\n(c4) b(f)")
+        told = json.loads(run("messages.py", "a.gabc", "b.gabc").stdout)
+        self.assertEqual([(name, [(it["code"], it["repair"]["name"]) for it in them]) for name, them in told.items()], [("a.gabc", [("E2", "escape")]), ("b.gabc", [])])
+
+    def test_tidy(self) -> None:
+        ran = run("tidy.py", data="name:a ;\r\n%%\r\n(c4)  á>(f)  % b\r\n".encode())
+        self.assertEqual((ran.returncode, ran.stdout.decode()), (0, "name: a;\r\n%%\r\n(c4) á$>(f) % b\r\n"), ran.stderr)
+        for data, told in ((b"name: a;\n", "2:1: F2: no %% line"), (b"%%\n(c4) a\xff(f)", "2:7: F1: not UTF-8")):
+            ran = run("tidy.py", data=data)
+            self.assertEqual((ran.returncode, ran.stdout, ran.stderr.decode().splitlines()), (1, b"", ["it is not whole", told]))
 
     def test_transpose(self) -> None:
         moved = 0

@@ -14,8 +14,7 @@ in this list finds, if that shares a note with something that each other one fin
 _EXAMPLES = examples((
     'gregorio-chant find --interval "+2 +1 -3" scores',
     "gregorio-chant find --neume 'torculus*' --output-format csv scores",
-    "gregorio-chant find --text 'Kyri* elei*' scores", "gregorio-chant find --volpiano fghg scores",
-    "gregorio-chant find --interval '+1 -1' --text 'Kyrie' scores",
+    "gregorio-chant find --interval '+1 -1' --text 'Kyri* elei*' scores", "gregorio-chant find --volpiano fghg scores",
 ))
 
 
