@@ -93,6 +93,12 @@ def unescaped(column: str) -> bytes:
     return re.sub(rb"\\(x[0-9A-Fa-f]{2}|.)", byte, column.encode())
 
 
+def files_of_scores() -> list[Path]:
+    """Returns the examples, and the scores in the folders that GREGORIO_FOLDER names."""
+    folders = [EXAMPLES, *(Path(it) for it in os.environ.get("GREGORIO_FOLDER", "").split(os.pathsep) if it)]
+    return [it for folder in folders for it in sorted(folder.glob("*.gabc"))]
+
+
 def scores_of_tables() -> list[bytes]:
     """Returns the inputs of all tables of runs."""
     scores = []

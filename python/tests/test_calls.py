@@ -264,4 +264,4 @@ class Surface(unittest.TestCase):
     def test_no_score(self) -> None:
         for call in (lint, fix, format_text, draw, lambda it: index([it])):
             with self.assertRaises(TypeError):
-                call(3)  # type: ignore[arg-type, operator]
+                call(3)  # type: ignore[operator]

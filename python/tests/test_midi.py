@@ -6,8 +6,8 @@ import os
 import unittest
 from pathlib import Path
 
-from gregorio_chant.dump import Score
-from support import EXAMPLES, FAULTY, InFolder, command, has, without
+from gregorio_chant.dump import Score, ScoreError
+from support import FAULTY, InFolder, command, files_of_scores, has, scores_of_tables, without
 
 SCORE = "name: K\u00fdrie;\n%%\n(c4) K\u00fd(f.)ri(gixi)e,(fe..) (,) <i>e</i>(h`) *() l\u00e9(jvv)i(f##fv) (::)"
 
@@ -55,24 +55,29 @@ class Midi(InFolder):
         self.assertEqual(track[-1].type, "end_of_track")
 
     def test_scores(self) -> None:
-        """All notes of the examples come back, in order and with their heights."""
+        """All notes of the scores come back, in order and with their heights, and all syllables."""
         from gregorio_chant.midi import midi_of
         from gregorio_chant.sounds import NoteBeforeClef
 
         tried = 0
-        for file in sorted(EXAMPLES.glob("*.gabc")):
-            score = Score.parse(file.read_bytes())
+        for data in [*(it.read_bytes() for it in files_of_scores()), *scores_of_tables()]:
             try:
-                notes, _ = self.read(midi_of(score, 140))
+                score = Score.parse(data)
+                notes, lyrics = self.read(midi_of(score, 140))
+            except ScoreError:
+                continue
             except NoteBeforeClef as error:
                 self.assertIn("a note before any clef has no sound", str(error))
                 continue
             times = {"bivirga": 2, "distropha": 2, "trivirga": 3, "tristropha": 3}
             awaited = [48 + (it.semitones or 0) for it in score.notes for _ in range(times.get(it.shape, 1))]
             self.assertEqual([key for _, _, key in notes], awaited)
+            hyphens = {"beginning": "-", "middle": "-"}
+            texts = [f"{text}{hyphens.get(it.position, ' ')}" for it in score.syllables if it.notes and (text := it.plain.strip())]
+            self.assertEqual([text for _, text in lyrics], texts)
             self.assertTrue(all(length in (480, 960) for _, length, _ in notes))
             tried += 1
-        self.assertGreater(tried, 6)
+        self.assertGreater(tried, 100)
 
     def test_files(self) -> None:
         self.put("s/a.gabc", SCORE)

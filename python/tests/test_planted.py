@@ -14,14 +14,13 @@ from collections.abc import Iterator
 from dataclasses import dataclass
 from functools import cached_property
 from itertools import islice
-from pathlib import Path
 
 from gregorio_chant import Format, Status, compile
 from gregorio_chant.checking import check_data
 from gregorio_chant.dump import Score
 from gregorio_chant.repairing import How, repair
 from slips import SLIPS, Slip
-from support import EXAMPLES
+from support import files_of_scores
 
 _SAFE, _ALL = How(with_rules=True), How(allow_unsafe=True, with_rules=True)
 _PLACES = int(os.environ.get("GREGORIO_SLIPS", "0"))
@@ -101,8 +100,7 @@ def fault_of(score: Read, slip: str) -> str | None:
 
 def scores() -> list[Read]:
     """Returns whole scores of which nothing can be repaired any more."""
-    folders = [EXAMPLES, *(Path(it) for it in os.environ.get("GREGORIO_FOLDER", "").split(os.pathsep) if it)]
-    texts = [repair(it.read_bytes(), _ALL).data.decode() for folder in folders for it in sorted(folder.glob("*.gabc"))]
+    texts = [repair(it.read_bytes(), _ALL).data.decode() for it in files_of_scores()]
     return [Read(it) for it in texts if compile(it).status is not Status.FATAL]
 
 
