@@ -114,13 +114,17 @@ class Lint(InFolder):
         self.assertEqual(lint(SCORE), [])
 
     def test_it_says_what_check_says(self) -> None:
-        for text in texts()[::13]:
-            ran = command("check", "--no-config", "--rules", "--output-format", "json", "-", data=text)
-            awaited = [{name: it for name, it in row.items() if name != "file"} for row in json.loads(ran.stdout)]
+        files = {f"s/{number:03}.gabc": text for number, text in enumerate(texts())}
+        for name, text in files.items():
+            self.put(name, text)
+        told: dict[str, list[dict[str, object]]] = {name: [] for name in files}
+        for row in json.loads(command("check", "--no-config", "--rules", "--output-format", "json", "s").stdout):
+            told[row.pop("file")].append(row)
+        for name, text in files.items():
             found = [dataclasses.asdict(it) for it in lint(text, _RULES)]
             for it in found:
                 del it["repair"]
-            self.assertEqual(found, awaited)
+            self.assertEqual(found, told[name])
 
     def test_repairs_can_be_made(self) -> None:
         """Each repair changes what it says: the text with it has one problem less, at that place."""
@@ -165,16 +169,11 @@ class Lint(InFolder):
 
 class Fix(InFolder):
     def test_it_repairs_as_check_does(self) -> None:
-        tried = 0
-        for text in texts()[::7]:
-            if not lint(text) or not is_utf8(text):
-                continue
-            for unsafe in (False, True):
-                path = self.put("a.gabc", text)
-                command("check", "--no-config", "--fix", *["--unsafe-fixes"] * unsafe, path)
-                self.assertEqual(fix(text, unsafe).text.encode(), path.read_bytes())
-            tried += 1
-        self.assertGreater(tried, 10)
+        for unsafe in (False, True):
+            paths = [self.put(f"{unsafe}/{number:03}.gabc", text) for number, text in enumerate(texts())]
+            command("check", "--no-config", "--fix", *["--unsafe-fixes"] * unsafe, str(unsafe))
+            for path, text in zip(paths, texts()):
+                self.assertEqual(fix(text, unsafe).text.encode("utf-8", "surrogateescape"), path.read_bytes())
 
     def test_guesses(self) -> None:
         text = "name: a;\n%%\n(c4) mun9hh)dá(ij)\n"
@@ -190,22 +189,14 @@ class Fix(InFolder):
             self.assertEqual(made.encode("utf-8", "surrogateescape"), data)
 
 
-def is_utf8(text: bytes) -> bool:
-    try:
-        text.decode()
-    except UnicodeDecodeError:
-        return False
-    return True
-
-
-class Format(unittest.TestCase):
+class Format(InFolder):
     def test_it_formats_as_format_does(self) -> None:
-        for text in texts()[::13]:
-            ran = command("format", "--no-config", "--quiet", "-", data=text)
+        paths = [self.put(f"s/{number:03}.gabc", text) for number, text in enumerate(texts())]
+        told = command("format", "--no-config", "s").stderr.decode()
+        for path, text in zip(paths, texts()):
             made = format_text(text)
-            self.assertEqual(ran.returncode != 0, made.reasons != ())
-            if not made.reasons:
-                self.assertEqual(made.text.encode(), ran.stdout)
+            self.assertEqual(made.text.encode("utf-8", "surrogateescape"), path.read_bytes())
+            self.assertEqual(f"{path} stays as it is: " in told, made.reasons != ())
 
     def test_settings(self) -> None:
         text = "name:Kyrie ;\n%%\n(c4)  Ky(f)ri(g)   e(h)"
