@@ -1,0 +1,119 @@
+/** What a score is compiled to: canonical GABC, or a line for each syllable, neume, note and sign. */
+export type Format = "gabc" | "dump";
+
+/** How a score was read: to its end without an error, to its end with errors, or up to a fatal fault. */
+export type Status = "whole" | "errors" | "fatal";
+
+/** A message. Lines and columns count from 1, a column for each character. */
+export interface Message {
+  readonly line: number;
+  readonly column: number;
+  readonly kind: "warning" | "error" | "fatal";
+  readonly code: string;
+  readonly text: string;
+}
+
+/** What was found in a score. It can be iterated over: its messages, in the order of their places. */
+export interface Report<S = Status> extends Iterable<Message> {
+  readonly status: S;
+  readonly messages: readonly Message[];
+  /** The messages as lines, as the program writes them. */
+  readonly messagesText: string;
+}
+
+/** What is made of a score. */
+export interface Result extends Report {
+  readonly format: Format;
+  readonly output: string;
+  /** The canonical GABC, if that format was asked for. */
+  readonly canonical: string | undefined;
+  /** The dump, if that format was asked for. */
+  readonly dump: string | undefined;
+}
+
+/** What became known with a piece of a run, or at its end. The status is `undefined` as long as the run goes on. */
+export interface Step extends Report<Status | "broken" | undefined> {
+  readonly output: string;
+}
+
+/** The limits of a run, in bytes: of all headers and of a syllable, 64 to 16,777,216, and of the whole input, 64 to 4,294,967,295. */
+export interface Limits {
+  readonly header?: number;
+  readonly syllable?: number;
+  readonly input?: number;
+}
+
+export interface RunOptions {
+  readonly format?: Format;
+  /** Whether warnings are told; they are if this is left out. */
+  readonly allWarnings?: boolean;
+  readonly limits?: Limits;
+}
+
+/** Bytes. They are copied before the call returns. */
+export type Bytes = ArrayBufferLike | ArrayBufferView;
+
+/** A score that comes in pieces. */
+export declare class Run {
+  /**
+   * Begins a run. Throws a `TypeError` for options that are not known, a `RangeError` for limits that are out of range, and a `RangeError` if there is
+   * not enough memory.
+   */
+  constructor(options?: RunOptions);
+
+  /**
+   * Returns a run that goes on from `state`, in this process or another than that which saved it. Throws a `TypeError` for a state that is not bytes,
+   * and a `StateError` for bytes that are no state, and for the state of a run with another format, other warnings or other limits.
+   */
+  static restore(state: Bytes, options?: RunOptions): Run;
+
+  /** A copy of the state: all that a later process needs to go on, besides the options. Throws a `RunOverError` after the end. */
+  get state(): Uint8Array;
+
+  /** The status, once the run is over. */
+  get status(): Status | "broken" | undefined;
+
+  /**
+   * Reads `piece`, of any length, and returns what became known. Its status is `undefined`, or `"fatal"` if a fatal fault ended the run.
+   *
+   * Throws a `RunOverError` if the run is over, a `TypeError` for a piece that is not bytes, and a `RangeError` if there is not enough memory. The run is
+   * as it was before then, and can be fed again.
+   */
+  feed(piece: Bytes): Step;
+
+  /** Ends the run, at the end of its input, and returns the last output and messages, with the status of the whole run. */
+  end(): Step;
+
+  /** Ends the run if the source of its input failed: the status is `"broken"`, unless a fatal fault was found. */
+  broken(): Step;
+
+  /** Yields what becomes known with each of `pieces`, and at their end, or up to a fatal fault. If reading a piece fails, that is thrown. */
+  steps(pieces: Iterable<Bytes> | AsyncIterable<Bytes>): AsyncGenerator<Step, void, void>;
+}
+
+/**
+ * Compiles `score` under the usual limits. A text is read as its UTF-8. Throws a `TypeError` for a score that is neither a text nor bytes, for bytes of a
+ * buffer that was moved elsewhere, and for options that are not known; a `RangeError` if there is not enough memory, or if the output is longer than a
+ * text can be.
+ */
+export declare function compile(score: string | Bytes, options?: Pick<RunOptions, "format" | "allWarnings">): Result;
+
+/** Reads `score` as `compile` does, and returns its status and messages alone. */
+export declare function check(score: string | Bytes, options?: Pick<RunOptions, "allWarnings">): Report;
+
+/** The version of the compiler. */
+export declare const version: string;
+
+/** Bytes that are no state of a run, or the state of a run with another format, other warnings or other limits. */
+export declare class StateError extends Error {}
+
+/** A run that is over was to go on. */
+export declare class RunOverError extends Error {}
+
+/** The calls of this package. */
+export interface Calls {
+  readonly compile: typeof compile;
+  readonly check: typeof check;
+  readonly Run: typeof Run;
+  readonly version: string;
+}
