@@ -108,7 +108,7 @@ class Watching(InFolder):
         self.wait("wrote")
         self.assertIn("Nothing was found", Path("page.html").read_text())
         self.put("gregorio-chant.toml", "ignor = ['E1']\n")
-        self.assertIn("ignor: there is no such key", self.wait(str(Path("gregorio-chant.toml").resolve())))
+        self.assertIn("ignor: unknown key", self.wait(str(Path("gregorio-chant.toml").resolve())))
         self.put("gregorio-chant.toml", "")
         self.wait("wrote")
         self.assertNotIn("Nothing was found", Path("page.html").read_text())
