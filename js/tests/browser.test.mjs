@@ -2,7 +2,7 @@
 
 import assert from "node:assert/strict";
 import { spawn, spawnSync } from "node:child_process";
-import { mkdtempSync, readFileSync, rmSync } from "node:fs";
+import { mkdtempSync, readFileSync } from "node:fs";
 import { createServer } from "node:http";
 import { join } from "node:path";
 import { test } from "node:test";
@@ -71,16 +71,16 @@ test("the tables in Chromium", { skip: !isThere && "there is no Chromium", timeo
   const { server, answer } = await serve();
   const folder = mkdtempSync(join(process.cwd(), "chromium-"));
   const words = ["--headless", "--no-sandbox", "--disable-gpu", "--disable-dev-shm-usage", "--no-first-run", `--user-data-dir=${folder}`];
-  const browser = spawn(CHROMIUM, [...words, `http://127.0.0.1:${server.address().port}/`], { stdio: "ignore" });
+  const browser = spawn(CHROMIUM, [...words, `http://127.0.0.1:${server.address().port}/`], { stdio: "ignore", detached: true });
   try {
     const wanted = { count: runs.length, wrong: [] };
     assert.deepEqual(await answer, [wanted, wanted]);
   } finally {
     const ended = new Promise((resolve) => browser.once("exit", resolve));
-    browser.kill();
+    // With all of its processes. Its folder goes with the project's, since one of them may still write into it.
+    process.kill(-browser.pid, "SIGKILL");
     await ended;
     server.closeAllConnections();
     server.close();
-    rmSync(folder, { recursive: true, force: true, maxRetries: 20 });
   }
 });
