@@ -3,7 +3,7 @@
 use crate::printed::Printed;
 use gabc_notes::{NoteEnd, NoteEvent, SnippetEnding};
 use gabc_places::{Char, Code, Fault, Finding, Place, Span};
-use gabc_text::{Piece, Style, Styles, TextEnd, TextEnding, TextEvent, TextPart};
+use gabc_text::{Piece, Style, Styles, TextEnd, TextEnding, TextEvent, TextPart, TextToken};
 use std::fmt::Display;
 use std::str::from_utf8;
 
@@ -78,6 +78,15 @@ pub(crate) fn show_piece(piece: Piece, out: &mut Printed) {
     show_styles(piece.styles, out);
     out.put(" ");
     show_span(piece.span, out);
+}
+
+/// Prints a token: `KIND EFFECT FROM-TO`.
+pub(crate) fn show_token(token: TextToken, out: &mut Printed) {
+    out.show_debug(&token.kind);
+    out.put(" ");
+    out.show_debug(&token.effect);
+    out.put(" ");
+    show_span(token.span, out);
 }
 
 /// Prints how a text ends.

@@ -6,11 +6,12 @@ use crate::printed::Printed;
 use crate::restored;
 use crate::show::{
     show_bytes, show_char, show_findings, show_how, show_piece, show_span, show_text_event,
+    show_token,
 };
 use gabc_places::{Char, Finding, Place, Room, Span, Stage, outputs_of};
 use gabc_text::{
     TextEnding, TextEvent, TextStage, TextView, kept_chars, regular_text, text_len, text_whole,
-    write_text,
+    tokens_in, write_text,
 };
 use std::alloc::{AllocError, Global};
 
@@ -89,6 +90,16 @@ fn answer_pieces(alloc: Global, input: &str, out: &mut Printed) -> Result<(), Al
     let read = text_whole(alloc, input, Place::START)?;
     show_view(&read.view, out);
     Ok(())
+}
+
+/// Prints the tokens of a text, which come one by one.
+fn answer_tokens(text: &str, out: &mut Printed) {
+    for token in tokens_in(text) {
+        if token.span.from > 0 {
+            out.tab();
+        }
+        show_token(token, out);
+    }
 }
 
 /// Prints how many events a stage gives for a character at most, and these events.
@@ -170,6 +181,10 @@ pub(crate) fn answer(alloc: Global, call: Call, out: &mut Printed) -> Result<(),
         ("text_end", _, _) => answer_end(alloc, call.text, out),
         ("text_pieces", _, _) => answer_pieces(alloc, call.text, out),
         ("text_events", _, _) => answer_events(alloc, call.text, out),
+        ("tokens", _, _) => {
+            answer_tokens(call.text, out);
+            Ok(())
+        }
         ("kept_chars", _, _) => answer_kept_chars(alloc, call.text, out),
         ("text_report", Some(first), Some(second)) => {
             answer_report(alloc, first, second, call.text, out)

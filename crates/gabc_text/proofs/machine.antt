@@ -6,6 +6,7 @@ pub mod EventsStepByStep
 pub mod ExampleTextIsRead
 pub mod FactsOfTokens
 pub mod FactsPastTokens
+pub mod FirstTokenIsRead
 pub mod FreshStageEmitsEventsByPoint
 pub mod KeptOfOpenToken
 pub mod LoopOverText

@@ -17,6 +17,7 @@ pub mod TextFacts
 pub mod TextRead
 pub mod TextSpan
 pub mod TextStage
+pub mod TextTokens
 pub mod TextView
 pub mod Token
 pub mod View

@@ -8,5 +8,6 @@ pub mod StageReports
 pub mod TagPrefix
 pub mod TextFacts
 pub mod TextStage
+pub mod TokenReader
 pub mod TokenState
 pub mod Resuming

@@ -6,41 +6,56 @@ ghost use Rattle.gabc_text.specs.View.{is_space};
 
 use crate::styles::Style;
 
-/// What a token of the text is.
-#[derive(Clone, Copy)]
+/// What a token of a text is.
+#[derive(Clone, Copy, Debug, PartialEq, Eq)]
 pub enum TokenKind {
     /// A character that stands for itself, with its `$` if it has one.
     Letter,
+    /// A blank.
     Blank,
+    /// A comment, from its `%` to the line's end.
     Comment,
     /// A character that is left out.
     Stray,
-    /// `{` and `}`.
+    /// A `{`.
     Begin,
+    /// A `}`.
     End,
+    /// A tag.
     Tag,
-    /// A raw part with both its tags; a translation with its brackets.
+    /// A raw part with both its tags.
     Raw,
+    /// A translation with its brackets.
     Translation,
-    /// A tag or raw part, and a translation, that the end of the text leaves open.
+    /// A tag or raw part that the end of the text leaves open.
     OpenTag,
+    /// A translation that the end of the text leaves open.
     OpenTranslation,
 }
 
-#[derive(Clone, Copy)]
+/// A raw part of a text, by its tag.
+#[derive(Clone, Copy, Debug, PartialEq, Eq)]
 pub enum RawKind {
+    /// `<v>`, verbatim TeX.
     V,
+    /// `<sp>`, a special character.
     Sp,
+    /// `<alt>`, a text over the line.
     Alt,
 }
 
 /// What a tag does.
-#[derive(Clone, Copy)]
+#[derive(Clone, Copy, Debug, PartialEq, Eq)]
 pub enum TagEffect {
+    /// It opens a style.
     Opens(Style),
+    /// It closes a style.
     Closes(Style),
+    /// It opens or closes a span of several syllables.
     Mark,
+    /// It begins a raw part.
     Begins(RawKind),
+    /// Nothing of these.
     Other,
 }
 
