@@ -1,2 +1,5 @@
 pub mod AllIsKept
+pub mod CommentsKeepNothing
+pub mod KeptAgainIsRead
+pub mod OpenIsRead
 pub mod SyllablesAreRead

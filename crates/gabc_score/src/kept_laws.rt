@@ -1,7 +1,7 @@
 //! Laws of kept texts that are read by themselves. Each function is there for its clauses, and
 //! calls the laws on which it stands.
 
-ghost use Rattle.std.specs.Prelude.{◌≡◌, ◌↔◌, ◌++◌, ◌≤◌, ℕ, List, [], Bool, length, encode_utf8_all};
+ghost use Rattle.std.specs.Prelude.{◌≡◌, ◌↔◌, ◌≤◌, ◌<◌, ◌^◌, ℕ, List, Bool, length, encode_utf8_all};
 ghost use Rattle.std.specs.Char.{IsScalar};
 ghost use Rattle.std.specs.List.{All};
 ghost use Rattle.gabc_places.specs.declared.limits.Limits.{Limits};
@@ -9,12 +9,13 @@ ghost use Rattle.gabc_score.specs.declared.body_tells.Openers.{Openers};
 ghost use Rattle.gabc_text.specs.Events.{CountsFit};
 ghost use Rattle.gabc_body.specs.declared.before.Spans.{Spans};
 ghost use Rattle.gabc_body.specs.OneSyllable.{IsOneSyllable};
-ghost use Rattle.gabc_body.specs.ReadAlone.{read_first, no_spans, IsReadAsSyllable};
+ghost use Rattle.gabc_body.specs.ReadAlone.{IsReadAsSyllable};
 ghost use Rattle.gabc_body.specs.ScoreEvents.{first_place};
-ghost use Rattle.gabc_body.specs.Syllable.{UnplacedSyllable, all_syllables, kept_of};
-ghost use Rattle.gabc_score.specs.KeptAgain.{IsKeptAgain, emitted};
+ghost use Rattle.gabc_body.specs.Syllable.{UnplacedSyllable};
+ghost use Rattle.gabc_score.specs.KeptAgain.{IsKeptAgain};
 ghost use Rattle.gabc_score.specs.ReadAgain.{IsReported, ReportsReading};
 ghost use Rattle.gabc_score.specs.machine.StageLaws.{StageLaws};
+ghost use Rattle.gabc_score.specs.witness.EmittedAgain.{IsEmittedAgain};
 ghost use Rattle.gabc_score.specs.witness.ReadAgain.{CanBeReadAgain};
 ghost use Rattle.gabc_score.specs.witness.ScoreStage.{ScoreStageState};
 
@@ -36,12 +37,25 @@ pub(crate) fn laws_of_stages()
     gabc_nabc::laws::a_stage_takes_each_character();
 }
 
+/// Law: a text is kept again, read by itself, by all that its characters emit exactly if it is so
+/// by what is kept of it, if they are Unicode scalar values and it has fewer than 2^63 bytes.
+pub fn a_text_is_kept_again_by_kept()
+    ensures { (lines macros : ℕ) (t : List ℕ) (openers : Openers) (comment : Bool) →
+        All IsScalar t → length (encode_utf8_all t) < 2 ^ 63 →
+        IsEmittedAgain lines macros t openers comment
+        ↔ IsKeptAgain lines macros t openers comment }
+{
+    laws_of_stages();
+    stage_laws::a_text_is_read_from_its_beginning();
+    gabc_body::by_kept_laws::texts_go_by_kept();
+}
+
 /// Law: what a stage reports of the syllable that it reads is kept again where it is read by
 /// itself, and what is open after it is what the stage reports. It is no longer than a syllable may
 /// be.
 pub fn what_is_reported_is_kept_again()
     ensures again { (s : ScoreStageState) (t : List ℕ) (openers : Openers) (comment : Bool) →
-        CanBeReadAgain s → ReportsReading s (encode_utf8_all t) openers comment →
+        All IsScalar t → CanBeReadAgain s → ReportsReading s (encode_utf8_all t) openers comment →
         IsKeptAgain s.body.nabc_lines s.body.macros t openers comment }
     ensures short { (s : ScoreStageState) (t : List ℕ) (openers : Openers) (comment : Bool) →
         CanBeReadAgain s → ReportsReading s (encode_utf8_all t) openers comment →
@@ -49,21 +63,23 @@ pub fn what_is_reported_is_kept_again()
 {
     laws_of_stages();
     stage_laws::a_text_is_read_from_its_beginning();
+    a_text_is_kept_again_by_kept();
 }
 
 /// Law: a text that is kept again where it is read by itself, no longer than a syllable may be, is
 /// what some stage reports of the syllable that it reads, wherever its openers are said to stand.
 /// It is kept again where each of its characters is kept, no syllable is whole, and what is open
 /// after it is reported: the `(` of notes, an inner opener, and a comment only where a `%` after it
-/// is not kept.
+/// begins one.
 pub fn what_is_kept_again_is_reported()
     ensures { (limits : Limits) (lines macros : ℕ) (t : List ℕ) (openers : Openers)
-        (comment : Bool) → IsKeptAgain lines macros t openers comment →
+        (comment : Bool) → All IsScalar t → IsKeptAgain lines macros t openers comment →
         length (encode_utf8_all t) ≤ limits.syllable →
         IsReported limits lines macros t openers comment }
 {
     laws_of_stages();
     stage_laws::a_text_is_read_from_its_beginning();
+    a_text_is_kept_again_by_kept();
 }
 
 /// Law: where spans are open, a text is one syllable, within a limit and with warnings alone,
@@ -73,18 +89,6 @@ pub fn a_syllable_is_read_by_kept()
         (m : UnplacedSyllable) → All IsScalar t → CountsFit first_place t →
         IsOneSyllable lines macros first_place t spans limit m
         ↔ IsReadAsSyllable lines macros t spans limit m }
-{
-    gabc_body::by_kept_laws::texts_go_by_kept();
-}
-
-/// Law: all of a text is kept again, and no syllable is made of it, exactly if the reading by what
-/// is kept keeps all of it and makes none.
-pub fn all_of_a_text_is_kept_by_kept()
-    ensures { (lines macros : ℕ) (t : List ℕ) → All IsScalar t → CountsFit first_place t →
-        (let read = read_first lines macros no_spans t (length t) in
-        ((kept_of (emitted lines macros t) ≡ encode_utf8_all t)
-        × (all_syllables (emitted lines macros t) ≡ []))
-        ↔ ((read.reading.before ++ read.reading.kept ≡ t) × (read.made ≡ []))) }
 {
     gabc_body::by_kept_laws::texts_go_by_kept();
 }

@@ -26,7 +26,7 @@ use crate::score_event::ScoreEvent;
 use crate::score_machine::{ScoreMachine, ScorePart};
 use crate::score_stage::ScoreStage;
 use crate::slot_pair::SlotPair;
-use crate::{machine_laws, stage_laws};
+use crate::{kept_laws, machine_laws, stage_laws};
 use gabc_body::Before;
 use gabc_places::{Char, Limits, Memory, Place, Room, Severity};
 use gabc_text::TextStage;
@@ -177,6 +177,7 @@ impl ScoreMachine {
         ensures holds { HoldsAlone self.old text.now result self.new }
     {
         stage_laws::a_text_is_read_from_its_beginning();
+        kept_laws::a_syllable_is_read_by_kept();
         if !self.read_all(Place::START, text, room) {
             self.part = ScorePart::Over;
             return false;

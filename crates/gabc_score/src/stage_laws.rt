@@ -4,6 +4,7 @@
 ghost use Rattle.std.specs.Prelude.{◌≡◌, ◌==◌, ◌+◌, ◌*◌, ◌<◌, ◌≤◌, ◌^◌, ℕ, List, [], ◌∷◌, None, Some, true, false, length, map, is_some, option_to_list, encode_utf8_all, IfOk, IfSome, OnErr, OnOk, Ok};
 ghost use Rattle.gabc_headers.specs.declared.head_event.HeadEvent.{HeadEvent};
 ghost use Rattle.gabc_headers.specs.declared.head_event.HeadEvent.TheVariants.{Stop};
+ghost use Rattle.std.specs.Char.{IsScalar};
 ghost use Rattle.std.specs.List.{All};
 ghost use Rattle.std.specs.Str.{IsUtf8};
 ghost use Rattle.gabc_headers.specs.witness.HeadEvents.{events_of_input, reading};
@@ -24,7 +25,7 @@ ghost use Rattle.gabc_body.specs.Events.{texts_by_definition, text_from, events_
 ghost use Rattle.gabc_body.specs.ScoreEvents.{HasNoEnd, ScoreOutput, fault_in, findings_in, has_end, head_events, outputs_of_text, score_outputs, syllables_in};
 ghost use Rattle.gabc_score.specs.HeldAside.{HoldTheSame, GiveTheSame};
 ghost use Rattle.gabc_score.specs.AreEquivalent.{AreEquivalent};
-ghost use Rattle.gabc_body.specs.OneSyllable.{IsOneSyllable};
+ghost use Rattle.gabc_body.specs.ReadAlone.{IsReadAsSyllable};
 ghost use Rattle.gabc_score.specs.HeldAgain.{MayBeHeld};
 ghost use Rattle.gabc_score.specs.ReadAgain.{CanBeReadInText, ComesBefore};
 ghost use Rattle.gabc_score.specs.Resumed.{BeginsText, IsAfterSyllables};
@@ -345,11 +346,13 @@ pub fn a_text_is_one_syllable()
 /// Law: a text that is one syllable keeps at most five bytes for each of its characters, on the way
 /// and in all. So it is that syllable under each limit that is no less than this.
 pub fn one_syllable_keeps_no_more_than_its_text()
-    ensures { (lines macros : ℕ) (at : Place) (text : List ℕ) (spans : Spans)
-        (limit other : ℕ) (m : UnplacedSyllable) → 5 * length text ≤ other →
-        IsOneSyllable lines macros at text spans limit m →
-        IsOneSyllable lines macros at text spans other m × (length m.kept ≤ other) }
-{}
+    ensures { (lines macros : ℕ) (t : List ℕ) (spans : Spans) (limit other : ℕ)
+        (m : UnplacedSyllable) → All IsScalar t → length (encode_utf8_all t) < 2 ^ 63 →
+        5 * length t ≤ other → IsReadAsSyllable lines macros t spans limit m →
+        IsReadAsSyllable lines macros t spans other m × (length m.kept ≤ other) }
+{
+    kept_laws::a_syllable_is_read_by_kept();
+}
 
 /// Reads again what `told` reports of the syllable that it reads, in a stage that stands before
 /// this syllable. Both stand after the same and under the same limits, and the syllables that they

@@ -119,7 +119,11 @@ pub fn what_is_held_may_be_held_by_its_text(stage: &ScoreStage)
     ensures { IfSome (held_of stage.now) (MayBeHeldByItsText stage.now.limits
         (before_with stage.now.body stage.now.before)) }
 {
+    gabc_body::unit_laws::the_canonical_text_of_a_unit_is_a_text();
+    gabc_score::kept_laws::a_syllable_is_read_by_kept();
     gabc_score::stage_laws::a_stage_is_reachable(stage);
+    gabc_score::stage_laws::what_is_held_holds_a_unit();
+    gabc_score::stage_laws::what_is_held_is_in_utf8(stage);
     gabc_score::stage_laws::what_is_reported_is_within_the_limits();
     gabc_score::unit_laws::some_events_leave_spans_open();
     what_is_held_is_read_from_its_own_text();

@@ -23,6 +23,7 @@ pub fn what_is_saved_alike_goes_on_alike()
     gabc_score::stage_laws::what_is_reported_is_within_the_limits();
     gabc_score::stage_laws::what_is_held_is_a_text();
     laws::what_is_held_is_read_from_its_own_text();
+    gabc_score::kept_laws::a_syllable_is_read_by_kept();
     gabc_score::stage_laws::what_is_held_holds_a_unit();
     gabc_score::stage_laws::spans_of_what_is_held_follow();
     gabc_score::unit_laws::some_events_leave_spans_open();

@@ -34,6 +34,7 @@ fn hold_told(
     laws::what_is_held_may_be_held_by_its_text(told);
     gabc_score::stage_laws::a_stage_is_reachable(told);
     laws::what_is_held_is_read_from_its_own_text();
+    gabc_score::kept_laws::a_syllable_is_read_by_kept();
     gabc_score::stage_laws::what_is_held_holds_a_unit();
     gabc_score::stage_laws::spans_of_what_is_held_follow();
     gabc_score::unit_laws::snippets_of_a_unit_stand_between_characters();

@@ -1,11 +1,14 @@
 -- The texts of a score are read under limits that are enough for them as under those of their state.
-use Rattle.std.proofs.Common.{◌≡◌, ◌↔◌, ◌*◌, ◌≤◌, ℕ, List, length, ap, subst, arith}
+use Rattle.std.proofs.Common.{◌≡◌, ◌↔◌, ◌*◌, ◌<◌, ◌≤◌, ◌^◌, ℕ, List, length, encode_utf8_all, ap, subst, arith}
+use Rattle.std.specs.Char.{IsScalar}
+use Rattle.std.specs.List.{All}
 use Rattle.std.specs.Str.{chars}
+use Rattle.std.proofs.lemmas.Str.{encodes-chars, scalars-chars}
 use Rattle.gabc_places.specs.declared.limits.Limits.{Limits}
-use Rattle.gabc_places.specs.declared.place.Place.{Place}
 use Rattle.gabc_places.specs.TextOfAnInput.{IsText}
 use Rattle.gabc_score.proofs.runs.RunGoesOn.{few_characters}
-use Rattle.gabc_body.specs.OneSyllable.{IsOneSyllable}
+use Rattle.gabc_score.proofs.texts_of_body.BodyAfterHeads.{are_scalars}
+use Rattle.gabc_body.specs.ReadAlone.{IsReadAsSyllable}
 use Rattle.gabc_body.specs.Syllable.{UnplacedSyllable}
 use Rattle.gabc_body.specs.declared.before.Spans.{Spans}
 use Rattle.gregorio_state.specs.Conditions.{ArePhaseFields, AreScoreFields}
@@ -14,11 +17,15 @@ use Rattle.gregorio.specs.SavedState.{IsHeldRead, IsKeptRead, IsScoreRead, Repor
 use Rattle.gregorio.specs.machine.Judging.{IsEnoughFor, LetsTexts}
 use Rattle.gregorio.specs.machine.Restoring.{AreFieldsIn}
 
-module _ (law : (lines macros : ℕ) (at : Place) (text : List ℕ) (spans : Spans) (limit other : ℕ) (m : UnplacedSyllable) → 5 * length text ≤ other → IsOneSyllable lines macros at text spans limit m
-    → IsOneSyllable lines macros at text spans other m × (length m.kept ≤ other)) where
-  held_alike : (limits other : Limits) (f : ScoreFields) → length (chars f.held) ≤ length f.held → LetsTexts f other → other.input ≡ limits.input → IsHeldRead limits f → IsHeldRead other f
-  held_alike limits other f few lets input h =
-      let one = law _ _ _ _ _ limits.syllable other.syllable h.m (omega (arith, few, lets.held)) h.may.read in
+module _ (law : (lines macros : ℕ) (t : List ℕ) (spans : Spans) (limit other : ℕ) (m : UnplacedSyllable) → All IsScalar t → length (encode_utf8_all t) < 2 ^ 63 → 5 * length t ≤ other → IsReadAsSyllable lines macros t spans limit m
+    → IsReadAsSyllable lines macros t spans other m × (length m.kept ≤ other)) where
+  held_alike : (limits other : Limits) (f : ScoreFields) → IsText f.held → LetsTexts f other → other.input ≡ limits.input → IsHeldRead limits f → IsHeldRead other f
+  held_alike limits other f is lets input h =
+      let few = few_characters f.held is.utf8 in
+      let all = ap length (encodes-chars f.held is.utf8) in
+      let most = other.in_range.syllable_most in
+      let one = law _ _ _ _ limits.syllable other.syllable h.m (are_scalars (chars f.held) (scalars-chars f.held is.utf8))
+      (omega (arith, all, most, lets.held)) (omega (arith, few, lets.held)) h.may.read in
       let size = ap length h.is in
       record {
         m = h.m;
@@ -29,11 +36,11 @@ module _ (law : (lines macros : ℕ) (at : Place) (text : List ℕ) (spans : Spa
   kept_alike : (limits other : Limits) (f : ScoreFields) → LetsTexts f other → IsKeptRead limits f → IsKeptRead other f
   kept_alike limits other f lets k = record { again = k.again; short = lets.kept }
 
-  read_alike : (limits other : Limits) (f : ScoreFields) → length (chars f.held) ≤ length f.held → LetsTexts f other → other.input ≡ limits.input → IsScoreRead limits f → IsScoreRead other f
-  read_alike limits other f few lets input r = record { held = λ some. held_alike limits other f few lets input (r.held some); kept = kept_alike limits other f lets r.kept }
+  read_alike : (limits other : Limits) (f : ScoreFields) → IsText f.held → LetsTexts f other → other.input ≡ limits.input → IsScoreRead limits f → IsScoreRead other f
+  read_alike limits other f is lets input r = record { held = λ some. held_alike limits other f is lets input (r.held some); kept = kept_alike limits other f lets r.kept }
 
   score_alike : (limits small : Limits) (f : ScoreFields) → IsText f.held → IsEnoughFor f limits small → IsScoreRead small f ↔ IsScoreRead limits f
-  score_alike limits small f is h = grind (arith, few_characters, read_alike)
+  score_alike limits small f is h = grind (arith, read_alike)
 
   pub of_fields_alike : (s : StateFields) (limits small : Limits) (f : ScoreFields) → AreFieldsIn (InScore f) s → IsEnoughFor f limits small → IsScoreRead small f ↔ IsScoreRead limits f
   of_fields_alike s limits small f are = score_alike limits small f (subst (ArePhaseFields s) are.phase_is are.fields.phase).held.is_text

@@ -1,6 +1,6 @@
 -- What was gathered stays what the parts of the kept text say, with the events of each part.
 use Rattle.std.proofs.lemmas.Bool.{and_parts, true≢false}
-use Rattle.std.proofs.Common.{◌≡◌, ℕ, ◌+◌, nat_lt, Bool, true, false, cond, not, ◌==◌, List, [], ◌∷◌, ◌++◌, map, length, encode_utf8, encode_utf8_all, refl, sym, ap, subst, ◌∙◌, append-nil, append_assoc, length-append, arith}
+use Rattle.std.proofs.Common.{◌≡◌, ℕ, nat_lt, Bool, true, false, cond, not, ◌==◌, List, [], ◌∷◌, ◌++◌, map, length, encode_utf8, encode_utf8_all, refl, sym, ap, subst, ◌∙◌, append-nil, append_assoc, arith}
 use Rattle.std.proofs.lemmas.List.{map-append}
 use Rattle.std.proofs.lemmas.List.Folds.{list_any-append}
 use Rattle.std.proofs.lemmas.Str.{encodes-append}
@@ -27,13 +27,13 @@ use Rattle.gabc_score.specs.declared.body_stage.BodyPart.TheVariants as part
 use Rattle.gabc_body.specs.declared.events.BodyEvent.{BodyEvent}
 use Rattle.gabc_body.specs.declared.events.BodyEvent.TheVariants as event
 use Rattle.gabc_body.specs.Events.{is_text_end, note_event}
-use Rattle.gabc_body.specs.Syllable.{UnplacedSyllable, prefix_of}
+use Rattle.gabc_body.specs.Syllable.{UnplacedSyllable}
 use Rattle.gabc_body.specs.witness.BodyBuilder.{with_all}
 use Rattle.gabc_body.specs.witness.Gatherer.{Gathered, with_event}
 use Rattle.gabc_score.specs.machine.PartKeeps.{KeptParts, in_text, in_notes, text_before, joined, snippet_events, said_by, AreAfter, PartKeeps, begun, ReadAlike, IsReading, spans_past, PartKeepsOn}
 use Rattle.gabc_body.specs.witness.TextEvents.{kept_char, text_events}
 use Rattle.gabc_body.proofs.gathering.EventsOfOnePoint.{with_all_append}
-use Rattle.gabc_body.proofs.texts_of_body.SeamsOfCharacters.{size, cut_between, cut_is}
+use Rattle.gabc_body.proofs.texts_of_body.SeamsOfCharacters.{size}
 use Rattle.gabc_body.proofs.syllables_of_units.LastTagOpensTheSpan.{out_parts}
 
 -- ---- the same was gathered of the syllable that is read

@@ -2,7 +2,7 @@
 use Rattle.std.proofs.Common.{◌≡◌, ℕ, Bool, true, false, cond, List, [], ◌∷◌, ◌++◌, length, encode_utf8_all, refl, sym, ap, ◌∙◌, length-append, arith}
 use Rattle.std.specs.Prelude.{◌↔◌}
 use Rattle.std.proofs.lemmas.Str.{encodes_same}
-use Rattle.gabc_score.specs.KeptAgain.{emitted}
+use Rattle.gabc_score.specs.witness.EmittedAgain.{emitted}
 use Rattle.gabc_body.specs.ReadAlone.{no_spans, read_first}
 use Rattle.gabc_body.specs.ScoreEvents.{first_place}
 use Rattle.gabc_body.specs.Syllable.{UnplacedSyllable, closes, since_close, kept_of, all_syllables, syllable_by, is_eu, is_nlba}

@@ -36,13 +36,13 @@ use Rattle.gabc_score.proofs.resuming.MadeOfEvents.{MadeAlike, made_after}
 use Rattle.gabc_body.proofs.syllables_of_units.OpenSpans.{opened, leaves_open}
 
 module _ (alike : TextsGoByKept) (lines macros : ℕ) (t : List ℕ) (spans : Spans) (fits : Fits first_place t 0) where
-  abbrev xs : List Char
+  abbrev pub xs : List Char
   xs = placed_characters_from first_place t
 
-  abbrev b0 : BodyRead
+  abbrev pub b0 : BodyRead
   b0 = begun_after [] spans.eu spans.nlba false
 
-  begins : Stands (InText (texts_by_definition first_place xs)) first_place t b0 (begun spans) []
+  pub begins : Stands (InText (texts_by_definition first_place xs)) first_place t b0 (begun spans) []
   begins = record {
     made_is = refl;
     uncut = refl;

@@ -15,7 +15,7 @@ use Rattle.gabc_score.specs.declared.body_stage.BodyPart.{BodyPart}
 use Rattle.gabc_score.specs.declared.body_stage.BodyPart.TheVariants as part
 use Rattle.gabc_body.specs.Body.{cut_of}
 use Rattle.gabc_body.specs.Events.{events_at_end, first_list}
-use Rattle.gabc_score.specs.KeptAgain.{is_other}
+use Rattle.gabc_score.specs.witness.EmittedAgain.{is_other}
 use Rattle.gabc_score.specs.ScoreReports.{is_in_front, openers_of}
 use Rattle.gabc_score.specs.ReportedWithin.{AreOpenersBefore}
 use Rattle.gabc_score.specs.machine.PartKeeps.{KeptParts, in_text, in_notes, line_after, PartKeeps}
@@ -48,7 +48,7 @@ module _ (laws : Ends) (lines macros : ℕ) where
 -- ---- where the end cuts
 
 -- a text, by its own events
-text_cut_of : (es : List TextEvent) → cut_of (text_events es ++ []) ≡ text_tells.cut_place es
+pub text_cut_of : (es : List TextEvent) → cut_of (text_events es ++ []) ≡ text_tells.cut_place es
 text_cut_of [] = refl
 text_cut_of (text_out.Ended (text_end.Cut p) ∷ es) = refl
 text_cut_of (_ ∷ es) = text_cut_of es

@@ -14,7 +14,7 @@ use Rattle.gabc_score.specs.declared.score_machine.ScorePart.TheVariants as scor
 use Rattle.gabc_body.specs.declared.syllable.Position.TheVariants as position
 use Rattle.gabc_score.specs.Before.{no_syllable}
 use Rattle.gabc_body.specs.Body.{events_onto}
-use Rattle.gabc_score.specs.KeptAgain.{IsKeptAgain}
+use Rattle.gabc_score.specs.witness.EmittedAgain.{IsEmittedAgain}
 use Rattle.gabc_score.specs.ReadAgain.{IsReported}
 use Rattle.gabc_body.specs.ScoreEvents.{first_place}
 use Rattle.gabc_score.specs.ScoreReports.{is_in_comment, is_in_front, openers_of}
@@ -48,7 +48,7 @@ module _ (laws : StageLaws) (reads : FromBeginning) (lines macros : ℕ) (t : Li
   after : List BodyEvent
   after = events_onto (concat_of r.read.lists) []
 
-  module _ (openers : Openers) (comment : Bool) (h : IsKeptAgain lines macros t openers comment) where
+  module _ (openers : Openers) (comment : Bool) (h : IsEmittedAgain lines macros t openers comment) where
     none : all_syllables after ≡ []
     unfolding after
     none = ap all_syllables (sym (emitted_plain reads laws.steps lines macros t few r.read)) ∙ h.none
@@ -123,7 +123,7 @@ stage_of limits lines macros part kept = record {
   second = no_syllable_lent;
 }
 
-pub is_reported : StageLaws → FromBeginning → (limits : Limits) (lines macros : ℕ) (t : List ℕ) (openers : Openers) (comment : Bool) → IsKeptAgain lines macros t openers comment
+pub is_reported : StageLaws → FromBeginning → (limits : Limits) (lines macros : ℕ) (t : List ℕ) (openers : Openers) (comment : Bool) → IsEmittedAgain lines macros t openers comment
     → length (encode_utf8_all t) ≤ limits.syllable → IsReported limits lines macros t openers comment
 is_reported laws reads limits lines macros t openers comment h short = record {
   stage = stage_of limits lines macros there.there (encode_utf8_all t);
@@ -140,7 +140,7 @@ is_reported laws reads limits lines macros t openers comment h short = record {
     b : KeepsText lines macros t comment
     b = keeps_text laws reads lines macros t few openers comment h
 
-    again : IsKeptAgain lines macros t (openers_of b.part) (is_in_comment b.part)
+    again : IsEmittedAgain lines macros t (openers_of b.part) (is_in_comment b.part)
     again = kept_again laws reads lines macros t b.part b.parts b.keeps b.front b.is few
 
     there : OpensSo lines macros b.part b.parts openers

@@ -11,7 +11,7 @@ use Rattle.gabc_score.specs.declared.body_tells.Openers.{Openers}
 use Rattle.gabc_body.specs.declared.events.BodyEvent.{BodyEvent}
 use Rattle.gabc_body.specs.Body.{cut_of, events_onto}
 use Rattle.gabc_body.specs.Events.{events_at_end}
-use Rattle.gabc_score.specs.KeptAgain.{IsKeptAgain, emitted, is_other, lists, notes_at, placed}
+use Rattle.gabc_score.specs.witness.EmittedAgain.{IsEmittedAgain, emitted, is_other, lists, notes_at, placed}
 use Rattle.gabc_score.specs.ReadAgain.{ReportsReading}
 use Rattle.gabc_body.specs.ScoreEvents.{first_place}
 use Rattle.gabc_score.specs.ScoreReports.{is_in_comment, is_in_front, openers_of}
@@ -46,13 +46,13 @@ module _ (laws : StageLaws) (reads : FromBeginning) (lines macros : ℕ) where
   }
 
   module _ (t : List ℕ) (told : BodyPart) (p : KeptParts) (keeps : PartKeeps lines macros told p) (front : is_in_front told ≡ false) (is : joined p ≡ t) (few : length (encode_utf8_all t) < 2 ^ 63) where
-    r : ReadsOn laws.steps lines macros first_place begun_text [] [] t
+    pub r : ReadsOn laws.steps lines macros first_place begun_text [] [] t
     r = grind (arith, reads_on, begins_text, length-le-encodes)
 
-    same : r.stands.reading.parts ≡ p
+    pub same : r.stands.reading.parts ≡ p
     same = grind (arith, parts_are_one, encodes_same)
 
-    keeps_same : PartKeeps lines macros r.read.after p
+    pub keeps_same : PartKeeps lines macros r.read.after p
     keeps_same = subst (PartKeeps lines macros r.read.after) same r.stands.reading.keeps
 
     -- ---- what is kept
@@ -80,16 +80,16 @@ module _ (laws : StageLaws) (reads : FromBeginning) (lines macros : ℕ) where
 
     -- ---- what is open
 
-    notes_at_all : notes_at (placed lines macros t) (lists lines macros t) ≡ (openers_of r.read.after).notes
+    pub notes_at_all : notes_at (placed lines macros t) (lists lines macros t) ≡ (openers_of r.read.after).notes
     notes_at_all = notes_all reads laws.steps lines macros t few r.read ∙ r.notes
 
-    inside_is : is_other (cut_of (concat_of (drop (length t) (lists lines macros t)))) (notes_at (placed lines macros t) (lists lines macros t)) ≡ is_some (openers_of r.read.after).inner
+    pub inside_is : is_other (cut_of (concat_of (drop (length t) (lists lines macros t)))) (notes_at (placed lines macros t) (lists lines macros t)) ≡ is_some (openers_of r.read.after).inner
     inside_is =
         ap (λ (es : List BodyEvent). is_other (cut_of es) (notes_at (placed lines macros t) (lists lines macros t))) (end_is reads laws.steps lines macros t few r.read)
         ∙ ap (is_other (cut_of (events_at_end (part_with r.read.after []) ++ []))) notes_at_all
         ∙ cut_is laws.ends lines macros r.read.after p keeps_same r.stands.front (place_past first_place t) r.stands.openers
 
-    pub kept_again : IsKeptAgain lines macros t (openers_of told) (is_in_comment told)
+    pub kept_again : IsEmittedAgain lines macros t (openers_of told) (is_in_comment told)
     kept_again = record {
       kept = ap kept_of (emitted_plain reads laws.steps lines macros t few r.read) ∙ kept_before (events_onto (concat_of r.read.lists) []) (encode_utf8_all t) r.stands.kept r.stands.none;
       none = ap all_syllables (emitted_plain reads laws.steps lines macros t few r.read) ∙ r.stands.none;
@@ -105,9 +105,9 @@ module _ (s : ScoreStageState) (t : List ℕ) (openers : Openers) (comment : Boo
   pub told_is_short : length (encode_utf8_all t) ≤ s.limits.syllable
   told_is_short = let same = ap length kept_text in let short = can.told.short in omega (arith, same, short)
 
-  pub told_is_kept_again : StageLaws → FromBeginning → IsKeptAgain s.body.nabc_lines s.body.macros t openers comment
+  pub told_is_kept_again : StageLaws → FromBeginning → IsEmittedAgain s.body.nabc_lines s.body.macros t openers comment
   told_is_kept_again laws reads =
-      subst (λ (o : Openers). IsKeptAgain s.body.nabc_lines s.body.macros t o comment) tells.openers_are
-      (subst (IsKeptAgain s.body.nabc_lines s.body.macros t (openers_of s.body.part)) tells.comment_is
+      subst (λ (o : Openers). IsEmittedAgain s.body.nabc_lines s.body.macros t o comment) tells.openers_are
+      (subst (IsEmittedAgain s.body.nabc_lines s.body.macros t (openers_of s.body.part)) tells.comment_is
       (kept_again laws reads s.body.nabc_lines s.body.macros t s.body.part can.told.parts can.told.keeps tells.front
       (encodes_same (joined can.told.parts) t (sym can.told.is ∙ kept_text)) (let short = told_is_short in let most = s.limits.in_range.syllable_most in omega (arith, short, most))))

@@ -29,7 +29,7 @@ use Rattle.gabc_score.specs.declared.body_tells.Openers.{Openers}
 use Rattle.gabc_body.specs.declared.events.BodyEvent.{BodyEvent}
 use Rattle.gabc_body.specs.declared.events.BodyEvent.TheVariants as event
 use Rattle.gabc_body.specs.Events.{InNotes, after_mark, events_from, is_close, is_next, is_text_end, next_line, note_event}
-use Rattle.gabc_score.specs.KeptAgain.{opens}
+use Rattle.gabc_score.specs.witness.EmittedAgain.{opens}
 use Rattle.gabc_score.specs.ScoreReports.{is_in_comment, is_in_front, openers_of}
 use Rattle.gabc_score.specs.machine.PartKeeps.{KeptParts, in_text, in_notes, PartKeeps, PartKeepsOn, PartStandsOn}
 use Rattle.gabc_body.specs.witness.TextEvents.{text_events}

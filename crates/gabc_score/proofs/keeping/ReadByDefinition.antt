@@ -17,7 +17,7 @@ use Rattle.gabc_score.specs.declared.body_stage.BodyPart.TheVariants as part
 use Rattle.gabc_body.specs.declared.events.BodyEvent.{BodyEvent}
 use Rattle.gabc_body.specs.Body.{events_onto}
 use Rattle.gabc_body.specs.Events.{events_at_end, events_from, text_from, texts_by_definition}
-use Rattle.gabc_score.specs.KeptAgain.{emitted, lists, notes_at, opens, placed}
+use Rattle.gabc_score.specs.witness.EmittedAgain.{emitted, lists, notes_at, opens, placed}
 use Rattle.gabc_body.specs.ScoreEvents.{first_place}
 use Rattle.gabc_body.specs.Syllable.{UnplacedSyllable, all_syllables, closes, since_close, syllable_by, is_eu, is_nlba}
 use Rattle.gabc_score.specs.witness.BodyStage.{BodyStageState, part_with, running_events_left, texts_by_stage}

@@ -13,7 +13,7 @@ use Rattle.gabc_score.specs.declared.body_stage.BodyPart.{BodyPart}
 use Rattle.gabc_body.specs.declared.events.BodyEvent.{BodyEvent}
 use Rattle.gabc_body.specs.Body.{events_onto}
 use Rattle.gabc_body.specs.Events.{events_from}
-use Rattle.gabc_score.specs.KeptAgain.{notes_at, opens}
+use Rattle.gabc_score.specs.witness.EmittedAgain.{notes_at, opens}
 use Rattle.gabc_score.specs.ScoreReports.{IsAt, is_in_comment, is_in_front, openers_of}
 use Rattle.gabc_body.specs.Syllable.{all_syllables}
 use Rattle.gabc_score.specs.ReportedWithin.{AreOpenersBefore, IsPlace}

@@ -23,13 +23,14 @@ use Rattle.gabc_score.specs.machine.ReadAlone.{is_alone, lists_of}
 use Rattle.gabc_score.specs.machine.ScoreMachine.{shown, IsInBody}
 use Rattle.gabc_score.specs.witness.BodyStage.{BodyStageState, running_events_left}
 use Rattle.gabc_score.proofs.resuming.BeginsAnywhere.{none_in_body, nothing_in_body}
-use Rattle.gabc_score.proofs.resuming.HeldIsRead.{Found, found, alone}
+use Rattle.gabc_score.proofs.resuming.HeldIsRead.{Found, IsOneByKept, found, alone}
 use Rattle.gabc_score.proofs.resuming.ReadOneByOne.{lists_each}
 use Rattle.gabc_score.proofs.resuming.NothingIsRead.{nothing_alike}
 
 module _ (m : ScoreMachine) (rests : IsInBody m) (begins : BeginsText (shown m)) (none_held : held_of (shown m) ≡ None) (text : List ℕ) (fits : CountsFit first_place text)
     (reads : (r : BodyStageState) (at : Place) (t : List ℕ) → r.part ≡ Text (fresh_stage at) → CountsFit at t
-    → (let xs = placed_characters_from at t in running_events_left r xs ≡ events_from texts_by_definition r.nabc_lines r.macros (text_from texts_by_definition at xs) xs)) where
+    → (let xs = placed_characters_from at t in running_events_left r xs ≡ events_from texts_by_definition r.nabc_lines r.macros (text_from texts_by_definition at xs) xs))
+    (by_kept : IsOneByKept text) where
   abbrev g : Gathered
   g = m.pair.gathered
 
@@ -54,8 +55,8 @@ module _ (m : ScoreMachine) (rests : IsInBody m) (begins : BeginsText (shown m))
   pub found_alone : is_alone m.limits g (lists_of m text) ≡ true → length (with_all g (concat_of (lists_of m text))).made ≤ 1 → Found m.limits b g text (lists_of m text)
   found_alone e few =
       found m.limits b g rests.rests.limit alike.builder (alike.eu ∙ ap (λ (p : Preceding). p.spans.eu) after_is) (alike.nlba ∙ ap (λ (p : Preceding). p.spans.nlba) after_is) none rests.rests.over
-      (rests.preceded.total ∙ ap (λ ms. (with_each m.bounds.before ms).canonical) none) (rests.preceded.follows ∙ ap (λ ms. nat_lt 0 (with_each m.bounds.before ms).syllables) none) text (lists_of m text) are each e few
+      (rests.preceded.total ∙ ap (λ ms. (with_each m.bounds.before ms).canonical) none) (rests.preceded.follows ∙ ap (λ ms. nat_lt 0 (with_each m.bounds.before ms).syllables) none) text (lists_of m text) are each by_kept e few
 
   pub is_found : (n : UnplacedSyllable) → MayBeHeld m.limits b text n → is_alone m.limits g (lists_of m text) ≡ true
   is_found = alone m.limits b g rests.rests.limit alike.builder (alike.eu ∙ ap (λ (p : Preceding). p.spans.eu) after_is) (alike.nlba ∙ ap (λ (p : Preceding). p.spans.nlba) after_is) none rests.rests.over
-      (rests.preceded.total ∙ ap (λ ms. (with_each m.bounds.before ms).canonical) none) (rests.preceded.follows ∙ ap (λ ms. nat_lt 0 (with_each m.bounds.before ms).syllables) none) text (lists_of m text) are each
+      (rests.preceded.total ∙ ap (λ ms. (with_each m.bounds.before ms).canonical) none) (rests.preceded.follows ∙ ap (λ ms. nat_lt 0 (with_each m.bounds.before ms).syllables) none) text (lists_of m text) are each by_kept

@@ -1,6 +1,7 @@
 -- A text that is read by itself is one syllable exactly where reading it one character after the other finds one.
 use Rattle.gabc_score.proofs.score_events.EventsStayWithinBounds.{IsWithinLimits, is_within, none_passed}
 use Rattle.std.proofs.Common.{◌≡◌, ℕ, zero, suc, ◌-◌, ◌<◌, ◌≤◌, ◌^◌, ◌||◌, ◌&&◌, not, min, nat_lt, Bool, true, false, List, [], ◌∷◌, ◌++◌, length, take, take_all, take-take, is_some, refl, sym, ap, subst, ◌∙◌, arith, append-nil}
+use Rattle.std.specs.Prelude.{◌↔◌}
 use Rattle.std.proofs.lemmas.Bool.{true≢false, and_parts, or_parts, not-true, or_from}
 use Rattle.std.proofs.lemmas.Bool.Decides.{nat_tests}
 use Rattle.std.proofs.lemmas.List.{append_cancel_left}
@@ -22,7 +23,9 @@ use Rattle.gabc_body.specs.Canonical.{canonical}
 use Rattle.gabc_body.specs.Events.{texts_by_definition, text_from, events_from}
 use Rattle.gabc_score.specs.Before.{preceding_of, most}
 use Rattle.gabc_score.specs.ReportedWithin.{written_after}
-use Rattle.gabc_body.specs.OneSyllable.{emitted_first, emitted_after}
+use Rattle.gabc_body.specs.OneSyllable.{IsOneSyllable, emitted_first, emitted_after}
+use Rattle.gabc_body.specs.ReadAlone.{IsReadAsSyllable}
+use Rattle.gabc_body.specs.declared.before.Spans.{Spans}
 use Rattle.gabc_score.specs.HeldAgain.{MayBeHeld}
 use Rattle.gabc_body.specs.OpenSpans.{LeavesOpen}
 use Rattle.gabc_body.specs.ScoreEvents.{findings_now, first_place}
@@ -103,6 +106,10 @@ warnings_are (f ∷ fs) a = or_from (is_error f) (list_any is_error fs) (ap is_g
 
 -- ---- the text
 
+-- the text is one syllable by all that it emits exactly if it is one by what is kept of it
+abbrev pub IsOneByKept : List ℕ → Type 0
+IsOneByKept text = (lines macros : ℕ) (spans : Spans) (limit : ℕ) (m : UnplacedSyllable) → IsOneSyllable lines macros first_place text spans limit m ↔ IsReadAsSyllable lines macros text spans limit m
+
 -- the text is one syllable
 pub record Found (limits : Limits) (b : Before) (g : Gathered) (text : List ℕ) (lists : List (List BodyEvent)) : Type 0 where
   pub syllable : UnplacedSyllable
@@ -112,7 +119,7 @@ pub record Found (limits : Limits) (b : Before) (g : Gathered) (text : List ℕ)
 module _ (limits : Limits) (b : Before) (g : Gathered) (limit : g.limit ≡ limits.syllable) (nothing : g.builder ≡ nothing_open) (eu : g.eu ≡ b.spans.eu) (nlba : g.nlba ≡ b.spans.nlba) (none : g.made ≡ [])
     (over : g.over ≡ false) (total : g.total ≡ b.canonical) (follows : g.follows ≡ nat_lt 0 b.syllables) (text : List ℕ) (lists : List (List BodyEvent))
     (are : (let xs = placed_characters_from first_place text in lists ≡ take (length text) (events_from texts_by_definition b.nabc_lines b.macros (text_from texts_by_definition first_place xs) xs)))
-    (each : length lists ≡ length text) where
+    (each : length lists ≡ length text) (by_kept : IsOneByKept text) where
   small : limits.syllable < 2 ^ 64 - 1
   small = let r = limits.in_range in omega (arith, r)
 
@@ -169,14 +176,14 @@ module _ (limits : Limits) (b : Before) (g : Gathered) (limit : g.limit ≡ limi
         syllable = m;
         made = one.1;
         may = record {
-          read = record {
+          read = (by_kept b.nabc_lines b.macros b.spans limits.syllable m).0 (record {
             before = before;
             leaves = leaves;
             none_earlier = λ n h. made_then before leaves n (omega (arith, h)) ∙ ap (λ ms. all_syllables before ++ ms) (a.earlier n (omega (arith, h, each))) ∙ append-nil (all_syllables before);
             one = made_whole before leaves ∙ ap (λ ms. all_syllables before ++ ms) one.1;
             few = λ n h. rw (kept_then before leaves n h) (few_kept a n h);
             warnings = warn (findings_of (emitted_after b.nabc_lines b.macros first_place text [] (length text))) (errors ∙ a.fine);
-          };
+          });
           kept = let k = passed.0 in grind (arith, nat_tests, k, limit);
           short = let k = passed.1 in grind (arith, nat_tests, k, limit, size, small);
           file = let t = here.1 in let input = limits.in_range in omega arith;
@@ -198,7 +205,7 @@ module _ (limits : Limits) (b : Before) (g : Gathered) (limit : g.limit ≡ limi
 
   pub alone : (m : UnplacedSyllable) → MayBeHeld limits b text m → is_alone limits g lists ≡ true
   alone m may =
-      let r = may.read in
+      let r = emitted in
       let last : (with_all g (concat_of lists)).made ≡ m ∷ [] = append_cancel_left (all_syllables r.before) _ _ (sym (made_whole r.before r.leaves) ∙ r.one) in
       alone_of limits lists g (record {
         earlier = earlier;
@@ -207,15 +214,18 @@ module _ (limits : Limits) (b : Before) (g : Gathered) (limit : g.limit ≡ limi
         fine = sym errors ∙ warnings_are _ r.warnings;
       })
     where
+      emitted : IsOneSyllable b.nabc_lines b.macros first_place text b.spans limits.syllable m
+      emitted = (by_kept b.nabc_lines b.macros b.spans limits.syllable m).1 may.read
+
       earlier : (n : ℕ) → n < length lists → (with_all g (concat_of (take n lists))).made ≡ []
       earlier n h =
-          append_cancel_left (all_syllables may.read.before) _ _
-          (sym (made_then may.read.before may.read.leaves n (omega (arith, h, each))) ∙ may.read.none_earlier n (omega (arith, h, each)) ∙ sym (append-nil (all_syllables may.read.before)))
+          append_cancel_left (all_syllables emitted.before) _ _
+          (sym (made_then emitted.before emitted.leaves n (omega (arith, h, each))) ∙ emitted.none_earlier n (omega (arith, h, each)) ∙ sym (append-nil (all_syllables emitted.before)))
 
       kept : (n : ℕ) → n < length lists → length (with_all g (concat_of (take (suc n) lists))).builder.kept ≤ (with_all g (concat_of (take (suc n) lists))).limit
       kept n h =
-          let k = may.read.few (suc n) (omega (arith, h, each)) in
-          let e = ap length (kept_then may.read.before may.read.leaves (suc n) (omega (arith, h, each))) in
+          let k = emitted.few (suc n) (omega (arith, h, each)) in
+          let e = ap length (kept_then emitted.before emitted.leaves (suc n) (omega (arith, h, each))) in
           let l = (counted (suc n)).limit in omega (arith, k, e, l, limit)
 
       within : (n : ℕ) → n < length lists → (more : Bool) → nat_lt (suc n) (length lists) ≡ more → (with_all g (concat_of lists)).made ≡ m ∷ [] → IsWithinLimits limits (with_all g (concat_of (take (suc n) lists)))

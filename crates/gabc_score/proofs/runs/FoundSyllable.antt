@@ -15,7 +15,7 @@ use Rattle.gabc_body.specs.SpansPast.{eu_past, nlba_past}
 use Rattle.gabc_body.specs.declared.snippets.Snippet.{Snippet}
 use Rattle.gabc_score.specs.Before.{sounds, sounds_in, sounds_on}
 use Rattle.gabc_body.specs.Body.{is_longer}
-use Rattle.gabc_body.specs.Canonical.{canonical, canonical_in_place, position_by, starts_word}
+use Rattle.gabc_body.specs.Canonical.{canonical, canonical_in_place, position_by}
 use Rattle.gabc_score.specs.GivesSyllables.{spelled_canonical}
 use Rattle.gabc_score.specs.RegularSyllable.{SyllableParts, spelled, notes_spelled, canonical_spelled, has_gap, line_and_text, snippet_texts}
 use Rattle.gabc_body.specs.Syllable.{UnplacedSyllable}

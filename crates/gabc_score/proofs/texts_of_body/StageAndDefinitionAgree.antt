@@ -1,23 +1,17 @@
 -- Texts as their machine reads them and by their definition are the same, where no count of a body reaches its last value.
-use Rattle.std.proofs.Common.{◌≡◌, ℕ, ◌+◌, ◌<◌, ◌^◌, ◌==◌, if◌then◌else◌, List, [], ◌∷◌, ◌++◌, length, refl, sym, ap, subst, arith, length-append, take-append-drop, IsUtf8, ◌≤◌}
+use Rattle.std.proofs.Common.{◌≡◌, ℕ, ◌+◌, ◌<◌, ◌^◌, ◌==◌, if◌then◌else◌, List, [], ◌∷◌, length, refl, ap, arith, IsUtf8, ◌≤◌}
 use Rattle.std.specs.Str.{chars}
-use Rattle.std.proofs.lemmas.Str.{encodes-chars, length-encode, length-le-encodes}
-use lib.Utf8.{encode, encodes}
+use Rattle.std.proofs.lemmas.Str.{encodes-chars, length-le-encodes}
 use Rattle.gabc_text.proofs.KeptCharacters.{codes_placed}
 use Rattle.gabc_places.specs.declared.place.Place.{Place}
 use Rattle.gabc_places.specs.declared.place.Char.{Char}
-use Rattle.gabc_places.specs.Place.{next_place, is_line_feed, place_after, place_past, placed_characters_from}
-use Rattle.gabc_places.proofs.PlacesOfAText.{after_joined}
-use Rattle.gabc_headers.specs.Heads.{head_len}
+use Rattle.gabc_places.specs.Place.{next_place, placed_characters_from}
 use Rattle.gabc_text.specs.declared.text_event.TextEvent.{TextEvent}
 use Rattle.gabc_text.specs.Events.{CountsFit, events_by_point}
-use Rattle.gabc_text.specs.View.{bytes_of}
 use Rattle.gabc_text.specs.witness.EventsLeft.{events_left}
 use Rattle.gabc_text.specs.TextStage.{fresh_stage}
 use Rattle.gabc_body.specs.Events.{PartAhead, InComment, InText, after_mark, part_at, part_after_character, events_from, texts_by_definition}
 use Rattle.gabc_score.specs.witness.BodyStage.{texts_by_stage}
-use Rattle.gabc_body.specs.Score.{heads_text, after_heads}
-use Rattle.std.proofs.lemmas.Bool.{cond_both}
 use Rattle.gabc_body.proofs.texts_of_body.BodyFits.{fits_next, bytes_encodes}
 
 fits_after : (at : Place) (c : ℕ) (t : List ℕ) → CountsFit at (c ∷ t) → CountsFit (after_mark at) t

@@ -7,7 +7,6 @@ use Rattle.gabc_places.specs.declared.place.Char.{Char}
 use Rattle.gabc_patterns.specs.LongestItems.{IsSnippet}
 use Rattle.gabc_text.specs.witness.Keeps as text
 use Rattle.gabc_text.specs.declared.stage.TextStage.{TextStage}
-use Rattle.gabc_text.specs.declared.text_event.TextEvent.{TextEvent}
 use Rattle.gabc_notes.specs.Table.{gabc}
 use Rattle.gabc_notes.specs.witness.Keeps as notes
 use Rattle.gabc_notes.specs.declared.stage.NoteEnd.TheVariants.{Next}

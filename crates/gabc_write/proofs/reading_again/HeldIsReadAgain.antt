@@ -33,7 +33,7 @@ held_is_read lines macros limits None law h w = tt
 held_is_read lines macros limits (Some m) law h w = λ first. law first m h (short_anywhere limits m w (first || m.text.word_start))
 
 -- the counts of a text that begins at the first place
-fits_first : (t : List ℕ) → length (encode_utf8_all t) < 2 ^ 63 → CountsFit first_place t
+pub fits_first : (t : List ℕ) → length (encode_utf8_all t) < 2 ^ 63 → CountsFit first_place t
 fits_first t few =
     let less = length-le-encodes t in
     record { line = omega (arith, few, less); column = omega (arith, few, less); bytes = let e = bytes_encodes t in omega (arith, few, e) }

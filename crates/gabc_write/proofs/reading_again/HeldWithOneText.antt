@@ -1,5 +1,5 @@
 -- Two syllables that are held after the same and have one canonical text there are equivalent.
-use Rattle.std.proofs.Common.{◌≡◌, ℕ, ◌==◌, Bool, true, List, Option, Some, IfSome, is_some, sym, ap, subst, ◌∙◌, arith}
+use Rattle.std.proofs.Common.{◌≡◌, ℕ, ◌==◌, ◌≤◌, length, Bool, true, List, Option, Some, IfSome, is_some, sym, ap, subst, ◌∙◌, arith}
 use Rattle.std.specs.Option.{option_map}
 use Rattle.std.specs.Prelude.{IsUtf8}
 use Rattle.std.proofs.lemmas.Str.{chars_from_encodes}
@@ -25,7 +25,7 @@ use Rattle.gabc_score.specs.witness.ScoreStage.{ScoreStageState, left_of}
 use Rattle.gabc_write.specs.SavedAlike.{AreSavedAlike}
 use Rattle.gabc_write.specs.SetDown.{GoesOnEquivalentlyInLine, SayTheSame}
 use Rattle.gabc_write.specs.SyllableRead.{as_it_stands, IsReadFromItsText, IsReadWhereItStands}
-use Rattle.gabc_write.proofs.reading_again.HeldAgain.{bytes_after, may_be_held, says_again, stands_for}
+use Rattle.gabc_write.proofs.reading_again.HeldAgain.{SyllablesByKept, bytes_after, may_be_held, says_again, stands_for}
 use Rattle.gabc_write.proofs.reading_again.StageHoldsAgain.{told_before, told_in_body}
 
 -- both is equivalent to a third
@@ -41,7 +41,7 @@ pub record IsHeldThere (before : Before) (m : UnplacedSyllable) : Type 0 where
   pub spans : FollowsSpans before.spans m
   pub holds : HoldsSomeUnit before.nabc_lines m
 
-module _ (opened : (spans : Spans) → CanBeOpen spans) (whole : (lines : ℕ) (n : UnplacedSyllable) → HoldsSomeUnit lines n → HasWholeSnippets n) (limits : Limits) (before : Before) where
+module _ (by_kept : SyllablesByKept) (opened : (spans : Spans) → CanBeOpen spans) (whole : (lines : ℕ) (n : UnplacedSyllable) → HoldsSomeUnit lines n → HasWholeSnippets n) (limits : Limits) (before : Before) where
   abbrev first : Bool
   first = before.syllables == 0
 
@@ -60,16 +60,24 @@ module _ (opened : (spans : Spans) → CanBeOpen spans) (whole : (lines : ℕ) (
 
     -- the one syllable that is read from the text of both
     k : (x : UnplacedSyllable) × MayBeHeld limits before own.text x
-    k = may_be_held limits before m own (opened before.spans) within.short within.file
+    k = may_be_held limits before m own by_kept utf8 within.short (opened before.spans) within.file
 
     k_again : MayBeHeld limits before other.text k.0
     k_again = subst (λ (t : List ℕ). MayBeHeld limits before t k.0) text_is k.1
 
+    utf8_other : IsUtf8 (written_after (preceding_of before) n)
+    utf8_other = subst IsUtf8 same utf8
+
+    short_other : length (written_after (preceding_of before) n) ≤ limits.syllable
+    short_other = subst (λ (t : List ℕ). length t ≤ limits.syllable) same within.short
+
     pub stand_for_one : IsEquivalentSyllable first m n
-    stand_for_one = both_stand first m n k.0 (stands_for limits before m own h.spans h.holds whole k.0 k.1) (stands_for limits before n other g.spans g.holds whole k.0 k_again)
+    stand_for_one = both_stand first m n k.0 (stands_for limits before m own by_kept utf8 within.short h.spans h.holds whole k.0 k.1)
+        (stands_for limits before n other by_kept utf8_other short_other g.spans g.holds whole k.0 k_again)
 
     pub say_one : SayTheSame first (Some m) (Some n)
-    say_one = both_say first m n k.0 (says_again limits before m own h.spans h.holds whole k.0 k.1) (says_again limits before n other g.spans g.holds whole k.0 k_again)
+    say_one = both_say first m n k.0 (says_again limits before m own by_kept utf8 within.short h.spans h.holds whole k.0 k.1)
+        (says_again limits before n other by_kept utf8_other short_other g.spans g.holds whole k.0 k_again)
 
   -- in the same way where at most one is held
   pub both : (o p : Option UnplacedSyllable) → IfSome o (IsHeldThere before) → IfSome p (IsHeldThere before) → IfSome o (IsHeldWithin limits (preceding_of before)) → IfSome o (λ m. IsUtf8 (written_after (preceding_of before) m))
@@ -91,7 +99,7 @@ pub record IsKnown (s : ScoreStageState) : Type 0 where
 are_utf8 : (p : Preceding) (o : Option UnplacedSyllable) → IfSome o (λ m. IsText (written_after p m)) → IfSome o (λ m. IsUtf8 (written_after p m))
 are_utf8 p o h = grind arith
 
-module _ (opened : (spans : Spans) → CanBeOpen spans) (whole : (lines : ℕ) (n : UnplacedSyllable) → HoldsSomeUnit lines n → HasWholeSnippets n)
+module _ (by_kept : SyllablesByKept) (opened : (spans : Spans) → CanBeOpen spans) (whole : (lines : ℕ) (n : UnplacedSyllable) → HoldsSomeUnit lines n → HasWholeSnippets n)
     (one other : ScoreStageState) (runs : is_some (before_of one) ≡ true) (before : before_of one ≡ before_of other) where
   before_one : told_before other ≡ told_before one
   before_one = cc (told_in_body other.part (told_before other) (ap is_some (sym before) ∙ runs), before, told_in_body one.part (told_before one) runs)
@@ -100,7 +108,7 @@ module _ (opened : (spans : Spans) → CanBeOpen spans) (whole : (lines : ℕ) (
       → option_map (written_after one.before) (held_of one) ≡ option_map (written_after other.before) (held_of other)
       → HoldTheSame (one.before.syllables == 0) (held_of one) (held_of other) × SayTheSame (one.before.syllables == 0) (held_of one) (held_of other)
   hold_alike h g within texts same =
-      both opened whole one.limits (told_before one) (held_of one) (held_of other)
+      both by_kept opened whole one.limits (told_before one) (held_of one) (held_of other)
       (held_there (told_before one) (held_of one) h.own h.spans h.holds)
       (subst (λ (b : Before). IfSome (held_of other) (IsHeldThere b)) before_one (held_there (told_before other) (held_of other) g.own g.spans g.holds))
       within (are_utf8 one.before (held_of one) texts)

@@ -19,7 +19,7 @@ use Rattle.gabc_score.specs.witness.ScoreStage.{ScoreStageState}
 use Rattle.gabc_write.specs.SetDown.{MayBeHeldByItsText, SayTheSame}
 use Rattle.gabc_write.specs.SyllableRead.{as_it_stands, IsReadFromItsText}
 use Rattle.gabc_write.specs.machine.SetDown.{BeginsAlike}
-use Rattle.gabc_write.proofs.reading_again.HeldAgain.{bytes_after, says_again, stands_for}
+use Rattle.gabc_write.proofs.reading_again.HeldAgain.{SyllablesByKept, bytes_after, says_again, stands_for}
 
 abbrev pub told_before : ScoreStageState → Before
 told_before s = before_with s.body s.before
@@ -50,18 +50,21 @@ module _ (told old : ScoreStageState) (runs : is_some (before_of told) ≡ true)
         (subst (λ (t : List ℕ). MayBeHeld told.limits (told_before told) t by.again) (chars_from_encodes by.text held utf8 (sym by.bytes ∙ sym text)) by.may))))
 
     module _ (utf8 : IsUtf8 held) (own : IsReadFromItsText told.body.nabc_lines told.body.macros (as_it_stands (told.before.syllables == 0) m)) where
+      utf8_after : IsUtf8 (written_after told.before m)
+      utf8_after = subst IsUtf8 text utf8
+
       text_is : own.text ≡ chars held
       text_is = chars_from_encodes own.text held utf8 (sym (bytes_after told.limits (told_before told) m own) ∙ sym text)
 
-      pub begins_with_one : (whole : (lines : ℕ) (n : UnplacedSyllable) → HoldsSomeUnit lines n → HasWholeSnippets n) (new : ScoreStageState)
+      pub begins_with_one : SyllablesByKept → (whole : (lines : ℕ) (n : UnplacedSyllable) → HoldsSomeUnit lines n → HasWholeSnippets n) (new : ScoreStageState)
           → FollowsSpans told.before.spans m → HoldsSomeUnit told.body.nabc_lines m → HoldsAgain (chars held) old new → BeginsAlike told new
-      begins_with_one whole new spans holds h =
+      begins_with_one by_kept whole new spans holds h =
           let may : MayBeHeld told.limits (told_before told) own.text h.m =
           subst (λ (limits : Limits). MayBeHeld limits (told_before told) own.text h.m) stands.limits_are
           (subst (λ (b : Before). MayBeHeld old.limits b own.text h.m) before_old
           (subst (λ (t : List ℕ). MayBeHeld old.limits (told_before old) t h.m) (sym text_is) h.may)) in
-          let stand : IsEquivalentSyllable (told.before.syllables == 0) m h.m = stands_for told.limits (told_before told) m own spans holds whole h.m may in
-          let says : SayTheSame (told.before.syllables == 0) (Some m) (Some h.m) = says_again told.limits (told_before told) m own spans holds whole h.m may in
+          let stand : IsEquivalentSyllable (told.before.syllables == 0) m h.m = stands_for told.limits (told_before told) m own by_kept utf8_after within.short spans holds whole h.m may in
+          let says : SayTheSame (told.before.syllables == 0) (Some m) (Some h.m) = says_again told.limits (told_before told) m own by_kept utf8_after within.short spans holds whole h.m may in
           record {
             holds = record {
               limits_are = h.limits ∙ stands.limits_are;

@@ -1,11 +1,14 @@
 -- What is said of the kept text by itself is what some stage reports of it.
 use Rattle.std.proofs.Common.{◌≡◌, ◌≤◌, ℕ, List, [], length, Bool, true, false, is_some, encode_utf8_all, refl, sym, ap, subst, ◌∙◌, arith}
 use Rattle.std.specs.Prelude.{IsUtf8}
-use Rattle.std.proofs.lemmas.Str.{encodes-chars}
+use Rattle.std.proofs.lemmas.Str.{encodes-chars, scalars-chars}
+use Rattle.std.specs.Char.{IsScalar}
+use Rattle.std.specs.List.{All}
 use Rattle.std.specs.Str.{chars}
 use Rattle.gabc_places.specs.declared.limits.Limits.{Limits}
 use Rattle.gabc_score.proofs.resuming.BeginsAnywhere.{front_is}
 use Rattle.gabc_score.proofs.resuming.ScoresAgree.{reads_in_body}
+use Rattle.gabc_score.proofs.texts_of_body.BodyAfterHeads.{are_scalars}
 use Rattle.gabc_score.specs.KeptAgain.{IsKeptAgain}
 use Rattle.gabc_score.specs.Before.{no_syllable}
 use Rattle.gabc_score.specs.ReadAgain.{CanBeReadInText, IsReported, ReportsReading, no_openers}
@@ -21,20 +24,23 @@ use Rattle.gregorio.specs.machine.SettingDown.{HasRead, IsReportedSo, openers_to
 
 -- the two laws of kept texts
 abbrev pub KeptAgain : Type 0
-KeptAgain = (s : ScoreStageState) (t : List ℕ) (openers : Openers) (comment : Bool) → CanBeReadAgain s → ReportsReading s (encode_utf8_all t) openers comment → IsKeptAgain s.body.nabc_lines s.body.macros t openers comment
+KeptAgain = (s : ScoreStageState) (t : List ℕ) (openers : Openers) (comment : Bool) → All IsScalar t → CanBeReadAgain s → ReportsReading s (encode_utf8_all t) openers comment → IsKeptAgain s.body.nabc_lines s.body.macros t openers comment
 
 abbrev pub KeptShort : Type 0
 KeptShort = (s : ScoreStageState) (t : List ℕ) (openers : Openers) (comment : Bool) → CanBeReadAgain s → ReportsReading s (encode_utf8_all t) openers comment → length (encode_utf8_all t) ≤ s.limits.syllable
 
 abbrev pub Reported : Type 0
-Reported = (limits : Limits) (lines macros : ℕ) (t : List ℕ) (openers : Openers) (comment : Bool) → IsKeptAgain lines macros t openers comment → length (encode_utf8_all t) ≤ limits.syllable
+Reported = (limits : Limits) (lines macros : ℕ) (t : List ℕ) (openers : Openers) (comment : Bool) → All IsScalar t → IsKeptAgain lines macros t openers comment → length (encode_utf8_all t) ≤ limits.syllable
     → IsReported limits lines macros t openers comment
 
 module _ (limits : Limits) (f : ScoreFields) (utf8 : IsUtf8 f.kept) where
+  scalar : All IsScalar (chars f.kept)
+  scalar = are_scalars (chars f.kept) (scalars-chars f.kept utf8)
+
   pub kept_read : KeptAgain → KeptShort → IsReportedSo limits f → IsKeptRead limits f
   kept_read again short r = record {
     again = subst (λ (n : ℕ). IsKeptAgain n f.macros (chars f.kept) (openers_told f) f.in_comment) r.lines
-        (subst (λ (n : ℕ). IsKeptAgain r.stage.body.nabc_lines n (chars f.kept) (openers_told f) f.in_comment) r.macros (again r.stage (chars f.kept) (openers_told f) f.in_comment r.keeps tells));
+        (subst (λ (n : ℕ). IsKeptAgain r.stage.body.nabc_lines n (chars f.kept) (openers_told f) f.in_comment) r.macros (again r.stage (chars f.kept) (openers_told f) f.in_comment scalar r.keeps tells));
     short = let size = ap length (encodes-chars f.kept utf8) in let few = short r.stage (chars f.kept) (openers_told f) f.in_comment r.keeps tells in let same = ap (λ (l : Limits). l.syllable) r.limits_are in omega (arith, size, few, same);
   }
     where
@@ -52,7 +58,7 @@ module _ (limits : Limits) (f : ScoreFields) (utf8 : IsUtf8 f.kept) where
   }
     where
       r : IsReported limits f.nabc_lines f.macros (chars f.kept) (openers_told f) f.in_comment
-      r = reported limits f.nabc_lines f.macros (chars f.kept) (openers_told f) f.in_comment k.again (let size = ap length (encodes-chars f.kept utf8) in let short = k.short in omega (arith, size, short))
+      r = reported limits f.nabc_lines f.macros (chars f.kept) (openers_told f) f.in_comment scalar k.again (let size = ap length (encodes-chars f.kept utf8) in let short = k.short in omega (arith, size, short))
 
 -- ---- what a stage in the body reports
 

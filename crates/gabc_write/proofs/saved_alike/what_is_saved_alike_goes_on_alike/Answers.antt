@@ -10,6 +10,6 @@ returns c = λ one other stands too saved.
       spans = c.spans_of_what_is_held_follow.ensures s h;
       holds = c.what_is_held_holds_a_unit.ensures s h;
     } in
-    let held = hold_alike c.some_events_leave_spans_open.ensures c.snippets_of_a_unit_stand_between_characters.ensures one other saved.runs saved.before (known one stands) (known other too)
+    let held = hold_alike c.a_syllable_is_read_by_kept.ensures c.some_events_leave_spans_open.ensures c.snippets_of_a_unit_stand_between_characters.ensures one other saved.runs saved.before (known one stands) (known other too)
     (c.what_is_reported_is_within_the_limits.ensures one stands saved.runs).held (c.what_is_held_is_a_text.ensures one stands saved.told) saved.text in
     goes_on_in_line one other saved held.0 held.1 (c.stages_that_report_the_same_agree_in_line.ensures one other stands too)

@@ -27,6 +27,6 @@ returns-clause-begins c =
     (some_held (IsHeldWithin told.limits told.before) _ m is c.requires.text.within.held) c.args.held.now
     (some_held (λ (n : UnplacedSyllable). c.args.held.now ≡ written_after told.before n) _ m is c.requires.text.is) c.utf8.held
     (some_held (IsReadWhereItStands told.body.nabc_lines told.body.macros) _ m is (c.what_is_held_is_read_from_its_own_text.ensures told c.a_stage_is_reachable.ensures) (told.before.syllables == 0))
-    c.snippets_of_a_unit_stand_between_characters.ensures c.hold_again.new.self
+    c.a_syllable_is_read_by_kept.ensures c.snippets_of_a_unit_stand_between_characters.ensures c.hold_again.new.self
     (some_held (FollowsSpans told.before.spans) _ m is (c.spans_of_what_is_held_follow.ensures told c.a_stage_is_reachable.ensures))
     (some_held (HoldsSomeUnit told.body.nabc_lines) _ m is (c.what_is_held_holds_a_unit.ensures told c.a_stage_is_reachable.ensures)) (c.hold_again.ensures.held (returns-clause-holds c))

@@ -1,6 +1,14 @@
 use Rattle.std.proofs.Common.{◌≡◌, ℕ, ◌≤◌, ◌∷◌, [], List, length, Some, refl, sym, ap, subst, ◌∙◌, arith}
 use Rattle.std.proofs.lemmas.Bool.{true≢false}
+use Rattle.std.proofs.lemmas.Str.{scalars-chars}
+use Rattle.std.specs.Char.{IsScalar}
+use Rattle.std.specs.List.{All}
+use Rattle.std.specs.Prelude.{IsUtf8, ◌↔◌}
 use Rattle.std.specs.Str.{chars}
+use Rattle.gabc_text.specs.Events.{CountsFit}
+use Rattle.gabc_body.specs.OneSyllable.{IsOneSyllable}
+use Rattle.gabc_body.specs.ReadAlone.{IsReadAsSyllable}
+use Rattle.gabc_body.specs.declared.before.Spans.{Spans}
 use Rattle.gabc_places.specs.TextOfAnInput.{IsText}
 use Rattle.gabc_text.specs.witness.EventsLeft as fresh_events
 use Rattle.gabc_score.specs.declared.preceding.Preceding.{Preceding}
@@ -17,10 +25,18 @@ use Rattle.gabc_score.specs.machine.ScoreMachine.{IsInBody, IsScoreAt}
 use Rattle.gabc_body.specs.witness.SyllableBuilder.{OpenSyllable}
 use Rattle.gabc_score.specs.witness.BodyStage.{BodyStageState}
 use Rattle.gabc_score.proofs.resuming.HeldIsHeld.{found_alone, is_found}
+use Rattle.gabc_score.proofs.resuming.HeldIsRead.{IsOneByKept}
+use Rattle.gabc_score.proofs.texts_of_body.BodyAfterHeads.{are_scalars}
 use Rattle.gabc_score.proofs.resuming.NothingIsRead.{begins_again}
 use Rattle.gabc_score.proofs.resuming.ResumedIsOfText.{first_is_place}
 use Rattle.gabc_score.proofs.texts_of_body.StageAndDefinitionAgree.{fits_after_prefix}
 use Rattle.gabc_score.proofs.score_machine.ScoreMachine.hold_again.Goals as goal
+
+-- the text is one syllable exactly if it is one by what is kept of it
+by_kept : (text : List ℕ) → IsUtf8 text
+    → ((lines macros : ℕ) (t : List ℕ) (spans : Spans) (limit : ℕ) (m : UnplacedSyllable) → All IsScalar t → CountsFit first_place t → IsOneSyllable lines macros first_place t spans limit m ↔ IsReadAsSyllable lines macros t spans limit m)
+    → CountsFit first_place (chars text) → IsOneByKept (chars text)
+by_kept text utf8 law fits lines macros spans limit m = law lines macros (chars text) spans limit m (are_scalars (chars text) (scalars-chars text utf8)) fits
 
 pub returns-then-not-read_all-clause-holds : goal.returns-then-not-read_all-clause-holds
 returns-then-not-read_all-clause-holds c =
@@ -31,7 +47,7 @@ returns-then-not-read_all-clause-holds c =
     record {
       held = λ good. absurd (true≢false (sym good));
       told = λ good. absurd (true≢false (sym good));
-      refused = λ bad m may. true≢false (sym (is_found was rests c.requires.alone.begins c.requires.alone.none (chars c.args.text.now) fits c.a_text_is_read_from_its_beginning.ensures m may) ∙ sym c.read_all.ensures.reads.alone ∙ c.if-not-read_all.true);
+      refused = λ bad m may. true≢false (sym (is_found was rests c.requires.alone.begins c.requires.alone.none (chars c.args.text.now) fits c.a_text_is_read_from_its_beginning.ensures (by_kept c.args.text.now c.utf8.text c.a_syllable_is_read_by_kept.ensures fits) m may) ∙ sym c.read_all.ensures.reads.alone ∙ c.if-not-read_all.true);
       over = λ bad. refl;
       ends = λ bad. refl;
     }
@@ -57,7 +73,7 @@ returns-clause-holds c =
     let good = c.if-not-read_all.false in
     let on = c.read_all.ensures.reads.goes good in
     let few = subst (λ (g : Gathered). length g.made ≤ 1) on.gathered c.at_most_one_is_held.ensures in
-    let found = found_alone was rests c.requires.alone.begins c.requires.alone.none (chars c.args.text.now) fits c.a_text_is_read_from_its_beginning.ensures (sym c.read_all.ensures.reads.alone ∙ good) few in
+    let found = found_alone was rests c.requires.alone.begins c.requires.alone.none (chars c.args.text.now) fits c.a_text_is_read_from_its_beginning.ensures (by_kept c.args.text.now c.utf8.text c.a_syllable_is_read_by_kept.ensures fits) (sym c.read_all.ensures.reads.alone ∙ good) few in
     let made = ap (λ (g : Gathered). g.made) on.gathered ∙ found.made in
     let nothing = on.whole (ap is_none found.made) in
     let kept = ap (λ (g : Gathered). g.builder.kept) on.gathered ∙ ap (λ (o : OpenSyllable). o.kept) nothing in
@@ -97,7 +113,7 @@ returns-clause-rests c =
     let old : IsInBody c.args.self.now = subst (λ (p : ScorePart). IsScoreAt p c.args.self.now) c.requires.alone.begins.body c.requires.alone.rests in
     let fits = fits_after_prefix first_place [] c.args.text.now c.utf8.text (omega arith) (omega arith) (omega (arith, short)) in
     let few = subst (λ (g : Gathered). length g.made ≤ 1) on.gathered c.at_most_one_is_held.ensures in
-    let found = found_alone c.args.self.now old c.requires.alone.begins c.requires.alone.none (chars c.args.text.now) fits c.a_text_is_read_from_its_beginning.ensures some few in
+    let found = found_alone c.args.self.now old c.requires.alone.begins c.requires.alone.none (chars c.args.text.now) fits c.a_text_is_read_from_its_beginning.ensures (by_kept c.args.text.now c.utf8.text c.a_syllable_is_read_by_kept.ensures fits) some few in
     let nothing = ap (λ (g : Gathered). g.builder) on.gathered ∙ on.whole (ap is_none found.made) in
     rw on.part (record {
       rests = record { none = was.rests.none; room = was.rests.room; limit = was.rests.limit; used = was.rests.used; over = was.rests.over; short = was.rests.short };
