@@ -4,7 +4,7 @@
  * another process, and there is nothing to close. The results are proved for every score, if the caller keeps to these rules; nothing checks them.
  *
  * The caller
- *   - Each pointer points to as many bytes, words of a key, options or messages as the count after it says. A pointer may be null if its
+ *   - Each pointer points to as many bytes, words of a key, options, messages or nodes as the count after it says. A pointer may be null if its
  *     count is 0.
  *   - A buffer for writing overlaps no other buffer, not the score or the piece, not the options, and not the lengths, the step or the count.
  *   - The arguments of a call do not change until it returns.
@@ -12,7 +12,8 @@
  *   - Memory comes from `malloc` and `realloc` and goes back to `free`: all of it has been given back when a call returns. Beside the buffers a
  *     call asks for at most 25 MB at one time, and touches less than 2 MB and as many bytes as its output has, of which 17 MB at most; a step of
  *     a run, under the usual limits, asks for 8 MB and what it writes, and touches about 1 MB and what it writes. Bytes that are no state of the
- *     run cost by their length, whatever limits they name: at most 8 MB up to 64 kB, and in proportion above (measured, not proved).
+ *     run cost by their length, whatever limits they name: at most 8 MB up to 64 kB, and in proportion above (measured, not proved). gregorio_tree
+ *     asks for at most 210 times the bytes of the score, and touches at most 150 times as many, for most scores 70 (measured, not proved).
  *   - Threads: calls share nothing, so any number of threads may call at once. Do not call from a signal handler, nor in a child that a
  *     process with threads has forked.
  *   - Platform: x86-64 Linux with glibc (x86-64-v2 or newer).
@@ -68,6 +69,60 @@ struct gregorio_message {
   uint32_t code;
 };
 
+/* What a node of a tree is. The number of a kind never changes. docs/FORMATS.md says what the numbers `a`, `b` and `c` of each mean. */
+enum gregorio_kind {
+  GREGORIO_KIND_FILE = 0,
+  GREGORIO_KIND_HEADER = 1,
+  GREGORIO_KIND_HEADER_NAME = 2,
+  GREGORIO_KIND_HEADER_VALUE = 3,
+  GREGORIO_KIND_HEADER_LEFT_OUT = 4,
+  GREGORIO_KIND_HEADER_COMMENT = 5,
+  GREGORIO_KIND_SCORE_LINE = 6,
+  GREGORIO_KIND_SYLLABLE = 7,
+  GREGORIO_KIND_CHARACTERS = 8,
+  GREGORIO_KIND_ESCAPE = 9,
+  GREGORIO_KIND_TEXT_BLANK = 10,
+  GREGORIO_KIND_RAW = 11,
+  GREGORIO_KIND_TAG = 12,
+  GREGORIO_KIND_SPAN_MARK = 13,
+  GREGORIO_KIND_STYLE_TAG = 14,
+  GREGORIO_KIND_BRACE = 15,
+  GREGORIO_KIND_TRANSLATION = 16,
+  GREGORIO_KIND_SNIPPET = 17,
+  GREGORIO_KIND_GLYPH = 18,
+  GREGORIO_KIND_NOTE = 19,
+  GREGORIO_KIND_ALTERATION = 20,
+  GREGORIO_KIND_CLEF = 21,
+  GREGORIO_KIND_BAR = 22,
+  GREGORIO_KIND_SPACING = 23,
+  GREGORIO_KIND_CUSTOS = 24,
+  GREGORIO_KIND_LINE_BREAK = 25,
+  GREGORIO_KIND_ATTRIBUTE = 26,
+  GREGORIO_KIND_FUSION = 27,
+  GREGORIO_KIND_DESCRIPTOR = 28,
+  GREGORIO_KIND_NABC_SPACE = 29,
+  GREGORIO_KIND_NABC_GLYPH = 30,
+  GREGORIO_KIND_NABC_POINTS = 31,
+  GREGORIO_KIND_NABC_LETTERS = 32,
+  GREGORIO_KIND_COMMENT = 33,
+  GREGORIO_KIND_LEFT_OUT = 34,
+  GREGORIO_KIND_FURTHER_BLANK = 35,
+  GREGORIO_KIND_SILENT = 36,
+  GREGORIO_KIND_UNREAD = 37
+};
+
+/* A node of a tree. It has the bytes of the score from `begin` up to `end`, without that one, both from 0. The `inner` nodes after it lie in it; those of
+ * its bytes that lie in none of these are its own. `kind` is one of `enum gregorio_kind`. A record has 20 bytes. */
+struct gregorio_node {
+  uint32_t begin;
+  uint32_t end;
+  uint32_t inner;
+  uint16_t kind;
+  uint16_t a;
+  uint16_t b;
+  uint16_t c;
+};
+
 /* The limits of a run, in bytes, and a key for the table of the headers' names. */
 struct gregorio_options {
   uint32_t header;   /* most bytes of the headers: 64 to 16777216, default 65536 */
@@ -97,6 +152,13 @@ uint32_t gregorio_compile(const uint8_t *score, size_t score_length, uint32_t fo
  * them, it stays as it was. At GREGORIO_REFUSED and GREGORIO_NO_MEMORY both stay as they were. */
 uint32_t gregorio_messages(const uint8_t *score, size_t score_length, uint32_t flags, const uint64_t *key, size_t key_length,
                            struct gregorio_message *messages, size_t messages_capacity, size_t *count);
+
+/* Reads the score, and writes the nodes of its tree into `nodes`, in the order of the score and each before those that lie in it, and their number into
+ * `count`. The first is the file, in which all others lie. If `nodes` is too small for them, it stays as it was.
+ *
+ * Returns GREGORIO_WHOLE for every score, whatever was found in it: what was left out or not read are nodes. At GREGORIO_NO_MEMORY both stay as they were. */
+uint32_t gregorio_tree(const uint8_t *score, size_t score_length, const uint64_t *key, size_t key_length, struct gregorio_node *nodes,
+                       size_t nodes_capacity, size_t *count);
 
 /* A run: a score in pieces.
  *

@@ -101,6 +101,82 @@ export declare function compile(score: string | Bytes, options?: Pick<RunOptions
 /** Reads `score` as `compile` does, and returns its status and messages alone. */
 export declare function check(score: string | Bytes, options?: Pick<RunOptions, "allWarnings">): Report;
 
+/** What a node of a tree is. */
+export type NodeKind =
+  | "file"
+  | "header"
+  | "headerName"
+  | "headerValue"
+  | "headerLeftOut"
+  | "headerComment"
+  | "scoreLine"
+  | "syllable"
+  | "characters"
+  | "escape"
+  | "textBlank"
+  | "raw"
+  | "tag"
+  | "spanMark"
+  | "styleTag"
+  | "brace"
+  | "translation"
+  | "snippet"
+  | "glyph"
+  | "note"
+  | "alteration"
+  | "clef"
+  | "bar"
+  | "spacing"
+  | "custos"
+  | "lineBreak"
+  | "attribute"
+  | "fusion"
+  | "descriptor"
+  | "nabcSpace"
+  | "nabcGlyph"
+  | "nabcPoints"
+  | "nabcLetters"
+  | "comment"
+  | "leftOut"
+  | "furtherBlank"
+  | "silent"
+  | "unread";
+
+/** A node of a tree. Those of its bytes that lie in none of its children are its own. */
+export interface Node {
+  readonly number: number;
+  readonly kind: NodeKind;
+  /** Its first byte in the score, from 0. */
+  readonly begin: number;
+  /** The byte after its last one. */
+  readonly end: number;
+  /** How many nodes lie in it, at any depth. They stand directly after it. */
+  readonly inner: number;
+  /** Three numbers that its kind says. */
+  readonly values: readonly [number, number, number];
+  /** All of its bytes, not copied. */
+  readonly bytes: Uint8Array;
+  /** All that stands at its place; bytes that are no UTF-8 as U+FFFD. */
+  readonly text: string;
+  /** Yields the nodes that lie directly in it, in order. */
+  children(): IterableIterator<Node>;
+}
+
+/** The tree of a score: its nodes in the order of the score, each before those that lie in it. Each byte of the score belongs to one node. */
+export interface Tree extends Iterable<Node> {
+  readonly length: number;
+  /** The file, in which all other nodes lie. */
+  readonly root: Node;
+  /** Returns the node with this number, from 0; `undefined` if there is none. */
+  node(number: number): Node | undefined;
+}
+
+/**
+ * Reads `score` under the usual limits, and returns its tree. Throws a `TypeError` for a score that is neither a text nor bytes, and a `RangeError` if there
+ * is not enough memory.
+ */
+export declare function tree(score: string | Bytes): Tree;
+
 /** The version of the compiler. */
 export declare const version: string;
 
@@ -114,6 +190,7 @@ export declare class RunOverError extends Error {}
 export interface Calls {
   readonly compile: typeof compile;
   readonly check: typeof check;
+  readonly tree: typeof tree;
   readonly Run: typeof Run;
   readonly version: string;
 }

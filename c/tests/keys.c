@@ -32,6 +32,11 @@ static bool tells_messages(const uint64_t *key, size_t key_length) {
   return gregorio_messages(score, length, 0, key, key_length, records, 64, &count) == GREGORIO_WHOLE;
 }
 
+static bool makes_a_tree(const uint64_t *key, size_t key_length) {
+  size_t count;
+  return gregorio_tree(score, length, key, key_length, NULL, 0, &count) == GREGORIO_WHOLE;
+}
+
 static uint32_t feed(const struct gregorio_options *options, size_t count, struct gregorio_step *step, const uint8_t *piece, size_t piece_length) {
   return gregorio_feed(GREGORIO_GABC, 0, options, count, state, ROOM, step->state, piece, piece_length, output, ROOM, messages, ROOM, step);
 }
@@ -104,8 +109,9 @@ int main(int count, char **words) {
   memcpy(names + names_length, "%%\n", 3);
   try_reader(reads_whole, names_length, 0.5, "gregorio_compile", 1);
   try_reader(tells_messages, names_length, 0.5, "gregorio_messages", 2);
-  try_reader(reads_in_pieces, names_length, 0.8, "gregorio_feed", 3);
-  check(hold_another(names_length), "a state with the names", 4);
-  try_reader(judges_another, names_length, 0.8, "a state of another run", 4);
+  try_reader(makes_a_tree, names_length, 0.5, "gregorio_tree", 3);
+  try_reader(reads_in_pieces, names_length, 0.8, "gregorio_feed", 4);
+  check(hold_another(names_length), "a state with the names", 5);
+  try_reader(judges_another, names_length, 0.8, "a state of another run", 5);
   return summary("keys");
 }

@@ -46,6 +46,7 @@ enum { STATE = 1 << 17 };
 
 static uint8_t output[1 << 16], messages[1 << 16];
 static struct gregorio_message records[1 << 12];
+static struct gregorio_node nodes[1 << 14];
 
 /* The state of a run in the middle of a case, and one that a step may write. */
 static uint8_t middle[STATE], state[STATE];
@@ -61,6 +62,10 @@ static uint32_t compile(const struct test_case *it, struct gregorio_lengths *len
 
 static uint32_t list_messages(const struct test_case *it, struct gregorio_lengths *lengths) {
   return gregorio_messages(it->input.bytes, it->input.length, it->flags, NULL, 0, records, sizeof records / sizeof *records, &lengths->output);
+}
+
+static uint32_t list_nodes(const struct test_case *it, struct gregorio_lengths *lengths) {
+  return gregorio_tree(it->input.bytes, it->input.length, NULL, 0, nodes, sizeof nodes / sizeof *nodes, &lengths->output);
 }
 
 static uint32_t begin(const struct test_case *it, struct gregorio_lengths *lengths) {
@@ -119,6 +124,7 @@ static void fail_each(made_call made, const struct test_case *it, size_t all, ui
     struct gregorio_lengths lengths = {77, 77};
     output[0] = 0xA5;
     records[0].code = 0xA5;
+    nodes[0].kind = 0xA5;
     uint32_t status = call(made, it, failing, &lengths);
     if (!fails_from_there && status == ample) {
       /* Not each call tells both lengths. */
@@ -127,7 +133,7 @@ static void fail_each(made_call made, const struct test_case *it, size_t all, ui
       check(output_same && messages_same, "what is made with a smaller chunk", number);
     } else {
       check(status == GREGORIO_NO_MEMORY, "no memory", number);
-      check(lengths.output == 77 && output[0] == 0xA5 && records[0].code == 0xA5, "nothing written", number);
+      check(lengths.output == 77 && output[0] == 0xA5 && records[0].code == 0xA5 && nodes[0].kind == 0xA5, "nothing written", number);
     }
     check(held == 0, "what was held without memory", number);
   }
@@ -155,6 +161,7 @@ static void try_case(const struct test_case *it, size_t number) {
   check(call(compile, it, 0, &lengths) == it->status, "status", number);
   try_call(compile, it, number);
   try_call(list_messages, it, number);
+  try_call(list_nodes, it, number);
   try_call(begin, it, number);
   if (run_to_the_middle(it)) {
     middles++;

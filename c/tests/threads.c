@@ -8,10 +8,16 @@
 #include "../gregorio.h"
 #include "cases.h"
 
-enum { THREADS = 4, CASES = 1000, ROUNDS = 20, ROUNDS_IN_PIECES = 2, ROOM = 1 << 16, STATE = 1 << 17, STACK = 64 << 10 };
+enum { THREADS = 4, CASES = 1000, ROUNDS = 20, ROUNDS_IN_PIECES = 2, ROUNDS_OF_TREES = 2, ROOM = 1 << 16, STATE = 1 << 17, STACK = 64 << 10 };
 
 static struct test_case cases[CASES];
 static size_t case_count;
+
+/* The tree of each case, made before the threads begin. */
+static struct tree {
+  struct gregorio_node *nodes;
+  size_t count;
+} trees[CASES];
 
 /* What a thread writes into. */
 struct buffers {
@@ -56,12 +62,31 @@ static bool is_answered_in_pieces(const struct test_case *it, const struct buffe
   return is_answer(it, status, buffers, &(struct gregorio_lengths){all.output + last.output, all.messages + last.messages});
 }
 
+/* Makes the tree of a case in a room of its own; NULL where it has not all nodes. The caller frees it. */
+static struct gregorio_node *tree_of(const struct test_case *it, size_t *count) {
+  size_t room = 2 * it->input.length + 64;
+  struct gregorio_node *nodes = malloc(room * sizeof *nodes);
+  if (gregorio_tree(it->input.bytes, it->input.length, NULL, 0, nodes, room, count) == GREGORIO_WHOLE && *count <= room) return nodes;
+  free(nodes);
+  return NULL;
+}
+
+static bool is_same_tree(size_t number) {
+  size_t count = 0;
+  struct gregorio_node *nodes = tree_of(&cases[number], &count);
+  const struct tree *wanted = &trees[number];
+  bool same = nodes && wanted->nodes && count == wanted->count && memcmp(nodes, wanted->nodes, count * sizeof *nodes) == 0;
+  free(nodes);
+  return same;
+}
+
 static void *work(void *wrong) {
   struct buffers buffers = {malloc(ROOM), malloc(ROOM), malloc(STATE)};
   for (int round = 0; round < ROUNDS; round++) {
     for (size_t i = 0; i < case_count; i++) {
       *(size_t *)wrong += !is_answered(&cases[i], &buffers);
       if (round < ROUNDS_IN_PIECES) *(size_t *)wrong += !is_answered_in_pieces(&cases[i], &buffers);
+      if (round < ROUNDS_OF_TREES) *(size_t *)wrong += !is_same_tree(i);
     }
   }
   free(buffers.output);
@@ -76,6 +101,10 @@ int main(int count, char **tables) {
   while (case_count < CASES && next_case(table, &cases[case_count])) case_count++;
   fclose(table);
   check(case_count > 0, "there are cases", 0);
+  for (size_t i = 0; i < case_count; i++) {
+    trees[i].nodes = tree_of(&cases[i], &trees[i].count);
+    check(trees[i].nodes, "a tree", i);
+  }
   pthread_t threads[THREADS];
   size_t wrong[THREADS] = {0};
   pthread_attr_t small;
@@ -86,6 +115,9 @@ int main(int count, char **tables) {
     pthread_join(threads[i], NULL);
     check(wrong[i] == 0, "answers of a thread", (size_t)i);
   }
-  for (size_t i = 0; i < case_count; i++) free_case(&cases[i]);
+  for (size_t i = 0; i < case_count; i++) {
+    free_case(&cases[i]);
+    free(trees[i].nodes);
+  }
   return summary("threads");
 }

@@ -53,14 +53,15 @@ class Rooms {
 
   /**
    * Makes a call that writes into rooms of these sizes, and then their lengths; if one is too small for what it wants to write, again with rooms of
-   * these lengths. For a size `undefined` there is no room, and nothing is written. Returns the call's answer, and each address with its length.
+   * these lengths. For a size `undefined` there is no room, and nothing is written. The call counts in parts of `part` bytes. Returns the call's answer,
+   * and each address with its length.
    */
-  fit(sizes, call) {
+  fit(sizes, call, part = 1) {
     for (;;) {
       const spans = sizes.map((size) => (size === undefined ? [0n, 0n] : this.take(size)));
       const [lengths] = this.put(new Uint8Array(8 * sizes.length));
       const answer = call(spans, lengths);
-      const wanted = this.#numbers(lengths, sizes.length);
+      const wanted = this.#numbers(lengths, sizes.length).map((it) => part * it);
       if (sizes.every((size, i) => size === undefined || wanted[i] <= size)) return [answer, spans.map(([at], i) => [at, wanted[i]])];
       for (const [at] of spans) this.#give(at);
       sizes = sizes.map((size, i) => size && Math.max(size, wanted[i]));

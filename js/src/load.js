@@ -2,6 +2,7 @@
 
 import { Library } from "./library.js";
 import { Run } from "./run.js";
+import { tree } from "./tree.js";
 import { check, compile } from "./whole.js";
 
 export { RunOverError, StateError } from "./results.js";
@@ -13,6 +14,7 @@ export function callsOf(module, random) {
     version: library.version,
     compile: (score, options) => compile(library, score, options),
     check: (score, options) => check(library, score, options),
+    tree: (score) => tree(library, score),
     Run: class extends Run {
       constructor(options, state) {
         super(library, options, state);

@@ -13,8 +13,9 @@ Ky(f)ri(//)
 ...     print(message.line, message.column, message.code, message.text)
 3 15 E1 character left out of the notes
 
-`lint`, `fix`, `format_text`, `draw` and `index` do what the commands do (`gregorio_chant.calls`). `Run` takes a score in pieces. `gregorio_chant.dump` reads a score into objects, each with its place; the command `gregorio-chant` checks and formats
-files. The answers of `compile`, `check` and `Run` are proved; the rest of the package is tested.
+`lint`, `fix`, `format_text`, `draw` and `index` do what the commands do (`gregorio_chant.calls`). `Run` takes a score in pieces. `tree` returns all that
+was read of a score, and what was left out, with the bytes of each. `gregorio_chant.dump` reads a score into objects, each with its place; the command
+`gregorio-chant` checks and formats files. The answers of `compile`, `check` and `Run` are proved; the rest of the package is tested.
 """
 from __future__ import annotations
 
@@ -24,9 +25,12 @@ from typing import TYPE_CHECKING
 if TYPE_CHECKING:
     from gregorio_chant.calls import draw, fix, format_text, index, lint
     from gregorio_chant.library import check, compile
+    from gregorio_chant.node_kinds import NodeKind
+    from gregorio_chant.nodes import Node, Tree
     from gregorio_chant.results import Format, Kind, Message, Report, Result, RunOverError, StateError, Status, Step
     from gregorio_chant.runs import Limits, Run, pieces
     from gregorio_chant.settings import Settings
+    from gregorio_chant.trees import tree
 
     __version__: str
 
@@ -34,11 +38,12 @@ if TYPE_CHECKING:
 _MODULES = {
     **dict.fromkeys(("check", "compile"), "library"), **dict.fromkeys(("Limits", "Run", "pieces"), "runs"),
     **dict.fromkeys(("draw", "fix", "format_text", "index", "lint"), "calls"), "Settings": "settings",
+    **dict.fromkeys(("Node", "Tree"), "nodes"), "NodeKind": "node_kinds", "tree": "trees",
     **dict.fromkeys(("Format", "Kind", "Message", "Report", "Result", "RunOverError", "StateError", "Status", "Step"), "results"),
 }
 __all__ = [
-    "Format", "Kind", "Limits", "Message", "Report", "Result", "Run", "RunOverError", "Settings", "StateError", "Status", "Step",
-    "check", "compile", "draw", "fix", "format_text", "index", "lint", "pieces",
+    "Format", "Kind", "Limits", "Message", "Node", "NodeKind", "Report", "Result", "Run", "RunOverError", "Settings", "StateError", "Status",
+    "Step", "Tree", "check", "compile", "draw", "fix", "format_text", "index", "lint", "pieces", "tree",
 ]
 
 

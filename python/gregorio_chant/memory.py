@@ -107,3 +107,8 @@ class Room:
     def head(self, length: int) -> bytes:
         """Returns a copy of the first `length` bytes."""
         return bytes(memoryview(self.content)[:length])
+
+    def lasting(self, length: int) -> memoryview:
+        """Returns the first `length` bytes, which no later call writes over: a copy if this room is kept for the next call."""
+        head = memoryview(self.content)[:length]
+        return memoryview(bytes(head)) if len(self.content) <= _MOST_KEPT else head

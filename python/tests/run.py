@@ -16,7 +16,7 @@ from pathlib import Path
 
 HERE = Path(__file__).resolve().parent
 # These take longest, and begin first.
-_LONG = ("test_page", "test_ending", "test_check", "test_command", "test_format", "test_streams")
+_LONG = ("test_page", "test_tree_texts", "test_ending", "test_check", "test_command", "test_format", "test_streams")
 
 
 class Result(unittest.TextTestResult):

@@ -1,8 +1,8 @@
 //! Reads Gregorian chant scores in GABC, with unheighted neumes in NABC, by a proved compiler.
 //!
-//! [`compile`] takes a score in memory, [`messages`] returns only its messages, and a [`Run`] takes a score in pieces. The crate links the C library
-//! `libgregorio.a`, which `tools/build_c` of the project makes; the environment variable `GREGORIO_LIBRARY` names its folder at build time. The answers of
-//! the library are proved; this crate is tested.
+//! [`compile`] takes a score in memory, [`messages`] returns only its messages, [`tree`] all that was read with its places, and a [`Run`] takes a score in
+//! pieces. The crate links the C library `libgregorio.a`, which `tools/build_c` of the project makes; the environment variable `GREGORIO_LIBRARY` names its
+//! folder at build time. The answers of the library are proved; this crate is tested.
 //!
 //! ```
 //! use gregorio_chant::{compile, Job, Status};
@@ -19,17 +19,21 @@
 mod compiled;
 mod error;
 mod job;
+mod kind;
 #[allow(unsafe_code)]
 mod library;
 mod message;
 mod run;
 mod texts;
+mod tree;
 
 pub use compiled::{compile, Compiled};
 pub use error::{Error, Status};
 pub use job::{Format, Job, Limits, Warnings};
+pub use kind::Kind;
 pub use message::{messages, Code, Message, Messages, NoCode, Severity};
 pub use run::{Run, Step};
+pub use tree::{tree, Node, Tree};
 
 /// Returns the version of the linked library. It is that of this crate if both come from one build.
 #[must_use]

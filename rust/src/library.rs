@@ -45,6 +45,19 @@ pub(crate) struct Record {
     pub code: u32,
 }
 
+/// A node of a tree as a record.
+#[repr(C)]
+#[derive(Clone, Copy, Debug, Default, PartialEq, Eq)]
+pub(crate) struct NodeRecord {
+    pub begin: u32,
+    pub end: u32,
+    pub inner: u32,
+    pub kind: u16,
+    pub a: u16,
+    pub b: u16,
+    pub c: u16,
+}
+
 /// The limits of a run, and a key.
 #[repr(C)]
 struct Options {
@@ -80,6 +93,16 @@ extern "C" {
         key_length: usize,
         messages: *mut Record,
         messages_capacity: usize,
+        count: *mut usize,
+    ) -> u32;
+
+    fn gregorio_tree(
+        score: *const u8,
+        score_length: usize,
+        key: *const u64,
+        key_length: usize,
+        nodes: *mut NodeRecord,
+        nodes_capacity: usize,
         count: *mut usize,
     ) -> u32;
 
@@ -230,6 +253,23 @@ pub(crate) fn messages(warnings: Warnings, score: &[u8], messages: &mut [Record]
             key.len(),
             messages.as_mut_ptr(),
             messages.len(),
+            count,
+        )
+    }
+}
+
+/// Reads `score` under the default limits, and puts the nodes of its tree into `nodes` and their number into `count`.
+pub(crate) fn tree(score: &[u8], nodes: &mut [NodeRecord], count: &mut usize) -> u32 {
+    let key = new_key();
+    // SAFETY: as for `compile`. A `NodeRecord` is laid out as the header's `gregorio_node`, and holds any values.
+    unsafe {
+        gregorio_tree(
+            score.as_ptr(),
+            score.len(),
+            key.as_ptr(),
+            key.len(),
+            nodes.as_mut_ptr(),
+            nodes.len(),
             count,
         )
     }

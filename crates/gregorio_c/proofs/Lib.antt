@@ -8,6 +8,7 @@ pub mod NumbersAreRead
 pub mod NumbersAskOnce
 pub mod PiecesAreGathered
 pub mod PiecesArePut
+pub mod RecordsArePut
 pub mod RunsAreUsual
 pub mod StepsOfRuns
 pub mod TextsAreKept

@@ -6,3 +6,4 @@ pub mod Messages
 pub mod Request
 pub mod StepAnswers
 pub mod Steps
+pub mod Tree

@@ -22,10 +22,13 @@ mod pieces;
 mod request;
 mod step;
 mod steps;
+mod tree;
+mod tree_node;
 
 ghost use Rattle.std.specs.Prelude.{◌≡◌, ◌≤◌, ◌⊎◌, None, IfSome};
 ghost use Rattle.gregorio_c.specs.Answers.{Answer, MessagesAnswer};
 ghost use Rattle.gregorio_c.specs.Request.{request_by, warnings_by};
+ghost use Rattle.gregorio_c.specs.Tree.{TreeAnswer};
 
 use compiled::compile;
 pub use lengths::Lengths;
@@ -38,9 +41,14 @@ pub use pieces::{
 use request::{request_of, warnings_of};
 use std::alloc::Global;
 pub use step::Step;
+use tree::tell_tree;
+pub use tree_node::TreeNode;
 
 /// What is answered where a number of the format or of the flags is not known.
 const REFUSED: u32 = 3;
+
+/// What is answered where a tree is made.
+const MADE: u32 = 0;
 
 /// What is answered where there is no memory.
 const NO_MEMORY: u32 = 5;
@@ -100,4 +108,28 @@ pub extern "C" fn gregorio_messages(
         return REFUSED;
     };
     tell_messages(alloc, all_warnings, key, score, messages, count).unwrap_or(NO_MEMORY)
+}
+
+/// Reads `score`, puts the nodes of its tree into `nodes`, in the order of the score and each
+/// before those that lie in it, and their number into `count`. Where there are more of them than
+/// `nodes` takes, that stays as it was. `key` as for `gregorio_compile`.
+///
+/// Returns 0, whatever was found in the score: what was left out or not read are nodes. Returns 5
+/// where there is no memory; `nodes` and `count` stay as they were then.
+#[unsafe(no_mangle)]
+pub extern "C" fn gregorio_tree(
+    alloc: Global,
+    score: &[u8],
+    key: &[u64],
+    nodes: &mut [TreeNode],
+    count: &mut usize,
+) -> u32
+    ensures answer { (result ≡ 0) ⊎ (result ≡ 5) }
+    ensures answered { result ≡ 0 → TreeAnswer score.now nodes.old nodes.new count.new }
+    ensures unchanged { result ≡ 5 → (nodes.new ≡ nodes.old) × (count.new ≡ count.old) }
+{
+    match tell_tree(alloc, key, score, nodes, count) {
+        Ok(()) => MADE,
+        Err(_) => NO_MEMORY,
+    }
 }

@@ -3,16 +3,19 @@
 //! `run_largest gabc FILE` writes its canonical form, `run_largest dump FILE` its dump; the
 //! messages go to standard error. `run_largest whole KEY FILE` prints how many headers stand in
 //! their book, read as a whole, `run_largest stage KEY FILE` read by a stage. Their names are
-//! hashed with a key that is `fixed` or `random`.
+//! hashed with a key that is `fixed` or `random`. `run_largest tree FILE` prints how many nodes the
+//! tree of the file has.
 #![tactic(auto)]
 
 mod headers;
 
 use crate::headers::{Way, count};
 use gabc_places::{FromReader, Limits, ToWriter};
+use gabc_tree::tree_of;
 use gregorio::{Format, Input, Job, Output, Status, compile};
 use std::collections::hash_map::RandomState;
 use std::hash::{BuildHasher, DefaultHasher};
+use std::io::Read;
 use std::{env, fs, io};
 
 /// What there is to do with a file.
@@ -20,6 +23,7 @@ use std::{env, fs, io};
 enum Task {
     Compile(Format),
     Count { way: Way, is_random: bool },
+    Tree,
 }
 
 /// Returns the largest limits that there are.
@@ -32,6 +36,7 @@ fn task_of(words: &[&str]) -> Option<Task> {
     match words {
         ["gabc"] => Some(Task::Compile(Format::Gabc)),
         ["dump"] => Some(Task::Compile(Format::Dump)),
+        ["tree"] => Some(Task::Tree),
         [way, key] => Some(Task::Count {
             way: match *way {
                 "whole" => Way::Whole,
@@ -77,6 +82,14 @@ fn hasher_of(rt: &HostRuntime, is_random: bool) -> io::Result<DefaultHasher> {
     }
 }
 
+/// Returns how many nodes the tree of the file of this name has.
+fn nodes_in(rt: &HostRuntime, path: &str) -> io::Result<usize> {
+    let mut bytes = Vec::new(rt.alloc());
+    fs::open(rt, path)?.read_to_end(&mut bytes)?;
+    let tree = tree_of(rt.alloc(), bytes.as_slice(), largest())?;
+    Ok(tree.nodes().len())
+}
+
 /// Does the task with the file of this name.
 fn perform(rt: &HostRuntime, task: Task, path: &str) -> io::Result<()> {
     match task {
@@ -92,6 +105,7 @@ fn perform(rt: &HostRuntime, task: Task, path: &str) -> io::Result<()> {
                 None => println!(rt; "no headers"),
             }
         }
+        Task::Tree => println!(rt; "{} nodes", nodes_in(rt, path)?),
     }
 }
 
@@ -115,5 +129,7 @@ fn main(rt: HostRuntime) -> io::Result<()> {
 
 /// Prints the words of the program.
 fn usage(rt: &HostRuntime) -> io::Result<()> {
-    println!(rt; "usage: run_largest gabc|dump FILE, or run_largest whole|stage fixed|random FILE")
+    println!(rt;
+        "usage: run_largest gabc|dump|tree FILE, or run_largest whole|stage fixed|random FILE"
+    )
 }

@@ -6,6 +6,7 @@ use gabc_body::Syllables;
 use gabc_headers::{headers_whole, headers_whole_with_hasher};
 use gabc_places::{Limits, Memory, Text, text_of};
 use gabc_score::{InputEnding, score_whole, score_whole_with_hasher};
+use gabc_tree::{tree_of, tree_of_with_hasher};
 use gregorio::{Outcome, SourceEnding};
 use std::alloc::{AllocError, Global};
 use std::hash::DefaultHasher;
@@ -20,6 +21,8 @@ enum Whole {
     Score,
     HashedScore,
     Syllables,
+    Tree,
+    HashedTree,
     Outcome,
     HashedOutcome,
 }
@@ -33,6 +36,8 @@ fn named(name: &str) -> Option<Whole> {
         "gabc_score::score_whole" => Whole::Score,
         "gabc_score::score_whole_with_hasher" => Whole::HashedScore,
         "gabc_body::Syllable::copy" | "gabc_body::Syllables::push" => Whole::Syllables,
+        "gabc_tree::tree_of" => Whole::Tree,
+        "gabc_tree::tree_of_with_hasher" => Whole::HashedTree,
         "gregorio::Outcome::of" => Whole::Outcome,
         "gregorio::Outcome::of_with_hasher" => Whole::HashedOutcome,
         _ => return None,
@@ -88,6 +93,19 @@ fn syllables(alloc: Global, text: &Text) -> Result<u64, AllocError> {
     Ok(digest)
 }
 
+/// Returns a digest of the tree of `bytes`.
+fn tree(alloc: Global, bytes: &[u8]) -> Result<u64, AllocError> {
+    Ok(digest_of(&tree_of(alloc, bytes, Limits::DEFAULT)?))
+}
+
+/// Returns a digest of the tree of `bytes`, the names of whose headers are hashed by a hasher from
+/// outside.
+fn hashed_tree(alloc: Global, bytes: &[u8]) -> Result<u64, AllocError> {
+    let hasher = DefaultHasher::new();
+    let tree = tree_of_with_hasher(alloc, bytes, Limits::DEFAULT, hasher)?;
+    Ok(digest_of(&tree))
+}
+
 /// Returns a digest of an outcome, which is let go.
 fn digest_of_outcome(outcome: Outcome) -> u64 {
     let digest = digest_of(&outcome.score);
@@ -132,6 +150,8 @@ impl Trial for OfScore {
             Whole::Score => score(alloc, &self.text),
             Whole::HashedScore => hashed_score(alloc, &self.text),
             Whole::Syllables => syllables(alloc, &self.text),
+            Whole::Tree => tree(alloc, bytes),
+            Whole::HashedTree => hashed_tree(alloc, bytes),
             Whole::Outcome => outcome(alloc, bytes),
             Whole::HashedOutcome => hashed_outcome(alloc, bytes),
         }

@@ -1,0 +1,15 @@
+pub mod FewCovered
+pub mod HeaderLinesByRow
+pub mod LinesByBytes
+pub mod NestedHeaders
+pub mod NestedNabc
+pub mod NestedNotes
+pub mod NestedTexts
+pub mod NodesOfItems
+pub mod OneDigit
+pub mod PiecesOfDescriptors
+pub mod SuffixesStepByStep
+pub mod TextNodesByTokens
+pub mod not_kept_nodes
+pub mod placed_nodes
+pub mod syllables

@@ -1,0 +1,15 @@
+pub mod CodeNumber
+pub mod HeaderLines
+pub mod HeaderNodes
+pub mod Kind
+pub mod NabcNodes
+pub mod Nested
+pub mod NotKept
+pub mod NoteNodes
+pub mod Numbers
+pub mod Placed
+pub mod Signs
+pub mod SyllableNodes
+pub mod TextNodes
+pub mod Tree
+pub mod machine

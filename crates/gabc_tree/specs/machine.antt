@@ -1,0 +1,6 @@
+pub mod HeaderLines
+pub mod NotKept
+pub mod NoteNodes
+pub mod Placing
+pub mod Signs
+pub mod TextNodes

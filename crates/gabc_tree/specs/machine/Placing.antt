@@ -1,0 +1,9 @@
+-- Nodes that are put where they stand, one after the other.
+use Rattle.std.specs.Prelude.{List}
+use Rattle.gabc_tree.specs.declared.node.Node.{Node}
+use Rattle.gabc_tree.specs.Placed.{Reach}
+
+-- the nodes so far, and the place after the last one's first byte
+pub record PlacingState : Type 0 where
+  pub nodes : List Node
+  pub reach : Reach

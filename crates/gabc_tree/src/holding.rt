@@ -1,0 +1,19 @@
+//! A node that holds those after it.
+
+ghost use Rattle.std.specs.Prelude.{◌≡◌, ◌<◌, List, ◌∷◌, ◌++◌, length};
+ghost use Rattle.gabc_tree.specs.declared.node.Node.{Node};
+ghost use Rattle.gabc_tree.specs.SyllableNodes.{around};
+
+use crate::node::Node;
+use crate::placing::offset;
+
+/// Lets the node at the index `at` hold all those after it.
+pub(crate) fn hold(nodes: &mut Vec<Node>, at: usize)
+    requires { at < length nodes.old.items }
+    ensures { (front : List Node) (node : Node) (inside : List Node)
+        → nodes.old.items ≡ front ++ node ∷ inside → length front ≡ at
+        → nodes.new.items ≡ front ++ around node inside }
+{
+    let len = nodes.as_slice().len();
+    nodes[at].inner = offset(len - at - 1);
+}

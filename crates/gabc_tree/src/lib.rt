@@ -1,0 +1,45 @@
+//! The tree of a score: what was read of it, with its places.
+//!
+//! [`tree_of`] reads a score in memory and gives its nodes in the order of the input, each before
+//! those that lie in it. A byte belongs to the innermost node that holds it: the spelling of a note
+//! is its own bytes, and the input is written again from the ranges of the nodes. What is not kept
+//! (comments, what is left out, further blanks) is a node too.
+//!
+//! ```
+//! let tree = tree_of(alloc, b"%%\n(c4) Ky(f)ri(gh)", Limits::default())?;
+//! for node in tree.nodes() {
+//!     if node.kind == Kind::Note {
+//!         let spelled = &bytes[node.begin as usize..node.end as usize];
+//!     }
+//! }
+//! ```
+//!
+//! The nodes are made in three steps. What is not kept is found beside what is kept (`not_kept`).
+//! The makers of nodes (`header_lines`, `text_nodes`, `note_nodes`, `nabc_nodes`) speak of the
+//! bytes of a kept text alone, so that none of them knows of comments or places. Then their nodes
+//! are put where they stand in the input (`placing`).
+#![tactic(auto)]
+
+mod code_number;
+mod header_lines;
+mod header_nodes;
+mod holding;
+mod joining;
+mod kind;
+mod nabc_nodes;
+pub mod nested_laws;
+mod node;
+mod not_kept;
+mod note_nodes;
+mod numbers;
+mod placing;
+mod short_texts;
+mod signs;
+mod syllable_nodes;
+mod text_nodes;
+mod tree;
+
+pub use code_number::number_of_code;
+pub use kind::Kind;
+pub use node::Node;
+pub use tree::{Tree, tree_of, tree_of_with_hasher};

@@ -1,0 +1,177 @@
+//! The nodes of a syllable in its kept text.
+
+ghost use Rattle.std.specs.Prelude.{◌≡◌, ◌<◌, ◌^◌, ◌++◌, ◌∷◌, [], length, string_bytes, OnOk};
+ghost use Rattle.gabc_body.specs.Syllable.{placed_of};
+ghost use Rattle.gabc_tree.specs.SyllableNodes.{position_number as number_of_position, flags_of as flags, text_len as len_of_text, force_at, force_past_notes, force_past_syllable, force_past, inside_nodes, syllable_node, force_after, snippet_nodes as nodes_of_snippet, notes_nodes, syllable_nodes as nodes_of_syllable, around};
+
+use crate::holding::hold;
+use crate::kind::Kind;
+use crate::nabc_nodes::nabc_nodes;
+use crate::node::Node;
+use crate::note_nodes::gabc_nodes;
+use crate::placing::offset;
+use crate::text_nodes::text_nodes;
+use gabc_body::{Position, Snippet, Syllable};
+use gabc_neumes::Alterations;
+use gabc_places::Span;
+use std::alloc::AllocError;
+
+/// Returns the number of `position`: 0 of a whole word, 1 of a word's beginning, 2 of its middle, 3
+/// of its end.
+fn position_number(position: Position) -> u16
+    ensures { result ≡ number_of_position position }
+{
+    match position {
+        Position::One => 0,
+        Position::Beginning => 1,
+        Position::Middle => 2,
+        Position::End => 3,
+    }
+}
+
+/// Returns 1 if the span of `eu` is open after the text of `syllable`, 2 if that of `nlba` is, and
+/// 4 if blanks stand before its text, in one sum.
+fn flags_of(syllable: &Syllable) -> u16
+    ensures { result ≡ flags (placed_of syllable.now) }
+{
+    let eu = if syllable.eu { 1 } else { 0 };
+    let nlba = if syllable.nlba { 2 } else { 0 };
+    let word_start = if syllable.text.word_start { 4 } else { 0 };
+    eu + nlba + word_start
+}
+
+/// Returns how many bytes of its kept text the text of `syllable` has: those before its `(`, or all
+/// of them if it has no notes.
+fn text_len(syllable: &Syllable) -> usize
+    ensures { result ≡ len_of_text (string_bytes syllable.now.kept) syllable.now.snippets.items }
+{
+    let len = syllable.kept.as_str().len();
+    match syllable.snippets.as_slice() {
+        [first, ..] if 0 < first.span.from && first.span.from < len => first.span.from - 1,
+        _ => len,
+    }
+}
+
+/// Adds the nodes of `snippet` to `out`, before which these `alterations` are in force.
+#[tactic(auto, using(crate::proofs::syllables::TextsFit::text_fits))]
+fn snippet_nodes(
+    syllable: &Syllable,
+    snippet: Snippet,
+    alterations: &mut Alterations,
+    out: &mut Vec<Node>,
+) -> Result<(), AllocError>
+    requires { length (string_bytes syllable.now.kept) < 2 ^ 32 }
+    ensures nodes { OnOk result (out.new.items ≡ out.old.items
+        ++ nodes_of_snippet alterations.old (string_bytes syllable.now.kept) snippet) }
+    ensures force { OnOk result (alterations.new
+        ≡ force_past alterations.old (string_bytes syllable.now.kept) snippet) }
+{
+    let at = out.len();
+    out.push(Node {
+        begin: offset(snippet.span.from),
+        end: offset(snippet.span.to),
+        inner: 0,
+        kind: Kind::Snippet,
+        a: u16::from(snippet.line),
+        b: 0,
+        c: 0,
+    })?;
+    let text = syllable.text_at(snippet.span);
+    let base = offset(snippet.span.from) as usize;
+    if snippet.line == 0 {
+        gabc_nodes(text, base, alterations, out)?;
+    } else {
+        nabc_nodes(text, base, out)?;
+    }
+    hold(out, at);
+    Ok(())
+}
+
+/// Adds the nodes of the snippets of `syllable` to `out`, before which these `alterations` are in
+/// force.
+fn add_notes(
+    syllable: &Syllable,
+    alterations: &mut Alterations,
+    out: &mut Vec<Node>,
+) -> Result<(), AllocError>
+    requires { length (string_bytes syllable.now.kept) < 2 ^ 32 }
+    ensures nodes { OnOk result (out.new.items ≡ out.old.items
+        ++ notes_nodes alterations.old (string_bytes syllable.now.kept)
+        syllable.now.snippets.items) }
+    ensures force { OnOk result (alterations.new
+        ≡ force_after alterations.old (string_bytes syllable.now.kept)
+        syllable.now.snippets.items) }
+{
+    for snippet in syllable.snippets.as_slice() {
+        snippet_nodes(syllable, *snippet, alterations, out)?;
+    }
+    Ok(())
+}
+
+/// Adds the nodes of the text and of the notes of `syllable` to `out`, before which these
+/// `alterations` are in force.
+#[tactic(auto, using(crate::proofs::syllables::TextsFit::text_short))]
+fn add_inside(
+    syllable: &Syllable,
+    alterations: &mut Alterations,
+    out: &mut Vec<Node>,
+) -> Result<(), AllocError>
+    requires { length (string_bytes syllable.now.kept) < 2 ^ 32 }
+    ensures nodes { OnOk result (out.new.items ≡ out.old.items
+        ++ inside_nodes alterations.old (placed_of syllable.now)) }
+    ensures force { OnOk result (alterations.new
+        ≡ force_past_notes alterations.old (placed_of syllable.now)) }
+{
+    let len = syllable.kept.as_str().len();
+    let to = text_len(syllable);
+    text_nodes(syllable.text_at(Span { from: 0, to }), out)?;
+    if to < len {
+        return add_notes(syllable, alterations, out);
+    }
+    Ok(())
+}
+
+/// Lets the alterations before `syllable` end if it begins a word.
+fn begin_word(syllable: &Syllable, alterations: &mut Alterations)
+    ensures { alterations.new ≡ force_at alterations.old (placed_of syllable.now) }
+{
+    if syllable.starts_word() {
+        alterations.start_word();
+    }
+}
+
+/// Returns the node of `syllable` without what lies in it.
+fn node_of(syllable: &Syllable) -> Node
+    ensures { result ≡ syllable_node (placed_of syllable.now) }
+{
+    Node {
+        begin: 0,
+        end: offset(syllable.kept.as_str().len()),
+        inner: 0,
+        kind: Kind::Syllable,
+        a: position_number(syllable.position),
+        b: flags_of(syllable),
+        c: 0,
+    }
+}
+
+/// Adds the nodes of `syllable` to `out`, before which these `alterations` are in force. They count
+/// the bytes of its kept text.
+pub(crate) fn syllable_nodes(
+    syllable: &Syllable,
+    alterations: &mut Alterations,
+    out: &mut Vec<Node>,
+) -> Result<(), AllocError>
+    requires { length (string_bytes syllable.now.kept) < 2 ^ 32 }
+    ensures nodes { OnOk result (out.new.items ≡ out.old.items
+        ++ nodes_of_syllable alterations.old (placed_of syllable.now)) }
+    ensures force { OnOk result (alterations.new
+        ≡ force_past_syllable alterations.old (placed_of syllable.now)) }
+{
+    begin_word(syllable, alterations);
+    let at = out.as_slice().len();
+    out.push(node_of(syllable))?;
+    add_inside(syllable, alterations, out)?;
+    hold(out, at);
+    Ok(())
+}
