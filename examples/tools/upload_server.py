@@ -43,7 +43,7 @@ from typing import BinaryIO
 from urllib.parse import SplitResult, parse_qs, urlsplit
 
 from gregorio_chant import Format, Run, StateError, Step
-from gregorio_chant.loopback import ADDRESS, is_of_this_place, own_names
+from gregorio_chant.web.loopback import ADDRESS, is_of_this_place, own_names
 
 MOST_SCORES = 1000
 MOST_BYTES = 64 << 20

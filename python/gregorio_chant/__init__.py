@@ -24,22 +24,22 @@ from typing import TYPE_CHECKING
 
 if TYPE_CHECKING:
     from gregorio_chant.calls import draw, fix, format_text, index, lint
-    from gregorio_chant.library import check, compile
-    from gregorio_chant.node_kinds import NodeKind
-    from gregorio_chant.nodes import Node, Tree
-    from gregorio_chant.results import Format, Kind, Message, Report, Result, RunOverError, StateError, Status, Step
-    from gregorio_chant.runs import Limits, Run, pieces
-    from gregorio_chant.settings import Settings
-    from gregorio_chant.trees import tree
+    from gregorio_chant._native.library import check, compile
+    from gregorio_chant._native.node_kinds import NodeKind
+    from gregorio_chant._native.nodes import Node, Tree
+    from gregorio_chant._native.results import Format, Kind, Message, Report, Result, RunOverError, StateError, Status, Step
+    from gregorio_chant._native.runs import Limits, Run, pieces
+    from gregorio_chant.work.settings import Settings
+    from gregorio_chant._native.trees import tree
 
     __version__: str
 
 # Where each name stands. A module is imported when a name of it is asked for, so that the command begins at once.
 _MODULES = {
-    **dict.fromkeys(("check", "compile"), "library"), **dict.fromkeys(("Limits", "Run", "pieces"), "runs"),
-    **dict.fromkeys(("draw", "fix", "format_text", "index", "lint"), "calls"), "Settings": "settings",
-    **dict.fromkeys(("Node", "Tree"), "nodes"), "NodeKind": "node_kinds", "tree": "trees",
-    **dict.fromkeys(("Format", "Kind", "Message", "Report", "Result", "RunOverError", "StateError", "Status", "Step"), "results"),
+    **dict.fromkeys(("check", "compile"), "_native.library"), **dict.fromkeys(("Limits", "Run", "pieces"), "_native.runs"),
+    **dict.fromkeys(("draw", "fix", "format_text", "index", "lint"), "calls"), "Settings": "work.settings",
+    **dict.fromkeys(("Node", "Tree"), "_native.nodes"), "NodeKind": "_native.node_kinds", "tree": "_native.trees",
+    **dict.fromkeys(("Format", "Kind", "Message", "Report", "Result", "RunOverError", "StateError", "Status", "Step"), "_native.results"),
 }
 __all__ = [
     "Format", "Kind", "Limits", "Message", "Node", "NodeKind", "Report", "Result", "Run", "RunOverError", "Settings", "StateError", "Status",

@@ -3,7 +3,7 @@ from __future__ import annotations
 
 import sys
 
-from gregorio_chant.ending import end_at_signals, leave_signals
+from gregorio_chant.work.ending import end_at_signals, leave_signals
 
 
 def main() -> int:
@@ -11,7 +11,7 @@ def main() -> int:
     ends the command as any other does."""
     end_at_signals()
     try:
-        from gregorio_chant.command import main as run
+        from gregorio_chant.commands.main import main as run
         return run(sys.argv[1:])
     finally:
         leave_signals()

@@ -12,16 +12,16 @@ from __future__ import annotations
 from collections.abc import Iterable, Sequence
 from dataclasses import dataclass
 
-from gregorio_chant.checking import told_of
-from gregorio_chant.compiled import Compiled
-from gregorio_chant.dump import Score, ScoreError
-from gregorio_chant.formatting import formatted, style_by
-from gregorio_chant.indexing import IndexEntry, entry_of
-from gregorio_chant.memory import bytes_of
-from gregorio_chant.problems import Change, Problem, ProblemRepair, problems_of
-from gregorio_chant.repairing import Guess, How, repair, repair_of_each
-from gregorio_chant.settings import Settings
-from gregorio_chant.streams import STDIN
+from gregorio_chant.linting.checking import told_of
+from gregorio_chant.objects.compiled import Compiled
+from gregorio_chant.objects.dump import Score, ScoreError
+from gregorio_chant.format.formatting import formatted, style_by
+from gregorio_chant.tables.indexing import IndexEntry, entry_of
+from gregorio_chant._native.memory import bytes_of
+from gregorio_chant.linting.problems import Change, Problem, ProblemRepair, problems_of
+from gregorio_chant.linting.repairing import Guess, How, repair, repair_of_each
+from gregorio_chant.work.settings import Settings
+from gregorio_chant.work.streams import STDIN
 
 __all__ = [
     "Change", "DrawnScore", "FixedText", "FormattedText", "Guess", "IndexEntry", "Problem", "ProblemRepair", "Settings",

@@ -4,8 +4,8 @@ from __future__ import annotations
 
 from collections.abc import Iterable, Sequence
 
-from gregorio_chant.items import Attribute, Fusion, Item, Note
-from gregorio_chant.signs import Episema
+from gregorio_chant.objects.items import Attribute, Fusion, Item, Note
+from gregorio_chant.objects.signs import Episema
 
 
 def morae_of(notes: Sequence[Note]) -> list[int]:

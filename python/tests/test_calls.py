@@ -12,7 +12,7 @@ from typing import Any
 import gregorio_chant
 from gregorio_chant import Settings, calls, draw, fix, format_text, index, lint
 from gregorio_chant.calls import DrawnScore, FixedText, FormattedText, IndexEntry, Problem
-from gregorio_chant.results import Kind
+from gregorio_chant._native.results import Kind
 from support import EXAMPLES, FAULTY, ROOT, SCORE, InFolder, command, scores_of_tables
 
 _SCHEMA = ROOT / "docs" / "answers.schema.json"

@@ -8,9 +8,9 @@ import sys
 import unittest
 
 from gregorio_chant import __version__
-from gregorio_chant.codes import CODES
-from gregorio_chant.explaining import page_of
-from gregorio_chant.explaining import PAGES
+from gregorio_chant.linting.codes import CODES
+from gregorio_chant.linting.explaining import page_of
+from gregorio_chant.linting.explaining import PAGES
 from support import EXAMPLES, FAULTY, ROOT, SCORE, InFolder, command, has, in_terminal
 
 WARNED = "name: Kyrie;\n%%\n(c4) <i>Ky(f)ri</i>(g)\n"

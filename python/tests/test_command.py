@@ -9,10 +9,10 @@ import subprocess
 import unittest
 
 from gregorio_chant import __version__
-from gregorio_chant.codes import CODES
-from gregorio_chant.command import parsers
-from gregorio_chant.losses import REASONS
-from gregorio_chant.rules import RULES
+from gregorio_chant.linting.codes import CODES
+from gregorio_chant.commands.main import parsers
+from gregorio_chant.format.losses import REASONS
+from gregorio_chant.linting.rules import RULES
 from support import FAULTY, ROOT, InFolder, command
 
 PAGE = ROOT / "docs" / "gregorio-chant.1"

@@ -12,11 +12,11 @@ from dataclasses import fields
 from pathlib import Path
 
 from gregorio_chant import dump
-from gregorio_chant.codes import CODES
-from gregorio_chant.command import COMMANDS
-from gregorio_chant.keys import FORMAT, FORMAT_KEYS, KEYS
-from gregorio_chant.rules import RULES
-from gregorio_chant.settings import Finder, Settings
+from gregorio_chant.linting.codes import CODES
+from gregorio_chant.commands.main import COMMANDS
+from gregorio_chant.work.keys import FORMAT, FORMAT_KEYS, KEYS
+from gregorio_chant.linting.rules import RULES
+from gregorio_chant.work.settings import Finder, Settings
 from pages import block
 from support import ROOT, SCORE, InFolder, command, has
 

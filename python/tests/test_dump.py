@@ -6,8 +6,9 @@ from collections import Counter
 from collections.abc import Iterator
 from unittest import mock
 
-from gregorio_chant import Format, compile, dump
-from gregorio_chant.dump import (
+from gregorio_chant import Format, compile
+from gregorio_chant.objects import dump
+from gregorio_chant.objects.dump import (
     Attribute, Bar, Custos, DumpError, Element, Glyph, Header, Item, NabcSnippet, Note, NoteSnippet, Place, Score, ScoreError, Space, Syllable,
     read_in_turn,
 )
@@ -85,7 +86,7 @@ class Places(unittest.TestCase):
         """Syllables that are read one by one are those of the whole score, wherever its lines are cut."""
         faults: dict[str, set[str]] = {}
         for at_once in (0, 1, 300, 1 << 16):
-            with mock.patch("gregorio_chant.dump._AT_ONCE", at_once):
+            with mock.patch("gregorio_chant.objects.dump._AT_ONCE", at_once):
                 for file in sorted(EXAMPLES.glob("*.gabc")):
                     text = compile(file.read_bytes(), Format.DUMP).dump
                     headers, syllables = read_in_turn(text)

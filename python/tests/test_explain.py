@@ -6,9 +6,9 @@ import shlex
 import unittest
 
 from gregorio_chant import check
-from gregorio_chant.codes import CODES
-from gregorio_chant.repairs import REPAIRS
-from gregorio_chant.rules import RULES, messages_with_rules
+from gregorio_chant.linting.codes import CODES
+from gregorio_chant.linting.repairs import REPAIRS
+from gregorio_chant.linting.rules import RULES, messages_with_rules
 from support import ROOT, command
 
 

@@ -8,11 +8,11 @@ from functools import cache
 from xml.etree import ElementTree
 
 from gregorio_chant.dump import Note, Score, ScoreError
-from gregorio_chant.formats import NoHeight
-from gregorio_chant.formats.losses import losses
-from gregorio_chant.formats.mei import WAY, mei_of
-from gregorio_chant.formats.musicxml import musicxml_of
-from gregorio_chant.formats.volpiano import OutOfRange, volpiano_of
+from gregorio_chant.export import NoHeight
+from gregorio_chant.export.losses import losses
+from gregorio_chant.export.mei import WAY, mei_of
+from gregorio_chant.export.musicxml import musicxml_of
+from gregorio_chant.export.volpiano import OutOfRange, volpiano_of
 from support import FAULTY, SCORE, InFolder, command, files_of_scores, scores_of_tables
 
 _MEI = "{http://www.music-encoding.org/ns/mei}"

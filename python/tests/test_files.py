@@ -12,7 +12,7 @@ import time
 import unittest
 from pathlib import Path
 
-from gregorio_chant import files
+from gregorio_chant.work import files
 from support import CANONICAL, FAULTY, NOBODY, SCORE, InFolder, command, has
 
 # So many moments at which a writing run is killed; with GREGORIO_LONG=1 fifty.

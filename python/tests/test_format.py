@@ -8,9 +8,10 @@ import sys
 import unittest
 from pathlib import Path
 
-from gregorio_chant import Status, compile, files
-from gregorio_chant.formatting import Style, formatted
-from gregorio_chant.losses import REASONS
+from gregorio_chant import Status, compile
+from gregorio_chant.work import files
+from gregorio_chant.format.formatting import Style, formatted
+from gregorio_chant.format.losses import REASONS
 from support import CANONICAL, FAULTY, ROOT, SCORE, InFolder, command, scores_of_tables
 
 # Scores of which more than blanks would change, with what is told of each.
@@ -232,7 +233,7 @@ class Words(InFolder):
 # Prints the most memory that `format --check` took for the file that is named, in MB.
 _MEASURED = """
 import resource, sys
-from gregorio_chant.formatting import Options, format_files
+from gregorio_chant.format.formatting import Options, format_files
 assert format_files(Options((sys.argv[1],), checks=True, quiet=True)) == 1
 print(resource.getrusage(resource.RUSAGE_SELF).ru_maxrss // 1024)
 """

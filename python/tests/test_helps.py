@@ -4,9 +4,9 @@ from __future__ import annotations
 import unittest
 
 from gregorio_chant import check
-from gregorio_chant.codes import CODES
-from gregorio_chant.helps import helps_for, named
-from gregorio_chant.source import text_of
+from gregorio_chant.linting.codes import CODES
+from gregorio_chant.linting.helps import helps_for, named
+from gregorio_chant.text.source import text_of
 from support import EXAMPLES, scores_of_tables
 
 _NABC = "name: a;\nnabc-lines: 1;\n%%\n(c4) "

@@ -4,7 +4,7 @@ from __future__ import annotations
 import json
 import unittest
 
-from gregorio_chant.checking import check_data
+from gregorio_chant.linting.checking import check_data
 from support import InFolder, command
 
 

@@ -6,10 +6,10 @@ from collections.abc import Callable
 from dataclasses import fields, replace
 from unittest import mock
 
-from gregorio_chant import formatting
-from gregorio_chant.compiled import Compiled
-from gregorio_chant.formatting import Style, formatted
-from gregorio_chant.judge import Reading, difference, objection
+from gregorio_chant.format import formatting
+from gregorio_chant.objects.compiled import Compiled
+from gregorio_chant.format.formatting import Style, formatted
+from gregorio_chant.format.judge import Reading, difference, objection
 
 SCORE = "% a  b\nname: a;\nmode: 1;\nmode: 2;\n%%\n(c4) a(f) <i>b</b></i>(g5) c(h) [x][y](i)\n"
 # A writer turns a score into another one: here by taking one spelling for another, wherever the first one stands.

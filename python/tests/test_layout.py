@@ -10,7 +10,7 @@ import unittest
 from pathlib import Path
 
 from gregorio_chant import Status, compile
-from gregorio_chant.formatting import Style, formatted
+from gregorio_chant.format.formatting import Style, formatted
 from support import ROOT, InFolder, command, has, scores_of_tables
 
 _FEW = 300

@@ -7,7 +7,10 @@ import tracemalloc
 import unittest
 
 import gregorio_chant
-from gregorio_chant import Kind, Message, Report, Status, check, compile, dump, edits, items, library
+from gregorio_chant import Kind, Message, Report, Status, check, compile
+from gregorio_chant._native import library
+from gregorio_chant import dump
+from gregorio_chant.objects import edits, items
 from support import EXAMPLES
 
 

@@ -35,7 +35,7 @@ class Midi(InFolder):
         return notes, lyrics
 
     def test_notes(self) -> None:
-        from gregorio_chant.midi import midi_of
+        from gregorio_chant.export.midi import midi_of
 
         notes, lyrics = self.read(midi_of(Score.parse(SCORE), 120))
         self.assertEqual(notes, [
@@ -47,7 +47,7 @@ class Midi(InFolder):
     def test_head(self) -> None:
         import mido
 
-        from gregorio_chant.midi import midi_of
+        from gregorio_chant.export.midi import midi_of
 
         track = mido.MidiFile(file=io.BytesIO(midi_of(Score.parse(SCORE), 150)), charset="utf-8").tracks[0]
         self.assertEqual([it.name for it in track if it.type == "track_name"], ["K\u00fdrie"])
@@ -56,8 +56,8 @@ class Midi(InFolder):
 
     def test_scores(self) -> None:
         """All notes of the scores come back, in order and with their heights, and all syllables."""
-        from gregorio_chant.midi import midi_of
-        from gregorio_chant.sounds import NoteBeforeClef
+        from gregorio_chant.export.midi import midi_of
+        from gregorio_chant.objects.sounds import NoteBeforeClef
 
         tried = 0
         for data in [*(it.read_bytes() for it in files_of_scores()), *scores_of_tables()]:

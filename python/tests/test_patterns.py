@@ -8,8 +8,8 @@ import unittest
 from hypothesis import given, settings
 from hypothesis import strategies as st
 
-from gregorio_chant.patterns import MOST, NoPattern, Patterns
-from gregorio_chant.settings import NAME
+from gregorio_chant.work.patterns import MOST, NoPattern, Patterns
+from gregorio_chant.work.settings import NAME
 from support import FAULTY, InFolder, command, has
 
 _WORDS = ("a", "b", "ab", "a.b", "*", "*", "**", "/", "?", "[ab]", "!", "\\*", " ", "#", "\u00e9", "\U0001d11e", "\n", "\r", "\u2028")

@@ -17,7 +17,7 @@ from xml.etree import ElementTree as Xml
 
 import gregorio_chant.picture
 from gregorio_chant import check
-from gregorio_chant.codes import CODES
+from gregorio_chant.linting.codes import CODES
 from gregorio_chant.dump import Glyph, Score, ScoreError, Syllable
 from gregorio_chant.picture import OWN, Look, draw, lay_out, picture
 from gregorio_chant.picture.languages import language_of

@@ -16,9 +16,9 @@ from functools import cached_property
 from itertools import islice
 
 from gregorio_chant import Format, Status, compile
-from gregorio_chant.checking import check_data
+from gregorio_chant.linting.checking import check_data
 from gregorio_chant.dump import Score
-from gregorio_chant.repairing import How, repair
+from gregorio_chant.linting.repairing import How, repair
 from slips import SLIPS, Slip
 from support import files_of_scores
 

@@ -10,14 +10,14 @@ from pathlib import Path
 from hypothesis import given, settings
 from hypothesis import strategies as st
 
-from gregorio_chant.files import Content, Reader, read, replace, write
-from gregorio_chant.formatting import difference
+from gregorio_chant.work.files import Content, Reader, read, replace, write
+from gregorio_chant.format.formatting import difference
 from gregorio_chant.server.text import Text
 from gregorio_chant.server.wire import Unreadable, Wire
-from gregorio_chant.settings import NAME, Finder, SettingsError
-from gregorio_chant.source import Lines, text_of
-from gregorio_chant.streams import printable, printable_lines
-from gregorio_chant.terminal import window
+from gregorio_chant.work.settings import NAME, Finder, SettingsError
+from gregorio_chant.text.source import Lines, text_of
+from gregorio_chant.work.streams import printable, printable_lines
+from gregorio_chant.report.terminal import window
 
 _CASES = settings(max_examples=10_000 if os.environ.get("GREGORIO_LONG") else 150, deadline=None)
 _PARTS = st.sampled_from((

@@ -9,7 +9,7 @@ from collections.abc import Iterator
 from dataclasses import dataclass
 
 from gregorio_chant.dump import Bar, Note, NoteSnippet, Score, ScoreError
-from gregorio_chant.formats.musicxml import musicxml_of
+from gregorio_chant.export.musicxml import musicxml_of
 from gregorio_chant.rhythm import morae_of
 from support import SCORE, files_of_scores, scores_of_tables
 

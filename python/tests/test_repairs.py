@@ -8,13 +8,14 @@ from dataclasses import replace
 from pathlib import Path
 from unittest import mock
 
-from gregorio_chant import Status, check, repairs
-from gregorio_chant.checking import check_data
-from gregorio_chant.compiled import Compiled
-from gregorio_chant.repairing import How, repair
-from gregorio_chant.repairs import REPAIRS, Edit, Edits
-from gregorio_chant.selection import Selection
-from gregorio_chant.slips import Subject
+from gregorio_chant import Status, check
+from gregorio_chant.linting import repairs
+from gregorio_chant.linting.checking import check_data
+from gregorio_chant.objects.compiled import Compiled
+from gregorio_chant.linting.repairing import How, repair
+from gregorio_chant.linting.repairs import REPAIRS, Edit, Edits
+from gregorio_chant.linting.selection import Selection
+from gregorio_chant.linting.slips import Subject
 from support import EXAMPLES, InFolder, command, scores_of_tables
 
 SAFE, ALL = How(), How(allow_unsafe=True, with_rules=True)

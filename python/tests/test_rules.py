@@ -6,7 +6,7 @@ import unittest
 from pathlib import Path
 
 from gregorio_chant import Kind, Status, compile
-from gregorio_chant.rules import RULES, messages_with_rules
+from gregorio_chant.linting.rules import RULES, messages_with_rules
 from support import EXAMPLES, InFolder, command, scores_of_tables
 
 

@@ -12,7 +12,8 @@ import tracemalloc
 import unittest
 from collections.abc import Callable, Iterable, Iterator
 
-from gregorio_chant import Format, Run, RunOverError, StateError, Status, Step, check, compile, memory, pieces, runs
+from gregorio_chant import Format, Run, RunOverError, StateError, Status, Step, check, compile, pieces
+from gregorio_chant._native import memory, runs
 from support import EXAMPLES, ROOT, unescaped
 
 SCORE = ("name: a;\n%%\n(c4) " + "Ky(f)ri(gfg)e(e.) " * 20_000).encode()

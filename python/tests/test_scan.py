@@ -11,9 +11,9 @@ from hypothesis import strategies as st
 
 from gregorio_chant import Kind, check
 from gregorio_chant.dump import Score
-from gregorio_chant.ignores import silenced
-from gregorio_chant.scan import Scan, Span, scan
-from gregorio_chant.source import Lines, text_of
+from gregorio_chant.linting.ignores import silenced
+from gregorio_chant.text.scan import Scan, Span, scan
+from gregorio_chant.text.source import Lines, text_of
 from made import SCORES
 
 _IS_LONG = bool(os.environ.get("GREGORIO_LONG"))

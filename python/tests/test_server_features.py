@@ -11,7 +11,7 @@ from gregorio_chant.server.actions import actions
 from gregorio_chant.server.document import Document, File
 from gregorio_chant.server.protocol import Params
 from gregorio_chant.server.text import Text
-from gregorio_chant.settings import Settings
+from gregorio_chant.work.settings import Settings
 from support import EXAMPLES, FAULTY, scores_of_tables
 
 STYLES = "name: a;\n%%\n(c4) <i>Ky(f)ri</i>(g) e>(h) <x>lei(g)\n"

@@ -7,7 +7,7 @@ import unittest
 
 from gregorio_chant.server.protocol import Position, Range
 from gregorio_chant.server.text import Text
-from gregorio_chant.source import Lines
+from gregorio_chant.text.source import Lines
 
 PARTS = ("a", "(", "\u00e9", "\U0001d11e", "\ufeff", "\r\n", "\n", "\r", "\u2028", "\t")
 

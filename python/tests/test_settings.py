@@ -5,7 +5,7 @@ import os
 import unittest
 from pathlib import Path
 
-from gregorio_chant.settings import NAME
+from gregorio_chant.work.settings import NAME
 from support import InFolder, command
 
 FOUND = "name: a;\n%%\n(c4) <it>a</it>(n&) b(g) *() c(h)\n"

@@ -17,7 +17,7 @@ from xml.etree import ElementTree as Xml
 
 from gregorio_chant.picture import Look, Names, draw
 from gregorio_chant.picture.page import Shown, page_of
-from gregorio_chant.reports import Checked
+from gregorio_chant.report.reports import Checked
 from pages import block
 from support import EXAMPLES, FAULTY, SCORE, InFolder, command, in_terminal
 from test_picture import HOSTILE

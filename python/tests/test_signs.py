@@ -8,7 +8,7 @@ from gregorio_chant.dump import Bar, Clef, NoteSnippet, Score
 from gregorio_chant.picture import lay_out, staff
 from gregorio_chant.picture.values import Rect, height_of, step_of
 from gregorio_chant.rhythm import episemata_of, morae_of
-from gregorio_chant.signs import Episema, signs_of
+from gregorio_chant.objects.signs import Episema, signs_of
 from test_picture import score_with
 
 _THIN = 0.9

@@ -3,10 +3,10 @@ from __future__ import annotations
 
 import unittest
 
-from gregorio_chant.checking import check_data
-from gregorio_chant.helps import helps_for
-from gregorio_chant.repairing import How, repair
-from gregorio_chant.source import text_of
+from gregorio_chant.linting.checking import check_data
+from gregorio_chant.linting.helps import helps_for
+from gregorio_chant.linting.repairing import How, repair
+from gregorio_chant.text.source import text_of
 from slips import BACK, SCORE, SLIPS, STAYS, Slip
 
 

@@ -8,8 +8,8 @@ import unittest
 from pathlib import Path
 
 import gregorio_chant
-from gregorio_chant.settings import NAME
-from gregorio_chant.streams import printable, printable_lines
+from gregorio_chant.work.settings import NAME
+from gregorio_chant.work.streams import printable, printable_lines
 from support import SCORE, InFolder, command, has, in_terminal
 
 PACKAGE = Path(gregorio_chant.__file__).parent

@@ -8,8 +8,8 @@ import unittest
 from pathlib import Path
 
 from gregorio_chant.dump import Score, intervals
-from gregorio_chant.indexing import Index
-from gregorio_chant.searching import KINDS, IntervalSearch, NeumeSearch, TextSearch, Together, each_neume, folded
+from gregorio_chant.tables.indexing import Index
+from gregorio_chant.tables.searching import KINDS, IntervalSearch, NeumeSearch, TextSearch, Together, each_neume, folded
 from support import EXAMPLES, FAULTY, InFolder, command, scores_of_tables
 
 A = "name: A;\nmode: 1;\n%%\n(c4) Ký(f)ri(gfg)e,(e.) % (fgh)\n e(fg)lé(ixi)i(h)son(g) (::)\n"

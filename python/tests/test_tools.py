@@ -65,7 +65,7 @@ class Tools(InFolder):
         self.assertGreater(moved, 5)
         self.assertEqual(run("transpose.py", "2", data=b"%%\r\n(c4)  a(-fGh+ix[a]) % (f)").stdout, b"%%\r\n(c4)  a(-hIj+kx[a]) % (f)")
         high = run("transpose.py", "1", data=b"%%\n(c4) a(fp)")
-        self.assertEqual((high.stdout, high.stderr.split(b"\n")[-2], high.returncode), (b"", b"gregorio_chant.edits.EditError: 2:9: there is no room for p", 1))
+        self.assertEqual((high.stdout, high.stderr.split(b"\n")[-2], high.returncode), (b"", b"gregorio_chant.objects.edits.EditError: 2:9: there is no room for p", 1))
 
     def test_neumes(self) -> None:
         self.put("a.gabc", "%%\n(c4) a(fg) % c\n b(fgf fghGF) c(gh)")

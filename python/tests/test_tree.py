@@ -5,11 +5,12 @@ import doctest
 import threading
 import unittest
 
-from gregorio_chant import Node, NodeKind, Tree, check, memory, tree, trees
+from gregorio_chant import Node, NodeKind, Tree, check, tree
+from gregorio_chant._native import memory, trees
 from gregorio_chant.dump import Score
-from gregorio_chant.nodes import RECORD
-from gregorio_chant.source import Place
-from gregorio_chant.trees import _LEAST, _TIMES
+from gregorio_chant._native.nodes import RECORD
+from gregorio_chant.text.source import Place
+from gregorio_chant._native.trees import _LEAST, _TIMES
 from pages import block
 from support import EXAMPLES, ROOT
 from tree_form import own_parts

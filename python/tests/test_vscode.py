@@ -11,9 +11,9 @@ import zipfile
 from pathlib import Path
 from typing import Any
 
-from gregorio_chant.slips import Subject
-from gregorio_chant.library import compile
-from gregorio_chant.results import Status
+from gregorio_chant.linting.slips import Subject
+from gregorio_chant._native.library import compile
+from gregorio_chant._native.results import Status
 from gregorio_chant.server.actions import FIX_ALL
 from gregorio_chant.server.completion import TRIGGERS
 from gregorio_chant.server.features import SHOW

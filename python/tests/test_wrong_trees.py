@@ -8,7 +8,7 @@ from collections.abc import Callable, Iterable
 from dataclasses import dataclass, replace
 
 from gregorio_chant import NodeKind, Tree, tree
-from gregorio_chant.nodes import RECORD
+from gregorio_chant._native.nodes import RECORD
 from mutants import mutants
 from support import files_of_scores
 from test_tree_texts import check_tree

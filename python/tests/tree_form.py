@@ -4,8 +4,8 @@ from __future__ import annotations
 import re
 from collections.abc import Iterator
 
-from gregorio_chant.node_kinds import NodeKind
-from gregorio_chant.nodes import Node, Tree
+from gregorio_chant._native.node_kinds import NodeKind
+from gregorio_chant._native.nodes import Node, Tree
 
 _BLANKS = re.compile(rb"[ \t\r\n]*")
 # What may stand after the last syllable and makes none.

@@ -10,8 +10,8 @@ from collections.abc import Iterator
 from pathlib import Path
 
 from gregorio_chant import tree
-from gregorio_chant.node_kinds import NodeKind
-from gregorio_chant.nodes import Node, Tree
+from gregorio_chant._native.node_kinds import NodeKind
+from gregorio_chant._native.nodes import Node, Tree
 from support import ROOT
 
 _STYLES = ("b", "c", "e", "i", "sc", "tt", "ul")

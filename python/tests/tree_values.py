@@ -4,9 +4,9 @@ from __future__ import annotations
 import re
 from collections.abc import Callable
 
-from gregorio_chant.node_kinds import NodeKind
-from gregorio_chant.nodes import Node, Tree
-from gregorio_chant.signs import AUTO, OVER, UNDER, NoteSigns, signs_of
+from gregorio_chant._native.node_kinds import NodeKind
+from gregorio_chant._native.nodes import Node, Tree
+from gregorio_chant.objects.signs import AUTO, OVER, UNDER, NoteSigns, signs_of
 
 _HEIGHTS = "abcdefghijklmnp"
 _SIDES = {None: 0, AUTO: 1, OVER: 2, UNDER: 3}

@@ -52,7 +52,7 @@ class KindsTest(unittest.TestCase):
         self.assertEqual(found, numbered(self.kinds))
 
     def test_the_python_package_lists_them(self):
-        found = pairs(r"(?m)^    (\w+) = (\d+)$", read("python/gregorio_chant/node_kinds.py"))
+        found = pairs(r"(?m)^    (\w+) = (\d+)$", read("python/gregorio_chant/_native/node_kinds.py"))
         self.assertEqual(found, numbered(self.upper))
 
     def test_the_package_for_javascript_lists_them(self):

@@ -3,14 +3,14 @@ from __future__ import annotations
 
 import argparse
 
-from gregorio_chant import checking
+from gregorio_chant.linting import checking
 from gregorio_chant.commands.words import (
     KNOWN, OUTSIDE, STATUSES, Parser, add_jobs, add_no_config, add_paths, examples, paths_of, settings_of,
 )
-from gregorio_chant.fixing import fix_files
-from gregorio_chant.selection import UnknownCode, codes_in
-from gregorio_chant.settings import Chosen
-from gregorio_chant.streams import STDIN
+from gregorio_chant.linting.fixing import fix_files
+from gregorio_chant.linting.selection import UnknownCode, codes_in
+from gregorio_chant.work.settings import Chosen
+from gregorio_chant.work.streams import STDIN
 
 NAME = "check"
 _ABOUT = f"Checks scores, and says what to write instead of each mistake. It writes no file without --fix. {OUTSIDE}"

@@ -4,9 +4,9 @@ from __future__ import annotations
 import argparse
 
 from gregorio_chant.commands.words import Parser, examples
-from gregorio_chant.explaining import explain
-from gregorio_chant.selection import UnknownCode
-from gregorio_chant.streams import write
+from gregorio_chant.linting.explaining import explain
+from gregorio_chant.linting.selection import UnknownCode
+from gregorio_chant.work.streams import write
 
 NAME = "explain"
 _ABOUT = "Explains codes and rules, each with a wrong line and its right one."

@@ -4,10 +4,10 @@ from __future__ import annotations
 import argparse
 
 from gregorio_chant.commands.words import OUTSIDE, STATUSES, Parser, add_files, add_no_config, examples, paths_of, positive, settings_of
-from gregorio_chant.exporting import Options, export
-from gregorio_chant.formats import Way, mei, musicxml, volpiano
-from gregorio_chant.needs import need
-from gregorio_chant.selection import UnknownCode
+from gregorio_chant.export.exporting import Options, export
+from gregorio_chant.export import Way, mei, musicxml, volpiano
+from gregorio_chant.work.needs import need
+from gregorio_chant.linting.selection import UnknownCode
 
 NAME = "export"
 _TEMPO = 140
@@ -35,7 +35,7 @@ def add(commands: argparse._SubParsersAction[Parser]) -> Parser:
 
 def _midi(notes_a_minute: int) -> Way:
     need("export --to midi", "mido")
-    from gregorio_chant.midi import midi_of
+    from gregorio_chant.export.midi import midi_of
     return Way("midi", ".mid", lambda score: midi_of(score, notes_a_minute), frozenset())
 
 

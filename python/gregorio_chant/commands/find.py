@@ -4,9 +4,9 @@ from __future__ import annotations
 import argparse
 
 from gregorio_chant.commands.words import OUTSIDE, STATUSES, Parser, add_table, examples, table_of
-from gregorio_chant.searching import FOUND, IntervalSearch, NeumeSearch, Search, TextSearch, Together, VolpianoSearch
-from gregorio_chant.selection import UnknownCode
-from gregorio_chant.tables import write_table
+from gregorio_chant.tables.searching import FOUND, IntervalSearch, NeumeSearch, Search, TextSearch, Together, VolpianoSearch
+from gregorio_chant.linting.selection import UnknownCode
+from gregorio_chant.tables.tables import write_table
 
 NAME = "find"
 _ABOUT = f"""Finds intervals, melodies, neumes or words in scores, and writes the place of each. With several options it writes what the first of them

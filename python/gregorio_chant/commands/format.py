@@ -3,13 +3,13 @@ from __future__ import annotations
 
 import argparse
 
-from gregorio_chant import formatting
+from gregorio_chant.format import formatting
 from gregorio_chant.commands.words import (
     OUTSIDE, STATUSES, Parser, add_jobs, add_no_config, add_paths, examples, paths_of, positive, settings_of,
 )
-from gregorio_chant.losses import REASONS
-from gregorio_chant.nearest import did_you_mean
-from gregorio_chant.selection import UnknownCode
+from gregorio_chant.format.losses import REASONS
+from gregorio_chant.text.nearest import did_you_mean
+from gregorio_chant.linting.selection import UnknownCode
 
 NAME = "format"
 _ABOUT = f"""Writes headers and syllables in canonical spelling, and keeps lines, empty lines and comments. A part with a message keeps its

@@ -4,8 +4,8 @@ from __future__ import annotations
 import argparse
 
 from gregorio_chant.commands.words import OUTSIDE, STATUSES, Parser, add_table, examples, table_of
-from gregorio_chant.indexing import Index
-from gregorio_chant.tables import write_table
+from gregorio_chant.tables.indexing import Index
+from gregorio_chant.tables.tables import write_table
 
 NAME = "index"
 _ABOUT = f"""Writes a row for each score: its name, office part and mode, its first words and degrees, its last, lowest and highest degree, the steps between the

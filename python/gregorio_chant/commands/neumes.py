@@ -4,9 +4,9 @@ from __future__ import annotations
 import argparse
 
 from gregorio_chant.commands.words import OUTSIDE, STATUSES, Parser, add_table, examples, table_of
-from gregorio_chant.searching import NEUME, each_neume
-from gregorio_chant.tables import write_table
-from gregorio_chant.totals import write_totals
+from gregorio_chant.tables.searching import NEUME, each_neume
+from gregorio_chant.tables.tables import write_table
+from gregorio_chant.tables.totals import write_totals
 
 NAME = "neumes"
 _ABOUT = f"""Counts the neumes of scores. It writes a row for each kind, the most frequent first, with the place of the first one. {OUTSIDE}"""

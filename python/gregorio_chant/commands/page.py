@@ -4,8 +4,8 @@ from __future__ import annotations
 import argparse
 
 from gregorio_chant.commands.words import OUTSIDE, STATUSES, Parser, add_no_config, examples, settings_of
-from gregorio_chant.needs import need
-from gregorio_chant.streams import STDIN
+from gregorio_chant.work.needs import need
+from gregorio_chant.work.streams import STDIN
 
 NAME = "page"
 _MOST_PORT = 65_535

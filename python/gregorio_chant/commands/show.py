@@ -3,14 +3,14 @@ from __future__ import annotations
 
 import argparse
 
-from gregorio_chant import showing
+from gregorio_chant.show import showing
 from gregorio_chant.commands.words import OUTSIDE, STATUSES, Parser, add_files, add_no_config, examples, paths_of, positive, settings_of
-from gregorio_chant.needs import need
+from gregorio_chant.work.needs import need
 from gregorio_chant.picture import OWN, USUAL_WIDTH, Face, Look
 from gregorio_chant.picture.nabc import AUTO, NAMES
 from gregorio_chant.picture.symbols import square_face
-from gregorio_chant.selection import UnknownCode
-from gregorio_chant.streams import CANNOT_READ_OR_WRITE, is_terminal, printable, reason_of, tell
+from gregorio_chant.linting.selection import UnknownCode
+from gregorio_chant.work.streams import CANNOT_READ_OR_WRITE, is_terminal, printable, reason_of, tell
 
 NAME = "show"
 _ABOUT = f"""Writes a page with a picture of each score, its messages and its source. The page needs no script and no network. From folders only the scores
@@ -64,7 +64,7 @@ def run(words: argparse.Namespace) -> int:
     if not words.watch:
         return showing.show(options())
     need("show --watch", "watchdog")
-    from gregorio_chant.watching import watch
+    from gregorio_chant.show.watching import watch
     return watch(options)
 
 

@@ -4,9 +4,9 @@ from __future__ import annotations
 import argparse
 
 from gregorio_chant.commands.words import Parser
-from gregorio_chant.origin import origin
-from gregorio_chant.streams import NAME as COMMAND
-from gregorio_chant.streams import write
+from gregorio_chant._native.origin import origin
+from gregorio_chant.work.streams import NAME as COMMAND
+from gregorio_chant.work.streams import write
 
 NAME = "version"
 _ABOUT = "Writes the versions of the command and of its library, and the commit and the kit from which the library was built."

@@ -8,14 +8,14 @@ import textwrap
 from collections.abc import Iterable, Sequence
 from typing import Any, NoReturn, Protocol
 
-from gregorio_chant.codes import CODES
-from gregorio_chant.nearest import did_you_mean
-from gregorio_chant.rules import RULES
-from gregorio_chant.selection import UnknownCode
-from gregorio_chant.settings import NAME as SETTINGS
-from gregorio_chant.settings import Finder, NoSettings
-from gregorio_chant.streams import STDIN, tell, write
-from gregorio_chant.tables import FORMS, Options
+from gregorio_chant.linting.codes import CODES
+from gregorio_chant.text.nearest import did_you_mean
+from gregorio_chant.linting.rules import RULES
+from gregorio_chant.linting.selection import UnknownCode
+from gregorio_chant.work.settings import NAME as SETTINGS
+from gregorio_chant.work.settings import Finder, NoSettings
+from gregorio_chant.work.streams import STDIN, tell, write
+from gregorio_chant.tables.tables import FORMS, Options
 
 REFUSED = 3
 # All codes and rules.

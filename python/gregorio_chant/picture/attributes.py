@@ -7,7 +7,7 @@ import re
 from collections.abc import Iterable, Iterator
 from dataclasses import dataclass
 
-from gregorio_chant.items import Attribute
+from gregorio_chant.objects.items import Attribute
 from gregorio_chant.picture.shown import shown
 from gregorio_chant.picture.values import Block, Curve, CurveMark, Head, Rect, Words, height_of
 from gregorio_chant.picture.widths import width_of

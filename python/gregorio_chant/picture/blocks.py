@@ -4,7 +4,7 @@ from __future__ import annotations
 
 from collections.abc import Iterable, Iterator, Sequence
 from functools import cached_property
-from gregorio_chant.items import (
+from gregorio_chant.objects.items import (
     Alteration, Attribute, Bar, Break, Clef, Custos, Fusion, Glyph, Item, NabcSnippet, Note, NoteSnippet, Space, Syllable,
 )
 from gregorio_chant.picture import staff

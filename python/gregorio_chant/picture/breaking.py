@@ -8,7 +8,7 @@ import math
 from collections.abc import Iterable, Iterator, Sequence
 from dataclasses import dataclass
 
-from gregorio_chant.items import Break
+from gregorio_chant.objects.items import Break
 from gregorio_chant.picture.setting import Cursor
 from gregorio_chant.picture.spaces import Spaces
 from gregorio_chant.picture.values import Part

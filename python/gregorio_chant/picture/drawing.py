@@ -8,8 +8,8 @@ from contextlib import contextmanager
 from dataclasses import dataclass
 from xml.etree.ElementTree import Element, SubElement
 
-from gregorio_chant import library
-from gregorio_chant.dump import Syllable, read_in_turn
+from gregorio_chant._native import library
+from gregorio_chant.objects.dump import Syllable, read_in_turn
 from gregorio_chant.picture.codes import CODE_ROW, codes_of
 from gregorio_chant.picture.hands import Hand
 from gregorio_chant.picture.languages import language_of
@@ -20,7 +20,7 @@ from gregorio_chant.picture.nabc import hand_of
 from gregorio_chant.picture.shown import shown
 from gregorio_chant.picture.svg import MARGIN, STYLE, Names, Painter, add, number, text_of
 from gregorio_chant.picture.title import Headers, Title, initial_of
-from gregorio_chant.results import Format, Message
+from gregorio_chant._native.results import Format, Message
 
 _LEAST_WIDTH = 120.0
 _NOTE_SIZE = 10.0

@@ -6,7 +6,7 @@ from collections.abc import Iterator, Mapping, Sequence
 from dataclasses import dataclass
 
 from gregorio_chant.picture.values import STEP, Block, Head, Rect
-from gregorio_chant.signs import AUTO, OVER, UNDER, Episema
+from gregorio_chant.objects.signs import AUTO, OVER, UNDER, Episema
 
 THIN = 0.9
 ICTUS = 4.4

@@ -5,7 +5,7 @@ import itertools
 from collections.abc import Iterable, Iterator
 from dataclasses import dataclass
 
-from gregorio_chant.items import Attribute, Syllable
+from gregorio_chant.objects.items import Attribute, Syllable
 from gregorio_chant.picture.attributes import is_drawn
 from gregorio_chant.picture.blocks import first_pitch
 from gregorio_chant.picture.faces import OWN, Face
@@ -16,7 +16,7 @@ from gregorio_chant.picture.lines import LineMaker
 from gregorio_chant.picture.parts import PartMaker
 from gregorio_chant.picture.spaces import SPACES, Spaces
 from gregorio_chant.picture.values import Line, Part
-from gregorio_chant.reports import counted
+from gregorio_chant.report.reports import counted
 
 USUAL_LINES = 4
 # What the broadest clef and a custos take of a line, and the least room of a part.

@@ -4,7 +4,7 @@ from __future__ import annotations
 from collections.abc import Generator, Iterable, Iterator, Mapping, Sequence
 from dataclasses import dataclass
 
-from gregorio_chant.items import Break, Clef
+from gregorio_chant.objects.items import Break, Clef
 from gregorio_chant.picture import staff
 from gregorio_chant.picture.attributes import ABOVE_SIZE, curves_of
 from gregorio_chant.picture.blocks import moved

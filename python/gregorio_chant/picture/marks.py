@@ -6,11 +6,11 @@ import bisect
 from collections.abc import Sequence
 from dataclasses import dataclass, field
 
-from gregorio_chant import library
-from gregorio_chant.losses import Comparison
-from gregorio_chant.results import Kind, Message
-from gregorio_chant.scan import SyllableSpan
-from gregorio_chant.source import Place, text_of
+from gregorio_chant._native import library
+from gregorio_chant.format.losses import Comparison
+from gregorio_chant._native.results import Kind, Message
+from gregorio_chant.text.scan import SyllableSpan
+from gregorio_chant.text.source import Place, text_of
 
 
 @dataclass(frozen=True, slots=True)

@@ -8,7 +8,7 @@ from collections.abc import Iterable, Iterator, Sequence
 from functools import lru_cache
 from typing import NamedTuple
 
-from gregorio_chant.items import Descriptor, NabcGlyph
+from gregorio_chant.objects.items import Descriptor, NabcGlyph
 from gregorio_chant.picture.hands import PLAIN, Composed, Hand
 from gregorio_chant.picture.shapes import Shape
 from gregorio_chant.picture.symbols import Table, table

@@ -15,9 +15,9 @@ from pathlib import Path
 from gregorio_chant.picture.drawing import Picture
 from gregorio_chant.picture.shown import shown
 from gregorio_chant.picture.svg import STYLE as PICTURE_STYLE
-from gregorio_chant.reports import Checked, summary_of
-from gregorio_chant.results import Kind
-from gregorio_chant.sounds import TICKS, Sound
+from gregorio_chant.report.reports import Checked, summary_of
+from gregorio_chant._native.results import Kind
+from gregorio_chant.objects.sounds import TICKS, Sound
 
 STYLE = PICTURE_STYLE + """
 :root{color-scheme:light dark}

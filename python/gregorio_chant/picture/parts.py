@@ -5,7 +5,7 @@ from __future__ import annotations
 from collections.abc import Iterator
 from typing import NamedTuple
 
-from gregorio_chant.items import Break, Clef, Syllable
+from gregorio_chant.objects.items import Break, Clef, Syllable
 from gregorio_chant.picture.attributes import ABOVE_SIZE
 from gregorio_chant.picture.blocks import begin_of_notes, blocks_of
 from gregorio_chant.picture.faces import OWN, Face

@@ -4,7 +4,7 @@ from __future__ import annotations
 from collections.abc import Iterator, Mapping
 from typing import NamedTuple
 
-from gregorio_chant.items import Alteration, Bar, Clef
+from gregorio_chant.objects.items import Alteration, Bar, Clef
 from gregorio_chant.picture.shapes import SHAPES, Shape
 from gregorio_chant.picture.values import Rect, Sign, Use, height_of, step_of
 

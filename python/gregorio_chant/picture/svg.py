@@ -6,7 +6,7 @@ from dataclasses import dataclass
 from functools import lru_cache
 from xml.etree.ElementTree import Element, SubElement, tostring
 
-from gregorio_chant.items import Syllable
+from gregorio_chant.objects.items import Syllable
 from gregorio_chant.picture.codes import CODE_ROW, CODE_SIZE, Code, field_of, marks_of
 from gregorio_chant.picture.marks import Mark, Places
 from gregorio_chant.picture.shown import shown
@@ -14,7 +14,7 @@ from gregorio_chant.picture.spaces import SPACES
 from gregorio_chant.picture.values import Curve, Line, Neumes, Placed, Rect, Sign, Use, Words
 from gregorio_chant.picture.widths import FACES
 from gregorio_chant.picture.words import SIZE
-from gregorio_chant.results import Kind
+from gregorio_chant._native.results import Kind
 
 MARGIN = SPACES.margin
 # The style of pictures: a file of its own holds it, a page has it once.

@@ -5,7 +5,7 @@ from __future__ import annotations
 from dataclasses import dataclass, field
 from typing import NamedTuple, Union
 
-from gregorio_chant.items import Break, Clef, Note, Syllable
+from gregorio_chant.objects.items import Break, Clef, Note, Syllable
 
 STEP = 5.0
 PITCHES = "abcdefghijklmnp"

@@ -5,7 +5,7 @@ import re
 from dataclasses import dataclass
 from functools import lru_cache
 
-from gregorio_chant.items import MARKUP, special_character
+from gregorio_chant.objects.items import MARKUP, special_character
 from gregorio_chant.picture.languages import LATIN, first_vowel
 from gregorio_chant.picture.shown import shown
 from gregorio_chant.picture.values import Words

@@ -5,12 +5,12 @@ import os
 from collections.abc import Iterator
 from itertools import islice
 
-from gregorio_chant.compiled import Compiled
-from gregorio_chant.ignores import IGNORE
-from gregorio_chant.repairing import How, has_safe_repair, proposals_for, repair, with_edits
-from gregorio_chant.repairs import Edit
-from gregorio_chant.results import Kind, Message
-from gregorio_chant.rules import RULES, unsilenced
+from gregorio_chant.objects.compiled import Compiled
+from gregorio_chant.linting.ignores import IGNORE
+from gregorio_chant.linting.repairing import How, has_safe_repair, proposals_for, repair, with_edits
+from gregorio_chant.linting.repairs import Edit
+from gregorio_chant._native.results import Kind, Message
+from gregorio_chant.linting.rules import RULES, unsilenced
 from gregorio_chant.server.diagnostics import diagnostic, range_of
 from gregorio_chant.server.document import Document
 from gregorio_chant.server.protocol import Json, Params

@@ -3,11 +3,11 @@ from __future__ import annotations
 
 import re
 
-from gregorio_chant.scan import Scan
+from gregorio_chant.text.scan import Scan
 from gregorio_chant.server.document import Document, scan_before
 from gregorio_chant.server.protocol import Json, Params
 from gregorio_chant.server.vocabulary import nabc_names
-from gregorio_chant.vocabulary import HEADERS, SPECIALS, TAGS
+from gregorio_chant.text.vocabulary import HEADERS, SPECIALS, TAGS
 
 _PROPERTY, _KEYWORD, _CONSTANT, _VALUE = 10, 14, 21, 12
 _IN_SPECIAL = re.compile(r"<sp>([^<>(\n]*)$")

@@ -1,10 +1,10 @@
 """The messages of a score, as an editor shows them."""
 from __future__ import annotations
 
-from gregorio_chant.results import Kind, Message
+from gregorio_chant._native.results import Kind, Message
 from gregorio_chant.server.document import Document
 from gregorio_chant.server.protocol import Json, Range
-from gregorio_chant.streams import NAME
+from gregorio_chant.work.streams import NAME
 
 _ERROR, _WARNING = 1, 2
 

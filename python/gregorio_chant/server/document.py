@@ -5,18 +5,18 @@ from collections.abc import Callable
 from dataclasses import dataclass
 from functools import cached_property
 
-from gregorio_chant.compiled import Compiled
-from gregorio_chant.dump import Pause, Score, go_on
-from gregorio_chant.formatting import Style, style_by
-from gregorio_chant.helps import helps_for
-from gregorio_chant.repairing import is_text
-from gregorio_chant.results import Message
-from gregorio_chant.rules import messages_with_rules, unsilenced
-from gregorio_chant.scan import Scan, scan
-from gregorio_chant.selection import Selection
+from gregorio_chant.objects.compiled import Compiled
+from gregorio_chant.objects.dump import Pause, Score, go_on
+from gregorio_chant.format.formatting import Style, style_by
+from gregorio_chant.linting.helps import helps_for
+from gregorio_chant.linting.repairing import is_text
+from gregorio_chant._native.results import Message
+from gregorio_chant.linting.rules import messages_with_rules, unsilenced
+from gregorio_chant.text.scan import Scan, scan
+from gregorio_chant.linting.selection import Selection
 from gregorio_chant.server.text import Text
-from gregorio_chant.settings import Settings
-from gregorio_chant.slips import Subject
+from gregorio_chant.work.settings import Settings
+from gregorio_chant.linting.slips import Subject
 
 
 @dataclass(frozen=True)

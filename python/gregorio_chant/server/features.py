@@ -14,7 +14,7 @@ from gregorio_chant.server.pictures import svg
 from gregorio_chant.server.protocol import Json, Params
 from gregorio_chant.server.tokens import KINDS as TOKENS
 from gregorio_chant.server.tokens import tokens
-from gregorio_chant.streams import NAME
+from gregorio_chant.work.streams import NAME
 
 __all__ = ["CAPABILITIES", "FEATURES", "SHOW", "RequestRefused"]
 

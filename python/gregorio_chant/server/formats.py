@@ -4,10 +4,10 @@ from __future__ import annotations
 import difflib
 from collections.abc import Iterator
 
-from gregorio_chant.compiled import Compiled
-from gregorio_chant.formatting import formatted
-from gregorio_chant.judge import Reading, difference
-from gregorio_chant.scan import without_blanks
+from gregorio_chant.objects.compiled import Compiled
+from gregorio_chant.format.formatting import formatted
+from gregorio_chant.format.judge import Reading, difference
+from gregorio_chant.text.scan import without_blanks
 from gregorio_chant.server.document import Document
 from gregorio_chant.server.protocol import Json, Params, Position, Range
 from gregorio_chant.server.text import Text

@@ -5,12 +5,12 @@ import bisect
 import re
 from collections.abc import Iterator
 
-from gregorio_chant.explaining import example_of, page_uri
-from gregorio_chant.items import Bar, Clef, Descriptor, Glyph, Item, Note, Syllable
-from gregorio_chant.results import Message
+from gregorio_chant.linting.explaining import example_of, page_uri
+from gregorio_chant.objects.items import Bar, Clef, Descriptor, Glyph, Item, Note, Syllable
+from gregorio_chant._native.results import Message
 from gregorio_chant.server.document import Document
 from gregorio_chant.server.protocol import Json, Params
-from gregorio_chant.vocabulary import HEADERS, TAGS
+from gregorio_chant.text.vocabulary import HEADERS, TAGS
 
 _CLEF = re.compile(r"([cf])(b?)([1-5])")
 _TAG = re.compile(r"</?([a-z]+)>")

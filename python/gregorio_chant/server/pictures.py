@@ -8,11 +8,11 @@ from pathlib import Path
 
 from gregorio_chant.picture import Names, Picture, draw
 from gregorio_chant.picture.page import MOST_BYTES, Shown, leading_to, page_of
-from gregorio_chant.reports import Checked
+from gregorio_chant.report.reports import Checked
 from gregorio_chant.server.document import Document
 from gregorio_chant.server.formats import RequestRefused
 from gregorio_chant.server.protocol import Code, Json, Params, Position, ProtocolError
-from gregorio_chant.streams import STDIN, printable, reason_of
+from gregorio_chant.work.streams import STDIN, printable, reason_of
 
 
 def _drawn(document: Document, names: Names) -> Picture:

@@ -4,11 +4,11 @@ from __future__ import annotations
 import sys
 from threading import Thread
 
-from gregorio_chant.ending import undone
+from gregorio_chant.work.ending import undone
 from gregorio_chant.server.inbox import Inbox
 from gregorio_chant.server.session import Session
 from gregorio_chant.server.wire import Wire
-from gregorio_chant.settings import Finder
+from gregorio_chant.work.settings import Finder
 
 
 def serve(with_rules: bool, settings: Finder) -> int:

@@ -6,8 +6,8 @@ import os
 from collections.abc import Callable
 from urllib.parse import unquote_to_bytes, urlsplit
 
-from gregorio_chant.dump import Pause
-from gregorio_chant.needs import MissingDependency
+from gregorio_chant.objects.dump import Pause
+from gregorio_chant.work.needs import MissingDependency
 from gregorio_chant.server.diagnostics import diagnostics, no_diagnostics
 from gregorio_chant.server.document import Document, File
 from gregorio_chant.server.features import CAPABILITIES, FEATURES, RESOLVE, SHOW, RequestRefused
@@ -16,8 +16,8 @@ from gregorio_chant.server.pictures import Pages
 from gregorio_chant.server.protocol import Code, Json, Params, ProtocolError
 from gregorio_chant.server.text import Text
 from gregorio_chant.server.wire import Unreadable
-from gregorio_chant.settings import Finder, Settings, SettingsError
-from gregorio_chant.streams import STDIN
+from gregorio_chant.work.settings import Finder, Settings, SettingsError
+from gregorio_chant.work.streams import STDIN
 
 _ERROR, _WARNING, _INFO = 1, 2, 3
 

@@ -9,7 +9,7 @@ import re
 from functools import cached_property
 
 from gregorio_chant.server.protocol import Position, Range
-from gregorio_chant.source import raw_offsets, text_of, utf16_length
+from gregorio_chant.text.source import raw_offsets, text_of, utf16_length
 
 _HALF = re.compile("[\ud800-\udfff]")
 _LINE_END = re.compile("\r\n|\n|\r")

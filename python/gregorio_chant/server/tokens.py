@@ -6,7 +6,7 @@ import re
 from collections.abc import Iterator
 from typing import NamedTuple
 
-from gregorio_chant.scan import SyllableSpan
+from gregorio_chant.text.scan import SyllableSpan
 from gregorio_chant.server.completion import nabc_lines
 from gregorio_chant.server.document import Document
 from gregorio_chant.server.protocol import Json, Params

@@ -3,11 +3,11 @@ from __future__ import annotations
 
 from functools import cache
 
-from gregorio_chant import library
-from gregorio_chant.dump import Score
-from gregorio_chant.items import Descriptor, NabcSnippet
-from gregorio_chant.results import Format
-from gregorio_chant.vocabulary import NABC_CODES
+from gregorio_chant._native import library
+from gregorio_chant.objects.dump import Score
+from gregorio_chant.objects.items import Descriptor, NabcSnippet
+from gregorio_chant._native.results import Format
+from gregorio_chant.text.vocabulary import NABC_CODES
 
 
 @cache

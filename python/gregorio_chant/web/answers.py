@@ -3,16 +3,16 @@ from __future__ import annotations
 
 from dataclasses import dataclass
 
-from gregorio_chant import checking
-from gregorio_chant.compiled import Compiled
-from gregorio_chant.dump import read_in_turn
-from gregorio_chant.files import Content
+from gregorio_chant.linting import checking
+from gregorio_chant.objects.compiled import Compiled
+from gregorio_chant.objects.dump import read_in_turn
+from gregorio_chant.work.files import Content
 from gregorio_chant.picture import USUAL_WIDTH, Look, Names, draw
 from gregorio_chant.picture.page import Shown, list_of_messages, notes_of
-from gregorio_chant.settings import Finder
-from gregorio_chant.sounds import NoteBeforeClef, sounds_of
-from gregorio_chant.source import text_of
-from gregorio_chant.streams import STDIN
+from gregorio_chant.work.settings import Finder
+from gregorio_chant.objects.sounds import NoteBeforeClef, sounds_of
+from gregorio_chant.text.source import text_of
+from gregorio_chant.work.streams import STDIN
 
 _PREFIX = "p1-"
 

@@ -8,7 +8,7 @@ from collections.abc import Awaitable, Callable, Mapping
 from multiprocessing import get_context
 from typing import Any
 
-from gregorio_chant.ending import end_with_parent, leave_interrupts
+from gregorio_chant.work.ending import end_with_parent, leave_interrupts
 
 # So many scores are worked on at a time.
 MOST = 16

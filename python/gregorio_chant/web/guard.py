@@ -8,7 +8,7 @@ from starlette.datastructures import Headers, MutableHeaders
 from starlette.responses import PlainTextResponse
 from starlette.types import ASGIApp, Message, Receive, Scope, Send
 
-from gregorio_chant.loopback import is_of_this_place
+from gregorio_chant.web.loopback import is_of_this_place
 from gregorio_chant.picture.page import MOST_BYTES
 
 # The policy for a page with its style and its pictures in itself, and with no script.

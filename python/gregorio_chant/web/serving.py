@@ -8,10 +8,10 @@ from multiprocessing import active_children
 
 import uvicorn
 
-from gregorio_chant.ending import undone
-from gregorio_chant.loopback import ADDRESS, own_names
-from gregorio_chant.processes import end_all
-from gregorio_chant.streams import CANNOT_READ_OR_WRITE, reason_of, tell, write
+from gregorio_chant.work.ending import undone
+from gregorio_chant.web.loopback import ADDRESS, own_names
+from gregorio_chant.work.processes import end_all
+from gregorio_chant.work.streams import CANNOT_READ_OR_WRITE, reason_of, tell, write
 from gregorio_chant.web.answers import Answers
 from gregorio_chant.web.app import app_of
 

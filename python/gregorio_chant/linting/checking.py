@@ -1,0 +1,176 @@
+"""The command `check`: tells what is found in files, and writes none."""
+from __future__ import annotations
+
+from collections import Counter
+from collections.abc import Callable, Iterator
+from concurrent.futures import ThreadPoolExecutor
+from contextlib import contextmanager, nullcontext
+from dataclasses import dataclass
+from functools import partial
+
+from gregorio_chant import __version__
+from gregorio_chant._native import library
+from gregorio_chant.work.files import Content, Reader
+from gregorio_chant.linting.helps import helps_for
+from gregorio_chant.work.needs import MissingDependency
+from gregorio_chant.work.processes import by_processes
+from gregorio_chant.work.progress import bar
+from gregorio_chant.report.reports import Annotations, Checked, Json, Lines, Reporter, summary_of
+from gregorio_chant._native.results import Kind, Message
+from gregorio_chant.linting.rules import messages_with_rules, unsilenced
+from gregorio_chant.report.sarif import Sarif
+from gregorio_chant.linting.selection import Selection
+from gregorio_chant.work.settings import Chosen, Finder, NoSettings
+from gregorio_chant.text.source import text_of
+from gregorio_chant.work.staged import StagedFiles
+from gregorio_chant.work.streams import CANNOT_READ_OR_WRITE, reason_of, tell, write
+from gregorio_chant.work.walk import find_scores
+
+NO_MEMORY = 5
+FORMS = ("text", "lines", "json", "github", "sarif")
+
+
+@dataclass(frozen=True)
+class Options:
+    """The options of `check`; `exclude` has patterns of files to leave out of folders."""
+
+    paths: tuple[str, ...]
+    chosen: Chosen = Chosen()
+    form: str = "text"
+    with_rules: bool = False
+    jobs: int = 1
+    quiet: bool = False
+    exclude: tuple[str, ...] = ()
+    staged: bool = False
+    settings: Finder = NoSettings()
+
+
+def check_data(data: bytes, with_rules: bool) -> tuple[Message, ...]:
+    """Returns all that is found in a score, by the compiler and, if they are wanted, by the
+    rules, and that no comment of it silences."""
+    if with_rules:
+        return messages_with_rules(data)
+    return unsilenced(data, library.check(data).messages)
+
+
+@dataclass(frozen=True)
+class Told:
+    """What is reported of a score: `messages`, each with its help or nothing, of all that is `found`
+    in its `text`. The text is empty if nothing is reported."""
+
+    found: tuple[Message, ...]
+    messages: tuple[Message, ...] = ()
+    text: str = ""
+    helps: tuple[str | None, ...] = ()
+
+
+def told_of(data: bytes, selection: Selection, with_rules: bool) -> Told:
+    """Returns what is reported of a score."""
+    found = check_data(data, with_rules)
+    messages = selection.of(found)
+    if not messages:
+        return Told(found)
+    text = text_of(data)
+    return Told(found, messages, text, helps_for(text, found, messages))
+
+
+_Read = Callable[[str], Content]
+
+
+def check_file(name: str, options: Options, read_it: _Read) -> Checked:
+    """Returns what is found in the file, or why it was not read."""
+    settings = options.settings.of(name)
+    selection = settings.selection(name, options.chosen)
+    try:
+        told = told_of(read_it(name).data, selection, options.with_rules or settings.rules is True)
+    except OSError as error:
+        return Checked(name, failure=reason_of(error), status=CANNOT_READ_OR_WRITE)
+    except MemoryError:
+        return Checked(name, failure="there is no memory for it", status=NO_MEMORY)
+    return Checked(name, told.messages, told.text, status=int(selection.status_of(told.messages)), helps=told.helps)
+
+
+@contextmanager
+def _all_checked(names: list[str], options: Options, read_it: _Read) -> Iterator[Iterator[Checked]]:
+    """Gives what is found in each file, in order: by threads, since the compiler runs beside
+    them; by processes with rules, which are Python."""
+    work = partial(check_file, options=options, read_it=read_it)
+    with_rules = options.with_rules or any(options.settings.of(it).rules for it in names)
+    if with_rules and not options.staged:
+        with by_processes(work, names, options.jobs) as all_checked:
+            yield all_checked
+        return
+    if options.jobs == 1:
+        yield map(work, names)
+        return
+    pool = ThreadPoolExecutor(options.jobs)
+    try:
+        yield pool.map(work, names)
+    finally:
+        pool.shutdown(wait=False, cancel_futures=True)
+
+
+def _reporter_of(form: str) -> Reporter:
+    plain: dict[str, Callable[[], Reporter]] = {
+        "lines": Lines, "json": Json, "github": Annotations, "sarif": lambda: Sarif(__version__),
+    }
+    if form in plain:
+        return plain[form]()
+    try:
+        from gregorio_chant.report.terminal import TextReporter
+    except ImportError:
+        raise MissingDependency("text (--output-format lines does without)", "rich") from None
+    return TextReporter()
+
+
+class _Count:
+    """How many files were read, how many could not be, what was found in them, and the worst
+    status."""
+
+    def __init__(self) -> None:
+        self.files, self.failed, self.status = 0, 0, 0
+        self.kinds = Counter[Kind]()
+
+    def add(self, checked: Checked) -> None:
+        self.status = max(self.status, checked.status)
+        self.kinds.update(it.kind for it in checked.messages)
+        if checked.failure is None:
+            self.files += 1
+        else:
+            self.fail(checked.shown_name, checked.failure)
+
+    def fail(self, name: str, reason: str) -> None:
+        self.failed += 1
+        self.status = max(self.status, CANNOT_READ_OR_WRITE)
+        tell(f"cannot read {name}: {reason}")
+
+    def summary(self) -> str:
+        return summary_of(self.files, self.failed, self.kinds)
+
+
+def _named(options: Options, count: _Count) -> tuple[list[str], _Read]:
+    """Returns the names of what is checked, and what reads each."""
+    if options.staged:
+        staged = StagedFiles(options.paths)
+        return options.settings.kept(staged.names, options.paths), staged.read
+    names = find_scores(options.paths, lambda name, error: count.fail(name, reason_of(error)), options.exclude)
+    return options.settings.kept(names, options.paths), Reader.of(options.paths).read
+
+
+def check(options: Options) -> int:
+    """Checks the files, reports what is found, and returns the worst status. Raises
+    `WriteError`, and `MissingDependency`, `GitError` or `SettingsError` before any score is read."""
+    reporter = _reporter_of(options.form)
+    count = _Count()
+    names, read_it = _named(options, count)
+    with _all_checked(names, options, read_it) as all_checked, bar("checking", len(names)) as shown:
+        for it in all_checked:
+            text = reporter.add(it)
+            with shown.aside(told=it.failure is not None) if text or it.failure else nullcontext():
+                count.add(it)
+                write(text)
+            shown.advance()
+    write(reporter.end(None if options.quiet else count.summary()))
+    if not options.quiet and not reporter.has_summary:
+        tell(count.summary())
+    return count.status

@@ -1,0 +1,195 @@
+"""What probably was meant at the place of a message. Helps say it, and repairs write it."""
+from __future__ import annotations
+
+import bisect
+import re
+from collections.abc import Iterable
+from dataclasses import dataclass
+from functools import cached_property
+
+from gregorio_chant.linting.guesses import Bracket, lost_closer, lost_opener
+from gregorio_chant.text.nearest import nearest
+from gregorio_chant._native.results import Message
+from gregorio_chant.text.scan import HeaderSpan, Scan, Span, SyllableSpan, scan
+from gregorio_chant.text.source import Lines
+from gregorio_chant.text.vocabulary import HEADERS
+
+LEFT_OUT = frozenset(("E1", "E2", "E3"))
+STYLES = ("b", "c", "e", "i", "sc", "tt", "ul")
+# What is typed, or put by a program of texts, for the apostrophe of an ictus.
+APOSTROPHES = ("’", "‘", "ʼ", "´")
+ENTITY = re.compile(r"&(?:#[0-9]+|#x[0-9A-Fa-f]+|[A-Za-z][A-Za-z0-9]*);")
+MODES = {it: str(number) for number, it in enumerate(("I", "II", "III", "IV", "V", "VI", "VII", "VIII"), 1)}
+# Notes in a line that is read as a header.
+NOTES = re.compile(r"\([^()\n]*\)")
+# How many characters on each side of a slip a reading shows.
+_AROUND = 16
+_SHORT_LINE = 40
+_STYLE_TAG = re.compile(r"\$.|<(/?)(b|c|e|i|sc|tt|ul)>", re.DOTALL)
+_CLEF = re.compile(r"(?P<turned>[1-5])(?P<kind>[cfCF]b?)|(?P<letter>[cfCF]b?)[lI]?(?P<line>[1-5])|[A-Za-z]b?[lI]?[0-9]")
+_BARS = re.compile(r"[ \t]*\|(?:[ \t]*\|)*[ \t]*")
+_UNREAD_SCORE_LINE = re.compile(r"^[ \t]+%%", re.MULTILINE)
+_WITHOUT_COLON = re.compile(r"([\w-]+)(?:[ \t]*[-=.,;\u2013][ \t]*|[ \t]+)(\S[^;]*?)[;,. \t]*")
+
+
+class Subject:
+    """The text of a score, and where its messages stand."""
+
+    def __init__(self, text: str, messages: Iterable[Message]) -> None:
+        self.lines = Lines(text)
+        self.text = text
+        self._messages = tuple(messages)
+
+    @cached_property
+    def left_out(self) -> frozenset[int]:
+        return frozenset(self.offset(it) for it in self._messages if it.code in LEFT_OUT)
+
+    @cached_property
+    def scan(self) -> Scan:
+        return scan(self.text, self.left_out)
+
+    def offset(self, message: Message) -> int:
+        return self.lines.offset(message.line, message.column)
+
+    def place(self, offset: int) -> str:
+        """Returns a place as messages write it: line and column."""
+        place = self.lines.place(offset)
+        return f"{place.line}:{place.column}"
+
+    def syllable_at(self, offset: int) -> SyllableSpan | None:
+        number = self.scan.syllables.number_at(offset)
+        return None if number is None else self.scan.syllables[number]
+
+    def header_at(self, offset: int) -> HeaderSpan | None:
+        number = bisect.bisect_right(self.scan.headers, offset, key=lambda it: it.begin) - 1
+        return self.scan.headers[number] if number >= 0 else None
+
+    def unclosed(self, offset: int) -> int | None:
+        """Returns where the `(` stands that probably lacks its `)`, if `offset` lies in notes that hold another `(` after it."""
+        it = self.syllable_at(offset)
+        if it is None or offset <= it.notes:
+            return None
+        return it.notes if self.inner(it) is not None else None
+
+    def inner(self, syllable: SyllableSpan) -> int | None:
+        """Returns where the first `(` stands that was left out of the notes of a syllable; one in an attribute is none."""
+        at = self.text.find("(", syllable.notes + 1, syllable.end)
+        while at >= 0 and at not in self.left_out:
+            at = self.text.find("(", at + 1, syllable.end)
+        return at if at >= 0 else None
+
+
+def readings(text: str, edits: Iterable[tuple[int, str, str]]) -> tuple[str, str]:
+    """Returns how a part of a text is spelled, and how it is with these edits: offsets, what stands
+    there and what is written. Of a header both are the whole line if that is short; else they go up
+    to the next blanks, and not far."""
+    them = sorted(edits)
+    first, last = them[0][0], them[-1][0] + len(them[-1][1])
+    line_begin, line_end = text.rfind("\n", 0, first) + 1, text.find("\n", last)
+    line_end = len(text) if line_end < 0 else line_end
+    is_short = line_end - line_begin <= _SHORT_LINE and "\n%%" not in text[:first]
+    begin, end = (line_begin, line_end) if is_short else (first, last)
+    while begin > max(0, first - _AROUND) and not text[begin - 1].isspace():
+        begin -= 1
+    while end < min(len(text), last + _AROUND) and not text[end].isspace():
+        end += 1
+    made, at = "", begin
+    for offset, old, new in them:
+        made += text[at:offset] + new
+        at = offset + len(old)
+    return text[begin:end], made + text[at:end]
+
+
+# ---- brackets
+
+
+def opening_bracket(subject: Subject, at: int) -> Bracket | None:
+    """Returns where the `(` probably is missing that belongs to a `)` which closes nothing."""
+    text = subject.text
+    if not text.startswith(")", at) or at and text[at - 1] == ")":
+        return None
+    return lost_opener(text, at)
+
+
+def closing_bracket(subject: Subject, at: int) -> Bracket | None:
+    """Returns where the `)` probably is missing of the notes that hold this offset and another `(`."""
+    it = subject.syllable_at(at)
+    inner = subject.inner(it) if it is not None and at > it.notes else None
+    return None if it is None or inner is None or inner == it.notes + 1 else lost_closer(subject.text, it.notes, inner)
+
+
+# ---- notes
+
+
+@dataclass(frozen=True)
+class Meant:
+    """A part of a score that begins at the offset `begin`, and what was meant by it; nothing if that is not known."""
+
+    begin: int
+    spelling: str
+    meant: str
+
+
+def clef_for(subject: Subject, at: int) -> Meant | None:
+    """Returns the notes at this offset if they look like a clef that is written wrongly: they have no
+    text, and are a letter and a digit."""
+    it = subject.syllable_at(at)
+    if it is None or at < it.notes or any(c.isalpha() for c in subject.text[it.begin : it.notes]):
+        return None
+    notes = subject.text[it.notes + 1 : it.end].removesuffix(")")
+    found = _CLEF.fullmatch(notes)
+    if found is None:
+        return None
+    kind, line = found["kind"] or found["letter"], found["turned"] or found["line"]
+    if notes[0] not in "cfCF12345" and it.notes != subject.scan.syllables[0].notes:
+        return None
+    return Meant(it.notes + 1, notes, f"{kind.lower()}{line}" if kind else "")
+
+
+def bars_for(subject: Subject, at: int) -> Meant | None:
+    """Returns the notes at this offset if they are two `|` and nothing else: a double bar is meant."""
+    it = subject.syllable_at(at)
+    if it is None or at <= it.notes:
+        return None
+    notes = subject.text[it.notes + 1 : it.end].removesuffix(")")
+    return Meant(it.notes + 1, notes, "::") if notes.count("|") == 2 and _BARS.fullmatch(notes) else None
+
+
+# ---- headers
+
+
+def unread_score_line(subject: Subject) -> Span | None:
+    """Returns where a line ` %%` stands in the headers: the blanks before it make it a comment."""
+    found = _UNREAD_SCORE_LINE.search(subject.text)
+    return Span(*found.span()) if found is not None and found.start() < subject.scan.score else None
+
+
+def struck_for_mark(line: str) -> str:
+    """Returns the `,` or `:` that ends the value of a header in place of its `;`; nothing if none does."""
+    value = line.partition(":")[2].strip(" \t")
+    return value[-1] if value.endswith((",", ":")) else ""
+
+
+def meant_header(line: str) -> str | None:
+    """Returns the header that a line without a colon was meant to be, if its first word is nearly the name of one."""
+    found = _WITHOUT_COLON.fullmatch(line)
+    if found is None:
+        return None
+    name = found[1] if found[1] in HEADERS else nearest(found[1], HEADERS)
+    return f"{name}: {found[2]};" if name else None
+
+
+# ---- texts
+
+
+def open_styles(text: str) -> list[str]:
+    """Returns the styles that are open at the end of the text of a syllable, the first one first."""
+    found: list[str] = []
+    for tag in _STYLE_TAG.finditer(text):
+        if tag[2] is None:
+            continue
+        if not tag[1] and tag[2] not in found:
+            found.append(tag[2])
+        elif tag[1] and tag[2] in found:
+            found.remove(tag[2])
+    return found

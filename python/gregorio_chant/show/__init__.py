@@ -1,0 +1,1 @@
+"""Pictures of scores as pages, also for as long as scores change."""

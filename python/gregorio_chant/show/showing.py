@@ -1,0 +1,217 @@
+"""The command `show`: pictures of scores with their messages, as one page, as a folder of pages,
+or one as SVG."""
+from __future__ import annotations
+
+import os
+from collections import Counter
+from collections.abc import Iterable, Iterator
+from dataclasses import dataclass, field, replace
+from pathlib import Path
+from urllib.parse import quote
+
+from gregorio_chant.linting import checking
+from gregorio_chant.work import files
+from gregorio_chant.objects.dump import Score, ScoreError
+from gregorio_chant.picture import Look, Names, draw
+from gregorio_chant.picture.page import NARROW, Entry, Shown, index_of, page_of
+from gregorio_chant.report.reports import Checked, counted, summary_of
+from gregorio_chant._native.results import Kind
+from gregorio_chant.linting.selection import UnknownCode
+from gregorio_chant.work.settings import Finder, NoSettings
+from gregorio_chant.objects.sounds import NoteBeforeClef, Sound, sounds_of
+from gregorio_chant.text.source import text_of
+from gregorio_chant.work.streams import CANNOT_READ_OR_WRITE, STDIN, WriteError, printable, reason_of, tell, write_data
+from gregorio_chant.work.walk import find_scores
+
+MOST = 200
+_INDEX = "index.html"
+
+
+@dataclass(frozen=True)
+class Options:
+    """The options of `show`. `output` is a file or a folder, and `None` standard output."""
+
+    paths: tuple[str, ...]
+    output: str | None = None
+    svg: bool = False
+    look: Look = field(default_factory=Look)
+    with_messages: bool = True
+    sings: bool = False
+    with_rules: bool = False
+    exclude: tuple[str, ...] = ()
+    settings: Finder = NoSettings()
+
+    @property
+    def into_folder(self) -> bool:
+        return self.output is not None and (self.output.endswith("/") or os.path.isdir(self.output))
+
+    @property
+    def files(self) -> list[Path]:
+        """The file that is wanted, if it is one."""
+        return [] if self.output is None else [Path(self.output)]
+
+
+def _sounds(data: bytes) -> tuple[Sound, ...]:
+    """Returns the sounds of a score; none if it has no height."""
+    try:
+        return tuple(sounds_of(Score.parse(data).syllables))
+    except (NoteBeforeClef, ScoreError):
+        return ()
+
+
+class _Scores:
+    """Reads the scores, and counts what is found."""
+
+    def __init__(self, options: Options) -> None:
+        self._options = options
+        self._checking = checking.Options(options.paths, with_rules=options.with_rules, settings=options.settings)
+        self._reader = files.Reader.of(options.paths)
+        self.files, self.failed, self.status = 0, 0, 0
+        self.kinds = Counter[Kind]()
+
+    def names(self) -> list[str]:
+        found = find_scores(self._options.paths, lambda name, error: self._fail(name, reason_of(error)), self._options.exclude)
+        return self._options.settings.kept(found, self._options.paths)
+
+    def _fail(self, name: str, reason: str) -> None:
+        self.failed += 1
+        self.status = max(self.status, CANNOT_READ_OR_WRITE)
+        tell(f"cannot read {name}: {reason}")
+
+    def all(self, names: Iterable[str]) -> Iterator[tuple[Checked, bytes]]:
+        """Yields what is found in each score, and its bytes."""
+        for name in names:
+            try:
+                content = self._reader.read(name)
+            except OSError as error:
+                self._fail(name, reason_of(error))
+                continue
+            checked = checking.check_file(name, self._checking, lambda _: content)
+            self.files += 1
+            self.status = max(self.status, checked.status)
+            self.kinds.update(it.kind for it in checked.messages)
+            yield checked, content.data
+
+    def shown(self, checked: Checked, data: bytes, prefix: str) -> Shown:
+        """Returns a score as a page shows it: its picture, and one for a phone if the first is wider."""
+        options, look = self._options, self._options.look
+        messages = checked.messages if options.with_messages else ()
+        names = Names(prefix, links=True, has_heads=options.sings)
+        picture, narrow = draw(data, messages, look=look, names=names), None
+        if look.width > NARROW:
+            narrow = draw(data, messages, look=replace(look, width=NARROW), names=replace(names, prefix=f"{prefix}n-", messages=prefix))
+        sounds = _sounds(data) if options.sings else ()
+        return Shown(checked, printable(checked.shown_name), picture, text_of(data), prefix, narrow, options.with_messages, sounds)
+
+    def summary(self) -> str:
+        return summary_of(self.files, self.failed, self.kinds)
+
+
+def _put(path: Path, pieces: Iterable[str], below: Path | None = None) -> None:
+    """Writes a file anew, which the user has named, or which stands below a folder that he has named. Raises `WriteError`."""
+    try:
+        path.parent.mkdir(parents=True, exist_ok=True)
+        files.write(str(path), (it.encode("utf-8") for it in pieces), is_named=below is None, below=None if below is None else str(below))
+    except OSError as error:
+        raise WriteError(error) from None
+
+
+def _write(options: Options, pieces: Iterable[str]) -> None:
+    """Writes the page to where it is options. Raises `WriteError`."""
+    if options.output is not None:
+        _put(Path(options.output), pieces)
+    else:
+        for it in pieces:
+            write_data(it)
+
+
+def _refuse_own_input(outputs: Iterable[Path], names: Iterable[str]) -> None:
+    """Raises `UnknownCode` where a page would take the place of a score that is shown."""
+    shown = {_identity(name) for name in names if name != STDIN} - {None}
+    for output in outputs:
+        if _identity(output) in shown:
+            raise UnknownCode(f"{output} is a score that is shown: name another file")
+
+
+def _identity(path: str | Path) -> tuple[int, int] | None:
+    """Returns the device and the inode of a file, or `None` if there is no such file."""
+    try:
+        state = os.stat(path)
+    except OSError:
+        return None
+    return state.st_dev, state.st_ino
+
+
+def show(options: Options) -> int:
+    """Writes what is wanted, and returns the worst status. Raises `WriteError`, `UnknownCode`,
+    and `MissingDependency` or `SettingsError` before any score is read."""
+    scores = _Scores(options)
+    names = scores.names()
+    if options.svg:
+        _show_one(options, scores, names)
+    elif options.into_folder:
+        _show_folder(options, scores, names)
+    else:
+        _show_page(options, scores, names)
+    return scores.status
+
+
+def _show_one(options: Options, scores: _Scores, names: list[str]) -> None:
+    """Writes one picture. Raises `UnknownCode` where there is not one score."""
+    if len(names) != 1 or options.into_folder:
+        raise UnknownCode(f"--svg writes one picture, and here are {counted(len(names), 'score')}" if len(names) != 1 else "--svg writes a file, and no folder")
+    _refuse_own_input(options.files, names)
+    for checked, data in scores.all(names):
+        _write(options, draw(data, checked.messages if options.with_messages else (), look=options.look).pieces)
+
+
+def _show_page(options: Options, scores: _Scores, names: list[str]) -> None:
+    """Writes one page: each score that is named, and of folders those with messages."""
+    _refuse_own_input(options.files, names)
+    named = {it for it in options.paths if it == STDIN or not os.path.isdir(it)}
+    shown: list[Shown] = []
+    left_out = from_folders = 0
+    for checked, data in scores.all(names):
+        if checked.name not in named:
+            if not checked.messages:
+                continue
+            from_folders += 1
+            if from_folders > MOST:
+                left_out += 1
+                continue
+        shown.append(scores.shown(checked, data, f"p{len(shown) + 1}-"))
+    note = f"{counted(left_out, 'score')} more with messages: -o FOLDER/ writes a page for each." if left_out else ""
+    title = shown[0].picture.name or shown[0].name if len(names) == len(shown) == 1 else scores.summary()
+    _write(options, page_of(shown, title, note))
+
+
+def _page_names(names: list[str], paths: tuple[str, ...]) -> Iterator[str]:
+    """Yields the file of the page of each score: below the folder that is named as the score is
+    below its own."""
+    folders = [os.path.join(it, "") for it in paths if it != STDIN and os.path.isdir(it)]
+    taken = {_INDEX}
+    for name in names:
+        folder = next((it for it in folders if name.startswith(it)), None)
+        whole = "stdin" if name == STDIN else os.path.basename(name) if folder is None else name[len(folder) :].lstrip("/")
+        page, number = f"{whole}.html", 1
+        while page in taken:
+            number += 1
+            page = f"{whole}-{number}.html"
+        taken.add(page)
+        yield page
+
+
+def _show_folder(options: Options, scores: _Scores, names: list[str]) -> None:
+    """Writes a page for each score, and an index."""
+    folder = Path(options.output or ".")
+    pages = dict(zip(names, _page_names(names, options.paths)))
+    _refuse_own_input([folder / it for it in (*pages.values(), _INDEX)], names)
+    entries: list[Entry] = []
+    for checked, data in scores.all(names):
+        shown = scores.shown(checked, data, "")
+        page = pages[checked.name]
+        _put(folder / page, page_of([shown], shown.picture.name or shown.name, back="../" * page.count("/") + _INDEX), folder)
+        kinds, codes = Counter(it.kind for it in checked.messages), Counter(it.code for it in checked.messages)
+        entries.append(Entry(shown.name, shown.picture.name, quote(os.fsencode(page)), kinds, codes))
+    _put(folder / _INDEX, index_of(entries, scores.failed), folder)
+    tell(scores.summary())

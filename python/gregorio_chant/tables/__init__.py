@@ -1,0 +1,1 @@
+"""Tables over many scores: what is searched, an index, and totals."""

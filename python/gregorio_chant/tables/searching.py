@@ -1,0 +1,202 @@
+"""What is looked for in scores: intervals, melodies, neumes and words."""
+from __future__ import annotations
+
+import fnmatch
+import re
+import unicodedata
+from collections import Counter
+from collections.abc import Iterator, Sequence
+from dataclasses import dataclass
+from typing import Protocol
+
+from gregorio_chant.objects.dump import Glyph, Note, Score, Syllable
+from gregorio_chant.export.volpiano import LETTERS, letter_of
+from gregorio_chant.text.nearest import did_you_mean
+from gregorio_chant.objects.passages import text_of_syllables
+from gregorio_chant.linting.selection import UnknownCode
+from gregorio_chant.tables.tables import Row
+
+_JOINED = (
+    "pes", "clivis", "torculus", "porrectus", "scandicus", "scandicus-flexus", "torculus-resupinus", "porrectus-flexus", "torculus-resupinus-flexus",
+)
+_SHAPES = (
+    "punctum", "virga", "virga-reversa", "bivirga", "trivirga", "stropha", "distropha", "tristropha", "oriscus", "oriscus-scapus", "quilisma",
+    "quilisma-quadratum", "quadratum", "cavum", "lined", "linea",
+)
+# All kinds of neumes.
+KINDS = (
+    *(f"{it}{end}" for it in _JOINED for end in ("", "-subpunctis", "-subpunctis-resupinus")), "climacus", "climacus-resupinus", "inclinata", *_SHAPES,
+)
+_SIGNS = {"none": "", "natural": "", "flat": "\u266d", "sharp": "\u266f"}
+# What a melody in Volpiano has beside its letters.
+_NO_LETTERS = re.compile("[-1-7iIwWxXyYzZ\\s]")
+_STEP = re.compile(r"[+-]?[0-9]{1,2}")
+
+NEUME = ("neume", "spelling", "degrees", "text")
+COUNT = ("neume", "count", "spelling", "text")
+FOUND = ("notes", "degrees", "text")
+
+
+def degree_of(note: Note) -> str:
+    """Returns how a note sounds, with its alteration, or `-` before any clef."""
+    return f"{note.degree}{_SIGNS[note.alteration]}" if note.degree else "-"
+
+
+def degrees_of(notes: Sequence[Note]) -> str:
+    return " ".join(map(degree_of, notes))
+
+
+def _neumes(score: Score) -> Iterator[tuple[Syllable, Glyph]]:
+    return ((syllable, glyph) for syllable in score.syllables for glyph in syllable.glyphs)
+
+
+def each_neume(score: Score) -> Iterator[Row]:
+    """Yields a row for each neume."""
+    for syllable, it in _neumes(score):
+        yield Row.at(it.source, it.kind, it.spelling, degrees_of(it.notes), syllable.plain)
+
+
+def counted_neumes(score: Score) -> Iterator[Row]:
+    """Yields a row for each kind of neume: how many there are, and the first one."""
+    count = Counter(it.kind for _, it in _neumes(score))
+    first: dict[str, tuple[Syllable, Glyph]] = {}
+    for syllable, it in _neumes(score):
+        first.setdefault(it.kind, (syllable, it))
+    for kind, (syllable, it) in first.items():
+        yield Row(it.source.line, it.source.column, (kind, count[kind], it.spelling, syllable.plain), count[kind])
+
+
+@dataclass(frozen=True, slots=True)
+class Match:
+    """What a search finds: its notes, and the row of it."""
+
+    notes: tuple[Note, ...]
+    row: Row
+
+
+class Search(Protocol):
+    """Finds places in a score."""
+
+    def matches(self, score: Score) -> Iterator[Match]:
+        """Yields what is found, in order."""
+
+
+@dataclass(frozen=True)
+class Together:
+    """Makes the rows of what the first search finds, if it shares a note with something that each of the others finds."""
+
+    first: Search
+    others: tuple[Search, ...] = ()
+
+    def __call__(self, score: Score) -> Iterator[Row]:
+        of_others = [{note for it in search.matches(score) for note in it.notes} for search in self.others]
+        for it in self.first.matches(score):
+            if all(not notes.isdisjoint(it.notes) for notes in of_others):
+                yield it.row
+
+
+@dataclass(frozen=True)
+class NeumeSearch:
+    """Finds neumes of the kinds that match a pattern, in which `*` stands for anything."""
+
+    pattern: str
+
+    @classmethod
+    def of(cls, word: str) -> NeumeSearch:
+        """Raises `UnknownCode` where no kind matches."""
+        pattern = word.casefold()
+        if not fnmatch.filter(KINDS, pattern):
+            raise UnknownCode(f"{word} is no kind of neume: {did_you_mean(word, KINDS, 'docs/LANGUAGE.md lists them')}")
+        return cls(pattern)
+
+    def matches(self, score: Score) -> Iterator[Match]:
+        for syllable, it in _neumes(score):
+            if fnmatch.fnmatchcase(it.kind, self.pattern):
+                yield Match(it.notes, Row.at(it.source, it.spelling, degrees_of(it.notes), syllable.plain))
+
+
+@dataclass(frozen=True)
+class IntervalSearch:
+    """Finds notes that follow each other at these intervals, in steps or in semitones."""
+
+    wanted: tuple[int, ...]
+    in_semitones: bool
+
+    @classmethod
+    def of(cls, words: str, in_semitones: bool) -> IntervalSearch:
+        """Raises `UnknownCode` for what is no row of numbers."""
+        steps = words.split()
+        if not steps or not all(_STEP.fullmatch(it) for it in steps):
+            raise UnknownCode(f'--interval {words}: numbers are needed, as in "+2 +1 -3"')
+        return cls(tuple(map(int, steps)), in_semitones)
+
+    def matches(self, score: Score) -> Iterator[Match]:
+        of_notes = [(syllable, note) for syllable in score.syllables for note in syllable.notes]
+        heights = [note.semitones if self.in_semitones else note.step for _, note in of_notes]
+        count = len(self.wanted)
+        rises = tuple(None if a is None or b is None else b - a for a, b in zip(heights, heights[1:]))
+        for at in range(len(rises) - count + 1):
+            if rises[at : at + count] == self.wanted:
+                yield _match_of(of_notes[at : at + count + 1])
+
+
+def _match_of(found: Sequence[tuple[Syllable, Note]]) -> Match:
+    """Returns the match of notes that follow each other, each with its syllable."""
+    notes = tuple(note for _, note in found)
+    syllables = list({it.number: it for it, _ in found}.values())
+    return Match(notes, Row.at(notes[0].source, "".join(it.pitch for it in notes), degrees_of(notes), text_of_syllables(syllables)))
+
+
+@dataclass(frozen=True)
+class VolpianoSearch:
+    """Finds a melody by its letters in Volpiano: the clef, hyphens, bars, flats and liquescence do not count."""
+
+    letters: str
+
+    @classmethod
+    def of(cls, word: str) -> VolpianoSearch:
+        """Raises `UnknownCode` for what is no melody."""
+        letters = _NO_LETTERS.sub("", word).replace("(", "8").replace(")", "9").lower()
+        if not letters or any(it not in LETTERS for it in letters):
+            raise UnknownCode(f"--volpiano {word}: letters of a melody are needed, as in 1---f--gh")
+        return cls(letters)
+
+    def matches(self, score: Score) -> Iterator[Match]:
+        sung = [(syllable, note) for syllable in score.syllables for note in syllable.notes for _ in range(note.times)]
+        melody = "".join(letter_of(note) or "?" for _, note in sung)
+        at = melody.find(self.letters)
+        while at >= 0:
+            yield _match_of(list(dict.fromkeys(sung[at : at + len(self.letters)])))
+            at = melody.find(self.letters, at + 1)
+
+
+def folded(text: str) -> str:
+    """Returns `text` in small letters without accents and without the signs at both ends."""
+    letters = "".join(it for it in unicodedata.normalize("NFD", text) if not unicodedata.combining(it)).casefold()
+    inside = [at for at, it in enumerate(letters) if it.isalnum()]
+    return letters[inside[0] : inside[-1] + 1] if inside else ""
+
+
+@dataclass(frozen=True)
+class TextSearch:
+    """Finds words that follow each other and match these patterns, in which `*` stands for
+    anything: accents, capitals and punctuation do not count."""
+
+    patterns: tuple[str, ...]
+
+    @classmethod
+    def of(cls, words: str) -> TextSearch:
+        """Raises `UnknownCode` where there is no word."""
+        patterns = tuple("".join(c for c in unicodedata.normalize("NFD", it) if not unicodedata.combining(c)).casefold() for it in words.split())
+        if not patterns:
+            raise UnknownCode('--text needs a word, as in "Kyri*"')
+        return cls(patterns)
+
+    def matches(self, score: Score) -> Iterator[Match]:
+        words = score.words
+        texts = [folded(it.text) for it in words]
+        for at in range(len(words) - len(self.patterns) + 1):
+            if all(fnmatch.fnmatchcase(text, it) for text, it in zip(texts[at:], self.patterns)):
+                found = words[at : at + len(self.patterns)]
+                notes = tuple(note for it in found for note in it.notes)
+                yield Match(notes, Row.at(found[0].source, "".join(it.pitch for it in notes), degrees_of(notes), " ".join(it.text for it in found)))
