@@ -1,8 +1,10 @@
-"""Builds the wheel with the standard library alone (Python 3.11 or newer), so that `pip install` needs no network.
+"""Builds the wheel with the standard library alone (Python 3.11 or newer), so that `pip install`
+needs no network.
 
-The wheel holds the package, the library for C with the file BUILD, which `tools/build_c` has to have built, and the files for editors, which pip puts into the
-folder `share` of an environment. It is tagged for this machine's platform. Its version is that of the
-file VERSION, its license that of the file LICENSE, and the rest of its metadata that of pyproject.toml.
+The wheel holds the package, the library for C with the file BUILD, which `tools/build_c` has to
+have built, and the files for editors, which pip puts into the folder `share` of an environment. It
+is tagged for this machine's platform. Its version is that of the file VERSION, its license that of
+the file LICENSE, and the rest of its metadata that of pyproject.toml.
 """
 from __future__ import annotations
 
@@ -11,10 +13,11 @@ import hashlib
 import re
 import runpy
 import sysconfig
-import tomllib
 import zipfile
 from pathlib import Path
 from typing import Any
+
+import tomllib
 
 HERE = Path(__file__).resolve().parent
 ROOT = HERE.parent
@@ -27,7 +30,9 @@ SUFFIXES = (".py", ".html", ".css", ".js", ".tsv", ".txt")
 
 def _project() -> dict[str, Any]:
     """Returns the table `project` of pyproject.toml."""
-    project: dict[str, Any] = tomllib.loads((HERE / "pyproject.toml").read_text(encoding="utf-8"))["project"]
+    project: dict[str, Any] = tomllib.loads((HERE / "pyproject.toml").read_text(encoding="utf-8"))[
+        "project"
+    ]
     return project
 
 
@@ -35,7 +40,9 @@ def _files() -> dict[str, bytes]:
     """Returns the package's files by their names in the wheel."""
     if not LIBRARY.exists():
         raise FileNotFoundError(f"{LIBRARY} is not there: run tools/build_c first")
-    sources = sorted(it for it in (HERE / PACKAGE).rglob("*") if it.suffix in SUFFIXES or it.name == "py.typed")
+    sources = sorted(
+        it for it in (HERE / PACKAGE).rglob("*") if it.suffix in SUFFIXES or it.name == "py.typed"
+    )
     files = {it.relative_to(HERE).as_posix(): it.read_bytes() for it in sources}
     for it in (LIBRARY, LIBRARY.with_name("BUILD")):
         if it.exists():
@@ -44,7 +51,8 @@ def _files() -> dict[str, bytes]:
 
 
 def _for_editors() -> dict[str, bytes]:
-    """Returns the files for editors by their names: those for vim and emacs, and the packed extension for VS Code."""
+    """Returns the files for editors by their names: those for vim and emacs, and the packed
+    extension for VS Code."""
     sources = [it for it in sorted(EDITORS.rglob("*")) if it.suffix in (".vim", ".lua", ".el")]
     files = {it.relative_to(EDITORS).as_posix(): it.read_bytes() for it in sources}
     vsix: bytes = runpy.run_path(str(ROOT / "tools" / "pack_vsix"))["packed"]()
@@ -54,14 +62,23 @@ def _for_editors() -> dict[str, bytes]:
 def _metadata(project: dict[str, Any], version: str) -> str:
     """Returns the text of METADATA."""
     lines = [
-        "Metadata-Version: 2.1", f"Name: {project['name']}", f"Version: {version}", f"Summary: {project['description']}",
-        f"Keywords: {','.join(project['keywords'])}", f"License: {project['license']}", "License-File: LICENSE",
-        f"Requires-Python: {project['requires-python']}", "Description-Content-Type: text/markdown",
+        "Metadata-Version: 2.1",
+        f"Name: {project['name']}",
+        f"Version: {version}",
+        f"Summary: {project['description']}",
+        f"Keywords: {','.join(project['keywords'])}",
+        f"License: {project['license']}",
+        "License-File: LICENSE",
+        f"Requires-Python: {project['requires-python']}",
+        "Description-Content-Type: text/markdown",
     ]
     lines += [f"Classifier: {it}" for it in project["classifiers"]]
     lines += [f"Requires-Dist: {it}" for it in project["dependencies"]]
     for extra, packages in project["optional-dependencies"].items():
-        lines += [f"Provides-Extra: {extra}", *(f'Requires-Dist: {it}; extra == "{extra}"' for it in packages)]
+        lines += [
+            f"Provides-Extra: {extra}",
+            *(f'Requires-Dist: {it}; extra == "{extra}"' for it in packages),
+        ]
     return "\n".join(lines) + "\n\n" + (HERE / "README.md").read_text(encoding="utf-8")
 
 
@@ -70,7 +87,9 @@ def _row(name: str, content: bytes) -> str:
     return f"{name},sha256={digest},{len(content)}"
 
 
-def build_wheel(wheel_directory: str, config_settings: object = None, metadata_directory: str | None = None) -> str:
+def build_wheel(
+    wheel_directory: str, config_settings: object = None, metadata_directory: str | None = None
+) -> str:
     """Writes the wheel into `wheel_directory`, and returns its file name."""
     version = (ROOT / "VERSION").read_text().strip()
     project = _project()
@@ -83,7 +102,9 @@ def build_wheel(wheel_directory: str, config_settings: object = None, metadata_d
     files[f"{info}/licenses/LICENSE"] = (ROOT / "LICENSE").read_bytes()
     scripts = "".join(f"{name} = {call}\n" for name, call in project["scripts"].items())
     files[f"{info}/entry_points.txt"] = f"[console_scripts]\n{scripts}".encode()
-    files[f"{info}/WHEEL"] = f"Wheel-Version: 1.0\nGenerator: wheel_backend\nRoot-Is-Purelib: false\nTag: {tag}\n".encode()
+    files[
+        f"{info}/WHEEL"
+    ] = f"Wheel-Version: 1.0\nGenerator: wheel_backend\nRoot-Is-Purelib: false\nTag: {tag}\n".encode()
     record = [_row(name, content) for name, content in files.items()]
     files[f"{info}/RECORD"] = "\n".join([*record, f"{info}/RECORD,,", ""]).encode()
     name = f"{PACKAGE}-{version}-{tag}.whl"

@@ -13,9 +13,11 @@ Ky(f)ri(//)
 ...     print(message.line, message.column, message.code, message.text)
 3 15 E1 character left out of the notes
 
-`lint`, `fix`, `format_text`, `draw` and `index` do what the commands do (`gregorio_chant.calls`). `Run` takes a score in pieces. `tree` returns all that
-was read of a score, and what was left out, with the bytes of each. `gregorio_chant.dump` reads a score into objects, each with its place; the command
-`gregorio-chant` checks and formats files. The answers of `compile`, `check` and `Run` are proved; the rest of the package is tested.
+`lint`, `fix`, `format_text`, `draw` and `index` do what the commands do (`gregorio_chant.calls`).
+`Run` takes a score in pieces. `tree` returns all that was read of a score, and what was left out,
+with the bytes of each. `gregorio_chant.dump` reads a score into objects, each with its place; the
+command `gregorio-chant` checks and formats files. The answers of `compile`, `check` and `Run` are
+proved; the rest of the package is tested.
 """
 from __future__ import annotations
 
@@ -23,27 +25,77 @@ from importlib import import_module
 from typing import TYPE_CHECKING
 
 if TYPE_CHECKING:
-    from gregorio_chant.calls import draw, fix, format_text, index, lint
     from gregorio_chant._native.library import check, compile
     from gregorio_chant._native.node_kinds import NodeKind
     from gregorio_chant._native.nodes import Node, Tree
-    from gregorio_chant._native.results import Format, Kind, Message, Report, Result, RunOverError, StateError, Status, Step
+    from gregorio_chant._native.results import (
+        Format,
+        Kind,
+        Message,
+        Report,
+        Result,
+        RunOverError,
+        StateError,
+        Status,
+        Step,
+    )
     from gregorio_chant._native.runs import Limits, Run, pieces
-    from gregorio_chant.work.settings import Settings
     from gregorio_chant._native.trees import tree
+    from gregorio_chant.calls import draw, fix, format_text, index, lint
+    from gregorio_chant.work.settings import Settings
 
     __version__: str
 
-# Where each name stands. A module is imported when a name of it is asked for, so that the command begins at once.
+# Where each name stands. A module is imported when a name of it is asked for, so that the command
+# begins at once.
 _MODULES = {
-    **dict.fromkeys(("check", "compile"), "_native.library"), **dict.fromkeys(("Limits", "Run", "pieces"), "_native.runs"),
-    **dict.fromkeys(("draw", "fix", "format_text", "index", "lint"), "calls"), "Settings": "work.settings",
-    **dict.fromkeys(("Node", "Tree"), "_native.nodes"), "NodeKind": "_native.node_kinds", "tree": "_native.trees",
-    **dict.fromkeys(("Format", "Kind", "Message", "Report", "Result", "RunOverError", "StateError", "Status", "Step"), "_native.results"),
+    **dict.fromkeys(("check", "compile"), "_native.library"),
+    **dict.fromkeys(("Limits", "Run", "pieces"), "_native.runs"),
+    **dict.fromkeys(("draw", "fix", "format_text", "index", "lint"), "calls"),
+    "Settings": "work.settings",
+    **dict.fromkeys(("Node", "Tree"), "_native.nodes"),
+    "NodeKind": "_native.node_kinds",
+    "tree": "_native.trees",
+    **dict.fromkeys(
+        (
+            "Format",
+            "Kind",
+            "Message",
+            "Report",
+            "Result",
+            "RunOverError",
+            "StateError",
+            "Status",
+            "Step",
+        ),
+        "_native.results",
+    ),
 }
 __all__ = [
-    "Format", "Kind", "Limits", "Message", "Node", "NodeKind", "Report", "Result", "Run", "RunOverError", "Settings", "StateError", "Status",
-    "Step", "Tree", "check", "compile", "draw", "fix", "format_text", "index", "lint", "pieces", "tree",
+    "Format",
+    "Kind",
+    "Limits",
+    "Message",
+    "Node",
+    "NodeKind",
+    "Report",
+    "Result",
+    "Run",
+    "RunOverError",
+    "Settings",
+    "StateError",
+    "Status",
+    "Step",
+    "Tree",
+    "check",
+    "compile",
+    "draw",
+    "fix",
+    "format_text",
+    "index",
+    "lint",
+    "pieces",
+    "tree",
 ]
 
 
@@ -51,6 +103,7 @@ def __getattr__(name: str) -> object:
     """Returns what is asked for by this name for the first time."""
     if name == "__version__":
         from importlib.metadata import version
+
         value: object = version("gregorio-chant")
     elif name in _MODULES:
         value = getattr(import_module(f"gregorio_chant.{_MODULES[name]}"), name)

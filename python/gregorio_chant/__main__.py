@@ -7,11 +7,13 @@ from gregorio_chant.work.ending import end_at_signals, leave_signals
 
 
 def main() -> int:
-    """Runs the command with the words of the process, and returns the exit status. What takes long to be imported is imported here, so that a signal meanwhile
-    ends the command as any other does."""
+    """Runs the command with the words of the process, and returns the exit status. What takes long
+    to be imported is imported here, so that a signal meanwhile ends the command as any other
+    does."""
     end_at_signals()
     try:
         from gregorio_chant.commands.main import main as run
+
         return run(sys.argv[1:])
     finally:
         leave_signals()

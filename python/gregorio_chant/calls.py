@@ -1,31 +1,45 @@
-"""What the commands do, as calls: `lint`, `fix`, `format_text`, `draw` and `index`. Their answers are plain data, which `dataclasses.asdict` takes.
+"""What the commands do, as calls: `lint`, `fix`, `format_text`, `draw` and `index`. Their answers
+are plain data, which `dataclasses.asdict` takes.
 
 >>> from gregorio_chant import lint
 >>> for it in lint("name: Kyrie;\\n%%\\n(c4) Ky(g5)ri(g)"):
 ...     print(it.line, it.column, it.code, it.help)
 3 10 E1 '5' is no sign of the note before it: remove it
 
-A text is a `str`, or the bytes of a file. Bytes that are not UTF-8 come back as in names of files, by `surrogateescape`.
+A text is a `str`, or the bytes of a file. Bytes that are not UTF-8 come back as in names of files,
+by `surrogateescape`.
 """
 from __future__ import annotations
 
 from collections.abc import Iterable, Sequence
 from dataclasses import dataclass
 
-from gregorio_chant.linting.checking import told_of
-from gregorio_chant.objects.compiled import Compiled
-from gregorio_chant.objects.dump import Score, ScoreError
-from gregorio_chant.format.formatting import formatted, style_by
-from gregorio_chant.tables.indexing import IndexEntry, entry_of
 from gregorio_chant._native.memory import bytes_of
+from gregorio_chant.format.formatting import formatted, style_by
+from gregorio_chant.linting.checking import told_of
 from gregorio_chant.linting.problems import Change, Problem, ProblemRepair, problems_of
 from gregorio_chant.linting.repairing import Guess, How, repair, repair_of_each
+from gregorio_chant.objects.compiled import Compiled
+from gregorio_chant.objects.dump import Score, ScoreError
+from gregorio_chant.tables.indexing import IndexEntry, entry_of
 from gregorio_chant.work.settings import Settings
 from gregorio_chant.work.streams import STDIN
 
 __all__ = [
-    "Change", "DrawnScore", "FixedText", "FormattedText", "Guess", "IndexEntry", "Problem", "ProblemRepair", "Settings",
-    "draw", "fix", "format_text", "index", "lint",
+    "Change",
+    "DrawnScore",
+    "FixedText",
+    "FormattedText",
+    "Guess",
+    "IndexEntry",
+    "Problem",
+    "ProblemRepair",
+    "Settings",
+    "draw",
+    "fix",
+    "format_text",
+    "index",
+    "lint",
 ]
 
 Text = str | bytes | bytearray | memoryview
@@ -59,7 +73,9 @@ class DrawnScore:
 
 def _text_of(data: bytes, text: Text, old: bytes) -> str:
     """Returns the text of `data`; if these are still the bytes of `text`, then that."""
-    return text if isinstance(text, str) and data == old else data.decode("utf-8", "surrogateescape")
+    return (
+        text if isinstance(text, str) and data == old else data.decode("utf-8", "surrogateescape")
+    )
 
 
 def lint(text: Text, settings: Settings = Settings()) -> list[Problem]:
@@ -71,7 +87,14 @@ def lint(text: Text, settings: Settings = Settings()) -> list[Problem]:
     told = told_of(data, settings.selection(STDIN), with_rules)
     if not told.messages:
         return []
-    return [*problems_of(told.text, told.messages, told.helps, repair_of_each(Compiled(data), told.found, told.messages, with_rules))]
+    return [
+        *problems_of(
+            told.text,
+            told.messages,
+            told.helps,
+            repair_of_each(Compiled(data), told.found, told.messages, with_rules),
+        )
+    ]
 
 
 def fix(text: Text, unsafe: bool = False, settings: Settings = Settings()) -> FixedText:
@@ -93,6 +116,7 @@ def format_text(text: Text, settings: Settings = Settings()) -> FormattedText:
 def draw(text: Text, width: float = USUAL_WIDTH, settings: Settings = Settings()) -> DrawnScore:
     """Returns a picture of a score, this many pixels wide, with what `lint` reports of it."""
     from gregorio_chant import picture
+
     data = bytes(bytes_of(text))
     told = told_of(data, settings.selection(STDIN), settings.rules is True)
     made = picture.draw(data, told.messages, look=picture.Look(width=width))
@@ -109,4 +133,9 @@ def _entry_of(text: Text, headers: Sequence[str]) -> IndexEntry:
     try:
         return entry_of(Score.parse(text), headers)
     except ScoreError as error:
-        return IndexEntry(error.message.line, error.message.column, headers=dict.fromkeys(headers), fault=str(error))
+        return IndexEntry(
+            error.message.line,
+            error.message.column,
+            headers=dict.fromkeys(headers),
+            fault=str(error),
+        )

@@ -23,8 +23,9 @@ def morae_of(notes: Sequence[Note]) -> list[int]:
 
 def episemata_of(items: Iterable[Item]) -> dict[int, tuple[Episema, ...]]:
     """Returns the episemata that cover each note among `items`, by the offset of the note: first
-    its own, then those of later notes that reach back to it. None reaches back over anything that is
-    no note, but for attributes and marks of fusion. A note that no episema covers is left out."""
+    its own, then those of later notes that reach back to it. None reaches back over anything that
+    is no note, but for attributes and marks of fusion. A note that no episema covers is left
+    out."""
     covered: dict[int, tuple[Episema, ...]] = {}
     row: list[Note] = []
     for it in items:

@@ -24,13 +24,19 @@ class Served(unittest.TestCase):
 
     def start(self, *words: str) -> None:
         self.launch(*words)
-        self.capabilities = self.ask("initialize", {"processId": None, "rootUri": None, "capabilities": self.capabilities_of_client})["capabilities"]
+        self.capabilities = self.ask(
+            "initialize",
+            {"processId": None, "rootUri": None, "capabilities": self.capabilities_of_client},
+        )["capabilities"]
         self.tell("initialized", {})
 
     def launch(self, *words: str) -> None:
         """Starts a server that nothing is said to."""
         self.server = subprocess.Popen(
-            [sys.executable, "-m", "gregorio_chant", "server", *words], stdin=subprocess.PIPE, stdout=subprocess.PIPE, stderr=subprocess.PIPE
+            [sys.executable, "-m", "gregorio_chant", "server", *words],
+            stdin=subprocess.PIPE,
+            stdout=subprocess.PIPE,
+            stderr=subprocess.PIPE,
         )
         self.addCleanup(self.stop, self.server)
         self.number = 0
@@ -86,7 +92,10 @@ class Served(unittest.TestCase):
     def open(self, text: str) -> list[Told]:
         """Opens a score, and returns the messages that come."""
         self.version = 1
-        self.tell("textDocument/didOpen", {"textDocument": {"uri": self.uri, "languageId": "gabc", "version": 1, "text": text}})
+        self.tell(
+            "textDocument/didOpen",
+            {"textDocument": {"uri": self.uri, "languageId": "gabc", "version": 1, "text": text}},
+        )
         return self.shown()
 
     def change(self, *changes: str | Told) -> list[Told]:
@@ -97,11 +106,17 @@ class Served(unittest.TestCase):
     def tell_change(self, *changes: str | Told) -> None:
         self.version += 1
         them = [{"text": it} if isinstance(it, str) else it for it in changes]
-        self.tell("textDocument/didChange", {"textDocument": {"uri": self.uri, "version": self.version}, "contentChanges": them})
+        self.tell(
+            "textDocument/didChange",
+            {"textDocument": {"uri": self.uri, "version": self.version}, "contentChanges": them},
+        )
 
     def shown(self) -> list[Told]:
         message = self.receive()
-        self.assertEqual((message["method"], message["params"]["uri"]), ("textDocument/publishDiagnostics", self.uri))
+        self.assertEqual(
+            (message["method"], message["params"]["uri"]),
+            ("textDocument/publishDiagnostics", self.uri),
+        )
         self.assertEqual(message["params"].get("version", self.version), self.version)
         diagnostics: list[Told] = message["params"]["diagnostics"]
         return diagnostics
@@ -131,5 +146,9 @@ def applied(text: str, edits: list[Told]) -> str:
         return sum(len(it) + 1 for it in lines[: at["line"]]) + int(at["character"])
 
     for it in sorted(edits, key=lambda it: offset(it["range"]["start"]), reverse=True):
-        text = text[: offset(it["range"]["start"])] + it["newText"] + text[offset(it["range"]["end"]) :]
+        text = (
+            text[: offset(it["range"]["start"])]
+            + it["newText"]
+            + text[offset(it["range"]["end"]) :]
+        )
     return text

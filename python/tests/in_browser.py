@@ -14,11 +14,12 @@ from pathlib import Path
 from typing import Any
 from xml.etree import ElementTree as Xml
 
-from gregorio_chant.picture import OWN, Face, Look, draw
-from gregorio_chant.picture.page import leading_to
 from support import EXAMPLES, FAULTY, SCORE, InFolder, command, has, scores_of_tables
 from test_font import GRECILIAE
 from test_picture import HOSTILE, KINDS
+
+from gregorio_chant.picture import OWN, Face, Look, draw
+from gregorio_chant.picture.page import leading_to
 
 
 def browser() -> Any:
@@ -29,7 +30,11 @@ def browser() -> Any:
     options: Any = webdriver.ChromeOptions()
     # The name localhost.example leads to this machine, as any name of the web may.
     for word in (
-        "--headless=new", "--no-sandbox", "--disable-gpu", "--window-size=1000,700", "--disable-dev-shm-usage",
+        "--headless=new",
+        "--no-sandbox",
+        "--disable-gpu",
+        "--window-size=1000,700",
+        "--disable-dev-shm-usage",
         "--host-resolver-rules=MAP localhost.example 127.0.0.1",
     ):
         options.add_argument(word)
@@ -38,7 +43,10 @@ def browser() -> Any:
     return webdriver.Chrome(service=Service(shutil.which("chromedriver") or ""), options=options)
 
 
-@unittest.skipUnless(has("selenium") and shutil.which("chromium") and shutil.which("chromedriver"), "there is no Chromium, no driver of it, or no selenium")
+@unittest.skipUnless(
+    has("selenium") and shutil.which("chromium") and shutil.which("chromedriver"),
+    "there is no Chromium, no driver of it, or no selenium",
+)
 class Browsing(InFolder):
     """Tests with one browser, which each begins anew. `here` begins the addresses that it may ask
     for."""
@@ -77,9 +85,15 @@ class Browsing(InFolder):
         """The console has no error, and nothing was asked of another place than this folder."""
         self.assertEqual([it["message"] for it in self.browser.get_log("browser")], [])
         asked = [json.loads(it["message"])["message"] for it in self.browser.get_log("performance")]
-        addresses = [it["params"]["request"]["url"] for it in asked if it["method"] == "Network.requestWillBeSent"]
+        addresses = [
+            it["params"]["request"]["url"]
+            for it in asked
+            if it["method"] == "Network.requestWillBeSent"
+        ]
         self.assertTrue(addresses)
-        self.assertEqual([it for it in addresses if not it.startswith((self.here, "data:image/"))], [])
+        self.assertEqual(
+            [it for it in addresses if not it.startswith((self.here, "data:image/"))], []
+        )
 
     def await_(self, is_so: Callable[[], bool], what: str) -> None:
         """Waits until something is so."""
@@ -122,7 +136,10 @@ class Shown(Browsing):
         command("show", "-o", "page.html", "long.gabc")
         self.put("here.html", leading_to("page.html#p1-s900"))
         self.browser.get(Path("here.html").resolve().as_uri())
-        self.await_(lambda: bool(self.browser.current_url.endswith("page.html#p1-s900")), "another page is open")
+        self.await_(
+            lambda: bool(self.browser.current_url.endswith("page.html#p1-s900")),
+            "another page is open",
+        )
         self.await_(lambda: self.is_seen("#p1-s900"), "the syllable is not seen")
         self.assert_quiet()
 
@@ -132,24 +149,37 @@ class Shown(Browsing):
         self.open("a.gabc")
         self.assertEqual(self.look("document.querySelectorAll('script, foo, b, img').length"), 0)
         self.assertEqual(self.look("document.querySelectorAll('svg').length"), 2)
-        self.assertIn("<script>alert(1)</script>", self.look("document.querySelector('svg > text').textContent"))
+        self.assertIn(
+            "<script>alert(1)</script>",
+            self.look("document.querySelector('svg > text').textContent"),
+        )
         self.assert_quiet()
 
     def test_narrow_dark_and_printed(self) -> None:
         """On a narrow screen nothing stands beside it; in the dark the paper is dark and the
         notes light; the printed page has no source."""
         self.open(str(EXAMPLES / "hymn-verses.gabc"), str(EXAMPLES / "every-finding.gabc"))
-        self.browser.execute_cdp_cmd("Emulation.setDeviceMetricsOverride", {"width": 340, "height": 700, "deviceScaleFactor": 1, "mobile": True})
+        self.browser.execute_cdp_cmd(
+            "Emulation.setDeviceMetricsOverride",
+            {"width": 340, "height": 700, "deviceScaleFactor": 1, "mobile": True},
+        )
         self.assertLessEqual(self.look("document.documentElement.scrollWidth"), 340)
         paper = "getComputedStyle(document.querySelector('.paper')).fill"
         notes = "getComputedStyle(document.querySelector('.chant use')).fill"
         light = self.look(f"[{paper}, {notes}]")
-        self.browser.execute_cdp_cmd("Emulation.setEmulatedMedia", {"features": [{"name": "prefers-color-scheme", "value": "dark"}]})
+        self.browser.execute_cdp_cmd(
+            "Emulation.setEmulatedMedia",
+            {"features": [{"name": "prefers-color-scheme", "value": "dark"}]},
+        )
         dark = self.look(f"[{paper}, {notes}]")
         self.assertEqual(light, ["rgb(255, 255, 255)", "rgb(0, 0, 0)"])
         self.assertEqual(dark, ["rgb(22, 22, 22)", "rgb(221, 221, 221)"])
-        self.browser.execute_cdp_cmd("Emulation.setEmulatedMedia", {"media": "print", "features": []})
-        self.assertEqual(self.look("getComputedStyle(document.querySelector('details')).display"), "none")
+        self.browser.execute_cdp_cmd(
+            "Emulation.setEmulatedMedia", {"media": "print", "features": []}
+        )
+        self.assertEqual(
+            self.look("getComputedStyle(document.querySelector('details')).display"), "none"
+        )
         self.assert_quiet()
 
     def test_folder(self) -> None:
@@ -165,8 +195,9 @@ class Shown(Browsing):
         self.assert_quiet()
 
     def test_sings(self) -> None:
-        """`--play` sings: notes light up one after another, in the picture that is seen, by the page's own script alone; a
-        double click on a syllable begins there, and a score with hostile text sings too."""
+        """`--play` sings: notes light up one after another, in the picture that is seen, by the
+        page's own script alone; a double click on a syllable begins there, and a score with hostile
+        text sings too."""
         self.put("a.gabc", HOSTILE)
         self.open("--play", str(EXAMPLES / "hymn.gabc"), "a.gabc")
         self.assertEqual(self.look("document.querySelectorAll('script').length"), 1)
@@ -174,26 +205,52 @@ class Shown(Browsing):
         self.find(".sing button").click()
         self.await_(lambda: bool(self.look("document.querySelector('.now')")), "no note lights up")
         self.assertEqual(self.find(".sing button").text, "Stop")
-        self.assertTrue(self.look("document.querySelector('.now').parentElement.id").startswith("p1-s"))
+        self.assertTrue(
+            self.look("document.querySelector('.now').parentElement.id").startswith("p1-s")
+        )
         first = self.look("document.querySelector('.now').getAttribute('x')")
-        self.await_(lambda: bool(self.look("document.querySelector('.now')?.getAttribute('x')") != first), "no other note lights up")
+        self.await_(
+            lambda: bool(self.look("document.querySelector('.now')?.getAttribute('x')") != first),
+            "no other note lights up",
+        )
         self.find(".sing button").click()
         self.assertIsNone(self.look("document.querySelector('.now')"))
-        self.browser.execute_script("document.querySelector('#p1-s20').dispatchEvent(new MouseEvent('dblclick', { bubbles: true }))")
-        self.await_(lambda: bool(self.look("document.querySelector('.now')?.parentElement.id") == "p1-s20"), "it does not begin there")
-        self.browser.execute_cdp_cmd("Emulation.setDeviceMetricsOverride", {"width": 340, "height": 700, "deviceScaleFactor": 1, "mobile": True})
-        self.await_(lambda: str(self.look("document.querySelector('.now')?.parentElement.id")).startswith("p1-n-s"), "the picture that is seen lights up")
+        self.browser.execute_script(
+            "document.querySelector('#p1-s20').dispatchEvent(new MouseEvent('dblclick', { bubbles: true }))"
+        )
+        self.await_(
+            lambda: bool(self.look("document.querySelector('.now')?.parentElement.id") == "p1-s20"),
+            "it does not begin there",
+        )
+        self.browser.execute_cdp_cmd(
+            "Emulation.setDeviceMetricsOverride",
+            {"width": 340, "height": 700, "deviceScaleFactor": 1, "mobile": True},
+        )
+        self.await_(
+            lambda: str(self.look("document.querySelector('.now')?.parentElement.id")).startswith(
+                "p1-n-s"
+            ),
+            "the picture that is seen lights up",
+        )
         self.assert_quiet()
 
     def test_every_note_has_its_head(self) -> None:
         """Each note that sounds has a head where it is drawn, in both faces."""
         for face in ("square", "plain"):
-            self.open("--play", "--face", face, *(str(EXAMPLES / f"{it}.gabc") for it in ("hymn", "introit", "psalm-tone", "every-item")))
+            self.open(
+                "--play",
+                "--face",
+                face,
+                *(
+                    str(EXAMPLES / f"{it}.gabc")
+                    for it in ("hymn", "introit", "psalm-tone", "every-item")
+                ),
+            )
             lacking = self.browser.execute_script(
                 "return [...document.querySelectorAll('.sing')].map((panel) => JSON.parse(panel.dataset.sounds).filter(([syllable, head, key]) => key !== null &&"
                 " panel.dataset.prefixes.split(' ').some((prefix) => { let left = head; let group = document.getElementById(`${prefix}s${syllable}`);"
                 " for (let part = 2; group; part += 1) { const heads = group.dataset.heads.split(' ').filter(Boolean).length; if (left < heads) return false; left -= heads;"
-                " group = document.getElementById(`${prefix}s${syllable}-${part}`); } return true; })).length)",
+                " group = document.getElementById(`${prefix}s${syllable}-${part}`); } return true; })).length)"
             )
             self.assertEqual(lacking, [0, 0, 0, 0], face)
 
@@ -201,9 +258,19 @@ class Shown(Browsing):
         """On a narrow screen the picture for phones is seen, whole, and messages lead into it."""
         self.put("a.gabc", FAULTY)
         self.open("a.gabc")
-        self.browser.execute_cdp_cmd("Emulation.setDeviceMetricsOverride", {"width": 360, "height": 700, "deviceScaleFactor": 1, "mobile": True})
-        self.assertEqual(self.look("[...document.querySelectorAll('svg')].map(it => it.getClientRects().length)"), [0, 1])
-        self.assertLessEqual(self.look("document.querySelector('.narrow svg').getBoundingClientRect().right"), 360)
+        self.browser.execute_cdp_cmd(
+            "Emulation.setDeviceMetricsOverride",
+            {"width": 360, "height": 700, "deviceScaleFactor": 1, "mobile": True},
+        )
+        self.assertEqual(
+            self.look(
+                "[...document.querySelectorAll('svg')].map(it => it.getClientRects().length)"
+            ),
+            [0, 1],
+        )
+        self.assertLessEqual(
+            self.look("document.querySelector('.narrow svg').getBoundingClientRect().right"), 360
+        )
         self.find("a.narrow").click()
         self.assertTrue(self.browser.current_url.endswith("#p1-n-m1-at"))
         self.assertTrue(self.is_seen("#p1-n-m1-at"))
@@ -211,9 +278,16 @@ class Shown(Browsing):
     def test_text_has_its_length(self) -> None:
         """Whatever the face, each text is as long as it was laid out."""
         self.open(str(EXAMPLES / "hymn.gabc"))
-        length = "it.getEndPositionOfChar(it.getNumberOfChars() - 1).x - it.getStartPositionOfChar(0).x"
+        length = (
+            "it.getEndPositionOfChar(it.getNumberOfChars() - 1).x - it.getStartPositionOfChar(0).x"
+        )
         texts = "[...document.querySelectorAll('.wide text[textLength]')]"
-        self.assertEqual(self.look(f"{texts}.filter(it => Math.abs({length} - it.textLength.baseVal.value) > 0.5).map(it => it.textContent)"), [])
+        self.assertEqual(
+            self.look(
+                f"{texts}.filter(it => Math.abs({length} - it.textLength.baseVal.value) > 0.5).map(it => it.textContent)"
+            ),
+            [],
+        )
 
 
 @unittest.skipUnless(has("starlette") and has("uvicorn"), "there is no starlette, or no uvicorn")
@@ -222,7 +296,9 @@ class Written(Browsing):
 
     def setUp(self) -> None:
         super().setUp()
-        self.server = subprocess.Popen([sys.executable, "-m", "gregorio_chant", "page"], stdout=subprocess.PIPE)
+        self.server = subprocess.Popen(
+            [sys.executable, "-m", "gregorio_chant", "page"], stdout=subprocess.PIPE
+        )
         self.addCleanup(self.stop)
         assert self.server.stdout is not None
         self.here = self.server.stdout.readline().decode().strip()
@@ -257,7 +333,9 @@ class Written(Browsing):
         self.score.send_keys("lei(g5)")
         self.await_seen("character left out of the notes", "#messages")
         self.assertGreater(self.look("document.querySelectorAll('#picture use').length"), before)
-        self.assertEqual(self.look("document.querySelector('#picture .code').firstChild.textContent"), "E1")
+        self.assertEqual(
+            self.look("document.querySelector('#picture .code').firstChild.textContent"), "E1"
+        )
         self.assert_quiet()
 
     def test_to_learn(self) -> None:
@@ -267,9 +345,17 @@ class Written(Browsing):
             with self.subTest(address):
                 it.click()
                 self.browser.switch_to.window(self.browser.window_handles[-1])
-                self.await_(lambda: bool(self.browser.current_url == address and self.look("document.readyState") == "complete"), "the page is not there")
+                self.await_(
+                    lambda: bool(
+                        self.browser.current_url == address
+                        and self.look("document.readyState") == "complete"
+                    ),
+                    "the page is not there",
+                )
                 self.assertGreater(self.look("document.images.length"), 3)
-                self.assertEqual(self.look("[...document.images].filter(it => it.naturalWidth === 0).length"), 0)
+                self.assertEqual(
+                    self.look("[...document.images].filter(it => it.naturalWidth === 0).length"), 0
+                )
                 self.assertNotEqual(self.look("getComputedStyle(document.body).maxWidth"), "none")
                 self.assertEqual([it["message"] for it in self.browser.get_log("browser")], [])
                 self.browser.close()
@@ -277,8 +363,8 @@ class Written(Browsing):
         self.assertEqual(len(self.browser.find_elements("css selector", ".learn a")), 2)
 
     def test_clicks(self) -> None:
-        """A click on a message shows it in the picture; one on its place, and one on a syllable, puts the
-        cursor there."""
+        """A click on a message shows it in the picture; one on its place, and one on a syllable,
+        puts the cursor there."""
         begin = "name: a;\n%%\n(c4) \ufeff\U0001d11e(f) "
         score = begin + "Ky(f)ri(g) " * 600 + "e(g5)\n" + "Ky(f)ri(g) " * 200
         self.write(score)
@@ -287,21 +373,41 @@ class Written(Browsing):
         self.assertTrue(self.is_seen("#p1-m1-at"))
         self.assertTrue(self.browser.current_url.startswith(self.here))
         self.find("#messages li a").click()
-        self.await_(lambda: score.encode("utf-16-le")[2 * self.cursor() :].startswith("5)".encode("utf-16-le")), "the cursor is elsewhere")
-        self.assertEqual(self.look("document.querySelector('#picture .here title').textContent"), "e: sol")
+        self.await_(
+            lambda: score.encode("utf-16-le")[2 * self.cursor() :].startswith(
+                "5)".encode("utf-16-le")
+            ),
+            "the cursor is elsewhere",
+        )
+        self.assertEqual(
+            self.look("document.querySelector('#picture .here title').textContent"), "e: sol"
+        )
         self.find("#p1-s2").click()
-        self.await_(lambda: score.encode("utf-16-le")[2 * self.cursor() :].startswith("\U0001d11e(f)".encode("utf-16-le")), "the cursor is elsewhere")
+        self.await_(
+            lambda: score.encode("utf-16-le")[2 * self.cursor() :].startswith(
+                "\U0001d11e(f)".encode("utf-16-le")
+            ),
+            "the cursor is elsewhere",
+        )
         self.assert_quiet()
 
     def test_drop(self) -> None:
         """A file that is dropped is read, also one that is no UTF-8."""
-        for content, seen in ((b"name: b;\n%%\n(c4) Sanc(f)tus(g)\n", "Sanc"), (b"name: b;\n%%\n(c4) Ag(f)nus(g) \xff", "Ag")):
+        for content, seen in (
+            (b"name: b;\n%%\n(c4) Sanc(f)tus(g)\n", "Sanc"),
+            (b"name: b;\n%%\n(c4) Ag(f)nus(g) \xff", "Ag"),
+        ):
             self.browser.execute_script(
                 "const data = new DataTransfer(); data.items.add(new File([new Uint8Array(arguments[0])], 'b.gabc'));"
-                "document.querySelector('#score').dispatchEvent(new DragEvent('drop', { dataTransfer: data, bubbles: true, cancelable: true }))", list(content),
+                "document.querySelector('#score').dispatchEvent(new DragEvent('drop', { dataTransfer: data, bubbles: true, cancelable: true }))",
+                list(content),
             )
             self.await_seen(seen)
-            self.assertTrue(self.look("document.querySelector('#score').value").startswith(content.decode(errors="replace")))
+            self.assertTrue(
+                self.look("document.querySelector('#score').value").startswith(
+                    content.decode(errors="replace")
+                )
+            )
         self.await_seen("F1", "#messages")
         self.assert_quiet()
 
@@ -315,20 +421,35 @@ class Written(Browsing):
         self.assert_quiet()
 
     def test_saved(self) -> None:
-        """Score, canonical form and picture are saved under names of their own; the picture is a file of its own."""
-        self.browser.execute_cdp_cmd("Browser.setDownloadBehavior", {"behavior": "allow", "downloadPath": str(Path(".").resolve())})
+        """Score, canonical form and picture are saved under names of their own; the picture is a
+        file of its own."""
+        self.browser.execute_cdp_cmd(
+            "Browser.setDownloadBehavior",
+            {"behavior": "allow", "downloadPath": str(Path(".").resolve())},
+        )
         self.write(FAULTY)
         self.await_seen("character left out", "#messages")
         for kind in ("score", "canonical", "picture"):
             self.find(f"button[data-save={kind}]").click()
         names = ("kyrie.gabc", "kyrie.canonical.gabc", "kyrie.svg")
-        self.await_(lambda: all(Path(it).exists() and Path(it).stat().st_size > 0 for it in names), "a file is not there")
-        self.assertEqual([Path(it).read_text() for it in names[:2]], [FAULTY, FAULTY.replace("5", "").replace("(c4) ", "(c4)\n")])
+        self.await_(
+            lambda: all(Path(it).exists() and Path(it).stat().st_size > 0 for it in names),
+            "a file is not there",
+        )
+        self.assertEqual(
+            [Path(it).read_text() for it in names[:2]],
+            [FAULTY, FAULTY.replace("5", "").replace("(c4) ", "(c4)\n")],
+        )
         root = Xml.fromstring(Path("kyrie.svg").read_text())
         self.assertIn(".staff", root.findtext("{http://www.w3.org/2000/svg}style") or "")
         self.assertEqual([it for it in root.iter() if it.tag.endswith("}a")], [])
         if shutil.which("rsvg-convert"):
-            self.assertEqual(subprocess.run(["rsvg-convert", "kyrie.svg"], capture_output=True, check=True).stderr, b"")
+            self.assertEqual(
+                subprocess.run(
+                    ["rsvg-convert", "kyrie.svg"], capture_output=True, check=True
+                ).stderr,
+                b"",
+            )
         self.assert_quiet()
 
     def test_sings(self) -> None:
@@ -336,14 +457,19 @@ class Written(Browsing):
         self.write(SCORE)
         self.await_seen("Nothing was found.", "#messages")
         self.find("#sing button").click()
-        self.await_(lambda: bool(self.look("document.querySelector('#picture .now')")), "no note lights up")
+        self.await_(
+            lambda: bool(self.look("document.querySelector('#picture .now')")), "no note lights up"
+        )
         self.find("#sing button").click()
         self.assertIsNone(self.look("document.querySelector('.now')"))
         self.assert_quiet()
 
     def test_too_long(self) -> None:
-        """A long score is read at the button; one that is too long is not sent, and a line says so."""
-        self.browser.execute_script("const it = document.querySelector('#score'); it.value = ' '.repeat(1000001); it.dispatchEvent(new Event('input'))")
+        """A long score is read at the button; one that is too long is not sent, and a line says
+        so."""
+        self.browser.execute_script(
+            "const it = document.querySelector('#score'); it.value = ' '.repeat(1000001); it.dispatchEvent(new Event('input'))"
+        )
         self.await_seen("A score above 100,000 bytes is read at the button.", "#state")
         self.find("#read").click()
         self.await_seen("A score has 1,000,000 bytes at most here.", "#state")
@@ -353,7 +479,12 @@ class Written(Browsing):
         """No script of a score runs, and nothing of it becomes an element."""
         self.write(HOSTILE)
         self.await_seen("<script>alert(1)</script>")
-        self.assertEqual(self.look("document.querySelectorAll('foo, b, img, #picture script, #messages script').length"), 0)
+        self.assertEqual(
+            self.look(
+                "document.querySelectorAll('foo, b, img, #picture script, #messages script').length"
+            ),
+            0,
+        )
         self.assert_quiet()
 
     def test_another_name(self) -> None:
@@ -364,9 +495,16 @@ class Written(Browsing):
     def test_narrow(self) -> None:
         self.write((EXAMPLES / "hymn.gabc").read_text())
         self.await_seen("Nothing was found.", "#messages")
-        self.browser.execute_cdp_cmd("Emulation.setDeviceMetricsOverride", {"width": 340, "height": 700, "deviceScaleFactor": 1, "mobile": True})
+        self.browser.execute_cdp_cmd(
+            "Emulation.setDeviceMetricsOverride",
+            {"width": 340, "height": 700, "deviceScaleFactor": 1, "mobile": True},
+        )
         self.assertLessEqual(self.look("document.documentElement.scrollWidth"), 340)
-        self.await_(lambda: int(self.look("document.querySelector('#picture svg').getAttribute('width')")) < 340, "the picture is as wide as before")
+        self.await_(
+            lambda: int(self.look("document.querySelector('#picture svg').getAttribute('width')"))
+            < 340,
+            "the picture is as wide as before",
+        )
         self.assert_quiet()
 
     def test_server_that_ends(self) -> None:
@@ -382,17 +520,31 @@ class ByConverter(InFolder):
         inch."""
         self.convert_all(OWN, scores_of_tables()[::10])
 
-    @unittest.skipUnless(has("fontTools") and GRECILIAE.exists(), "there is no fontTools, or no Greciliae")
+    @unittest.skipUnless(
+        has("fontTools") and GRECILIAE.exists(), "there is no fontTools, or no Greciliae"
+    )
     def test_font(self) -> None:
         """So it does with the outlines of a font, for each example and neume."""
         from gregorio_chant.picture.font import face_of
+
         self.convert_all(face_of(str(GRECILIAE)), [])
 
     def convert_all(self, face: Face, more: list[bytes]) -> None:
         kinds = f"name: x;\n%%\n(c4) a({' '.join(KINDS.values()).replace('wg', 'fwg')})\n".encode()
-        scores = [*(it.read_bytes() for it in sorted(EXAMPLES.glob("*.gabc"))), HOSTILE.encode(), kinds, *more]
+        scores = [
+            *(it.read_bytes() for it in sorted(EXAMPLES.glob("*.gabc"))),
+            HOSTILE.encode(),
+            kinds,
+            *more,
+        ]
         for score in scores:
             for dots in ("100", "300"):
                 self.put("a.svg", draw(score, look=Look(face=face)).svg)
-                made = subprocess.run(["rsvg-convert", "-d", dots, "-p", dots, "a.svg"], capture_output=True, check=False)
-                self.assertEqual((made.returncode, made.stderr, made.stdout[:4]), (0, b"", b"\x89PNG"))
+                made = subprocess.run(
+                    ["rsvg-convert", "-d", dots, "-p", dots, "a.svg"],
+                    capture_output=True,
+                    check=False,
+                )
+                self.assertEqual(
+                    (made.returncode, made.stderr, made.stdout[:4]), (0, b"", b"\x89PNG")
+                )

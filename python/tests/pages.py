@@ -1,4 +1,5 @@
-"""The blocks of code of the pages, each with the mark that stands before it, as `<!-- test: NAME -->`."""
+"""The blocks of code of the pages, each with the mark that stands before it, as `<!-- test: NAME
+-->`."""
 from __future__ import annotations
 
 import re
@@ -7,16 +8,20 @@ from textwrap import dedent
 
 from support import ROOT
 
-_PIECES = re.compile(r"""
+_PIECES = re.compile(
+    r"""
     ^```(?P<language>\w*)\n(?P<fenced>(?:.*\n)*?)```\n
     | ^[ ]*<!--[ ](?P<mark>.*?)[ ]-->\n
     | ^(?P<indented>[ ]{4}.*\n(?:\n*[ ]{4}.*\n)*)
-    | ^(?P<words>(?:.*\S.*\n)+)""", re.MULTILINE | re.VERBOSE)
+    | ^(?P<words>(?:.*\S.*\n)+)""",
+    re.MULTILINE | re.VERBOSE,
+)
 
 
 @dataclass
 class Block:
-    """A block of a page: its place, its language where it is fenced, its mark, what stands in it, and the paragraphs before and after it."""
+    """A block of a page: its place, its language where it is fenced, its mark, what stands in it,
+    and the paragraphs before and after it."""
 
     place: str
     language: str
@@ -27,7 +32,9 @@ class Block:
 
 def pages() -> list[str]:
     """Returns the names of all pages, from the top of the repository on."""
-    return sorted(str(it.relative_to(ROOT)) for pattern in ("*.md", "*/*.md") for it in ROOT.glob(pattern))
+    return sorted(
+        str(it.relative_to(ROOT)) for pattern in ("*.md", "*/*.md") for it in ROOT.glob(pattern)
+    )
 
 
 def blocks_of(page: str) -> list[Block]:
@@ -45,7 +52,15 @@ def blocks_of(page: str) -> list[Block]:
             mark = piece["mark"]
         else:
             place = f"{page}:{text.count(chr(10), 0, piece.start()) + 1}"
-            blocks.append(Block(place, piece["language"] or "", mark if before == "mark" else "", dedent(piece[kind]), words))
+            blocks.append(
+                Block(
+                    place,
+                    piece["language"] or "",
+                    mark if before == "mark" else "",
+                    dedent(piece[kind]),
+                    words,
+                )
+            )
         before = kind
     return blocks
 

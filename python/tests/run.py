@@ -1,5 +1,6 @@
-"""Runs all tests of this folder, each module in a process of its own, side by side. What failed is shown. The last line counts what passed, failed and was
-skipped, and the reasons of what was skipped stand before it.
+"""Runs all tests of this folder, each module in a process of its own, side by side. What failed is
+shown. The last line counts what passed, failed and was skipped, and the reasons of what was skipped
+stand before it.
 
 Usage: python run.py [MODULE ..]
 """
@@ -16,7 +17,15 @@ from pathlib import Path
 
 HERE = Path(__file__).resolve().parent
 # These take longest, and begin first.
-_LONG = ("test_page", "test_tree_texts", "test_ending", "test_check", "test_command", "test_format", "test_streams")
+_LONG = (
+    "test_page",
+    "test_tree_texts",
+    "test_ending",
+    "test_check",
+    "test_command",
+    "test_format",
+    "test_streams",
+)
 
 
 class Result(unittest.TextTestResult):
@@ -42,10 +51,17 @@ class Ran:
 def run(module: str) -> Ran:
     """Runs the tests of a module."""
     written = io.StringIO()
-    ran = unittest.TextTestRunner(written, resultclass=Result, verbosity=0).run(unittest.defaultTestLoader.loadTestsFromName(module))
+    ran = unittest.TextTestRunner(written, resultclass=Result, verbosity=0).run(
+        unittest.defaultTestLoader.loadTestsFromName(module)
+    )
     assert isinstance(ran, Result)
     failed = len(ran.failures) + len(ran.errors)
-    return Ran(ran.passed, failed, tuple(f"{test}: {reason}" for test, reason in ran.skipped), written.getvalue())
+    return Ran(
+        ran.passed,
+        failed,
+        tuple(f"{test}: {reason}" for test, reason in ran.skipped),
+        written.getvalue(),
+    )
 
 
 def _begin() -> None:
@@ -53,7 +69,10 @@ def _begin() -> None:
 
 
 def main(names: list[str]) -> int:
-    modules = names or sorted((it.stem for it in HERE.glob("test_*.py") if it.stem != "test_package"), key=lambda it: it not in _LONG)
+    modules = names or sorted(
+        (it.stem for it in HERE.glob("test_*.py") if it.stem != "test_package"),
+        key=lambda it: it not in _LONG,
+    )
     with ProcessPoolExecutor(os.cpu_count(), get_context("spawn"), _begin) as pool:
         all_ran = list(pool.map(run, modules))
     for ran in all_ran:
@@ -61,7 +80,9 @@ def main(names: list[str]) -> int:
             sys.stderr.write(ran.written)
         for it in ran.skipped:
             print(f"skipped: {it}")
-    passed, failed, skipped = (sum(it) for it in zip(*((it.passed, it.failed, len(it.skipped)) for it in all_ran)))
+    passed, failed, skipped = (
+        sum(it) for it in zip(*((it.passed, it.failed, len(it.skipped)) for it in all_ran))
+    )
     print(f"{passed} passed, {failed} failed, {skipped} skipped")
     return int(failed != 0 or passed == 0)
 

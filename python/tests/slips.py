@@ -1,4 +1,5 @@
-"""Slips of the pen: where each can be planted in a score, what is told of it, and what its repair makes."""
+"""Slips of the pen: where each can be planted in a score, what is told of it, and what its repair
+makes."""
 from __future__ import annotations
 
 import re
@@ -78,15 +79,27 @@ SLIPS = (
     Slip(r" \(;\)", " ;", "bar-as-text", "did you mean the bar (;)?"),
     Slip(r"\*\(,\)", "*()", "asterisk-without-bar", "no bar follows this asterisk"),
     # Lost brackets, and brackets too many.
-    Slip(_WORD + r"\((?=[a-m]{2}\)\w)", "", "E2", "a ( is missing before it, probably at 7:14", BACK),
+    Slip(
+        _WORD + r"\((?=[a-m]{2}\)\w)", "", "E2", "a ( is missing before it, probably at 7:14", BACK
+    ),
     Slip(_WORD + r"\((?=[a-m]\)\w)", "", "E2", "a ( is missing before it", BACK),
     Slip(_WORD + r"\((?=[a-m]+'?\.?\) )", "", "E2", "a ( is missing before it", BACK),
-    Slip(_WORD + r"\((?=[a-m]{2}\)\w)", "9", "E2", "a ( is missing before it, probably at 7:14", BACK),
-    Slip(_WORD + r"\((?=[a-m]{2}\)\w)", "8", "E2", "a ( is missing before it, probably at 7:14", BACK),
+    Slip(
+        _WORD + r"\((?=[a-m]{2}\)\w)", "9", "E2", "a ( is missing before it, probably at 7:14", BACK
+    ),
+    Slip(
+        _WORD + r"\((?=[a-m]{2}\)\w)", "8", "E2", "a ( is missing before it, probably at 7:14", BACK
+    ),
     Slip(r"\((?=[a-m]\.\) )", "", "E2", "a ( is missing before it", BACK),
     Slip(_WORD + r"\((?=[a-m]~?>\))", "", "E2", "a ( is missing before it", BACK),
     Slip(r"(?<= )\((?=[,;]\))", "", "E2", "a ( is missing before it", BACK),
-    Slip(r"(\([a-m]{2})\)(?=\w)", r"\1", "E1", "lacks its ): did you mean 'A(e)spér(eh)ges(hh)'?", BACK),
+    Slip(
+        r"(\([a-m]{2})\)(?=\w)",
+        r"\1",
+        "E1",
+        "lacks its ): did you mean 'A(e)spér(eh)ges(hh)'?",
+        BACK,
+    ),
     Slip(r"(\([a-m])\)(?=\w)", r"\1", "E1", "lacks its )", BACK),
     Slip(r"(\([a-m])\)(?=\w)", r"\g<1>0", "E1", "lacks its )", BACK),
     Slip(r"(\([a-m]+'?\.?)\) ", r"\1 ", "E1", "lacks its )", BACK),
@@ -94,11 +107,18 @@ SLIPS = (
     Slip(r"\)(?=\n\Z)", "", "F6", "is not closed: write )", BACK),
     Slip(_WORD + r"\((?=[a-m]\))", "((", "E1", "is doubled: remove one of them", BACK),
     Slip(_WORD + r"(\([a-m]\))", r"\1)", "E2", "remove this one"),
-    Slip(_WORD + r"\(([a-m]{2})\)(?=\w)", r"[\1]", "notes-in-translation", "did you mean (eh)?", BACK),
+    Slip(
+        _WORD + r"\(([a-m]{2})\)(?=\w)", r"[\1]", "notes-in-translation", "did you mean (eh)?", BACK
+    ),
     Slip(_WORD + r"\(([a-m]{2})\)(?=\w)", r"{\1}"),
     Slip(_WORD + r"\(([a-m]{2})\)(?=\w)", r"<\1>", "W6", "there is no tag"),
     Slip(_WORD + r"\(([a-m]{2})\)(?=\w)", r"(\1]", "E1", "lacks its )"),
-    Slip(_WORD + r"\(([a-m]{2})\)(?=\w)", "()", "syllable-without-notes", "has no notes within its word"),
+    Slip(
+        _WORD + r"\(([a-m]{2})\)(?=\w)",
+        "()",
+        "syllable-without-notes",
+        "has no notes within its word",
+    ),
     # Notes.
     Slip(r"\([a-m]\)", "(q)", "E1", "is no pitch"),
     Slip(r"\([a-m]\)", "(o)", "E1", "is no pitch"),
@@ -112,7 +132,9 @@ SLIPS = (
     Slip(r"\(([a-m])[a-m]\)", r"(\1o)", None),
     Slip(r"\(([a-m])([a-m])\)", r"(\1Z\2)", None),
     Slip(r"\(([a-m])\.\)", r"(\1,)", None),
-    Slip(r"\(ix([a-m]+)\)", r"(\1ix)", "unused-alteration", "write it before the note that it alters"),
+    Slip(
+        r"\(ix([a-m]+)\)", r"(\1ix)", "unused-alteration", "write it before the note that it alters"
+    ),
     Slip(r"\(ix(?=[a-m]+\))", "(jx", "unused-alteration", "no note at j follows"),
     Slip(r"(!)([a-m])w", r"\1w\2", "E1", "is no pitch"),
     Slip(r"(?<=[a-m])'(?=\))", "’", "E1", "typographic apostrophe", BACK),
@@ -121,7 +143,9 @@ SLIPS = (
     Slip(r"\(([a-m]\.)\)", r"(\1[ll:1)", "F6", "is not closed: write ]"),
     Slip(r"\(([a-m]{2})\)", r"(@[\1)", "W10", "is not closed"),
     Slip(r"\(([a-m]{2})\)", r"(\1[nm1])", "W8", "write the header def-m1"),
-    Slip(r"\(([a-m]{2})\)", r"(\1|vi)", "nabc-without-header", "Write nabc-lines: 1; before the %%"),
+    Slip(
+        r"\(([a-m]{2})\)", r"(\1|vi)", "nabc-without-header", "Write nabc-lines: 1; before the %%"
+    ),
     # Texts.
     Slip(r"<i>([^<]*)</i>", r"<i>\1<i>", "W3", "write </i> if it ends here"),
     Slip(r"<i>([^<]*)</i>", r"<i>\1", "W3", "ends with the text of its syllable"),
@@ -147,7 +171,12 @@ SLIPS = (
     Slip(r"(?<=\w)(?=\([a-m]\))", "{", "W4", "is not closed"),
     Slip(r"(?<=\w)(?=\([a-m]\))", "[Lord][God]", "W5", "put both into one pair of brackets"),
     Slip(r"(?<=\w)(?=\([a-m]\))", "]", "E2", "look for a missing ["),
-    Slip(r"(?<=\w)(?=\([a-m]\))", " ", "blank-before-notes", "there is a blank between a word and its notes"),
+    Slip(
+        r"(?<=\w)(?=\([a-m]\))",
+        " ",
+        "blank-before-notes",
+        "there is a blank between a word and its notes",
+    ),
     Slip(r"\n(?=et)", "\n%%\n", "second-score-line", "is a comment"),
     Slip(r"\(::\)\n\Z", "(::) et\n", "W9", "has no notes"),
 )

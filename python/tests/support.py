@@ -50,27 +50,50 @@ def _nobody() -> int | None:
 
 
 def command(
-    *words: str | bytes | Path, data: bytes = b"", environment: Mapping[str, str] | None = None, as_nobody: bool = False,
-    limit: int | None = None, output: int | None = None,
+    *words: str | bytes | Path,
+    data: bytes = b"",
+    environment: Mapping[str, str] | None = None,
+    as_nobody: bool = False,
+    limit: int | None = None,
+    output: int | None = None,
 ) -> subprocess.CompletedProcess[bytes]:
-    """Runs `gregorio-chant` with these words. `limit` is the most bytes of a file that it may write; `as_nobody` it has no rights but everybody's."""
+    """Runs `gregorio-chant` with these words. `limit` is the most bytes of a file that it may
+    write; `as_nobody` it has no rights but everybody's."""
+
     def bound() -> None:
         if limit is not None:
             resource.setrlimit(resource.RLIMIT_FSIZE, (limit, limit))
 
     user = _nobody() if as_nobody else None
     return subprocess.run(
-        [sys.executable, "-m", "gregorio_chant", *words], input=data, stdout=subprocess.PIPE if output is None else output,
-        stderr=subprocess.PIPE, env={**os.environ, **(environment or {})}, preexec_fn=bound, timeout=120, check=False, user=user, group=user,
+        [sys.executable, "-m", "gregorio_chant", *words],
+        input=data,
+        stdout=subprocess.PIPE if output is None else output,
+        stderr=subprocess.PIPE,
+        env={**os.environ, **(environment or {})},
+        preexec_fn=bound,
+        timeout=120,
+        check=False,
+        user=user,
+        group=user,
     )
 
 
-def in_terminal(*words: str | Path, environment: Mapping[str, str] | None = None) -> tuple[int, str]:
-    """Runs the command in a terminal of 80 columns, and returns its status and all that it showed."""
+def in_terminal(
+    *words: str | Path, environment: Mapping[str, str] | None = None
+) -> tuple[int, str]:
+    """Runs the command in a terminal of 80 columns, and returns its status and all that it
+    showed."""
     main, its = pty.openpty()
     plain = {name: it for name, it in os.environ.items() if name not in ("NO_COLOR", "FORCE_COLOR")}
     settings = {**plain, "TERM": "xterm-256color", "COLUMNS": "80", **(environment or {})}
-    run = subprocess.Popen([sys.executable, "-m", "gregorio_chant", *words], stdin=its, stdout=its, stderr=its, env=settings)
+    run = subprocess.Popen(
+        [sys.executable, "-m", "gregorio_chant", *words],
+        stdin=its,
+        stdout=its,
+        stderr=its,
+        env=settings,
+    )
     os.close(its)
     shown = b""
     while True:
@@ -86,16 +109,26 @@ def in_terminal(*words: str | Path, environment: Mapping[str, str] | None = None
 
 
 def unescaped(column: str) -> bytes:
-    """Returns the bytes of a column, in which a backslash begins `\\n`, `\\t`, `\\r`, `\\\\` or `\\xNN`."""
+    """Returns the bytes of a column, in which a backslash begins `\\n`, `\\t`, `\\r`, `\\\\` or
+    `\\xNN`."""
+
     def byte(found: re.Match[bytes]) -> bytes:
         code = found[1]
-        return bytes([int(code[1:], 16)]) if code[:1] == b"x" else {b"n": b"\n", b"t": b"\t", b"r": b"\r"}.get(code, code)
+        return (
+            bytes([int(code[1:], 16)])
+            if code[:1] == b"x"
+            else {b"n": b"\n", b"t": b"\t", b"r": b"\r"}.get(code, code)
+        )
+
     return re.sub(rb"\\(x[0-9A-Fa-f]{2}|.)", byte, column.encode())
 
 
 def files_of_scores() -> list[Path]:
     """Returns the examples, and the scores in the folders that GREGORIO_FOLDER names."""
-    folders = [EXAMPLES, *(Path(it) for it in os.environ.get("GREGORIO_FOLDER", "").split(os.pathsep) if it)]
+    folders = [
+        EXAMPLES,
+        *(Path(it) for it in os.environ.get("GREGORIO_FOLDER", "").split(os.pathsep) if it),
+    ]
     return [it for folder in folders for it in sorted(folder.glob("*.gabc"))]
 
 

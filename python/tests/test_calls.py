@@ -1,4 +1,5 @@
-"""Tries the calls `lint`, `fix`, `format_text`, `draw` and `index`: they say what the commands say, and their answers are plain data by the schema in docs."""
+"""Tries the calls `lint`, `fix`, `format_text`, `draw` and `index`: they say what the commands say,
+and their answers are plain data by the schema in docs."""
 from __future__ import annotations
 
 import dataclasses
@@ -9,11 +10,12 @@ import unittest
 from functools import cache
 from typing import Any
 
+from support import EXAMPLES, FAULTY, ROOT, SCORE, InFolder, command, scores_of_tables
+
 import gregorio_chant
 from gregorio_chant import Settings, calls, draw, fix, format_text, index, lint
-from gregorio_chant.calls import DrawnScore, FixedText, FormattedText, IndexEntry, Problem
 from gregorio_chant._native.results import Kind
-from support import EXAMPLES, FAULTY, ROOT, SCORE, InFolder, command, scores_of_tables
+from gregorio_chant.calls import DrawnScore, FixedText, FormattedText, IndexEntry, Problem
 
 _SCHEMA = ROOT / "docs" / "answers.schema.json"
 _ANSWERS = (Problem, FixedText, FormattedText, DrawnScore, IndexEntry)
@@ -27,7 +29,10 @@ _PLAIN = {str: "string", int: "integer", bool: "boolean", type(None): "null"}
 def texts() -> tuple[bytes, ...]:
     """Returns the examples, and inputs of the tables of runs, which are short."""
     tables = [it for it in scores_of_tables() if len(it) < 1_000]
-    return (*(it.read_bytes() for it in sorted(EXAMPLES.glob("*.gabc"))), *tables[:: len(tables) // _TRIED])
+    return (
+        *(it.read_bytes() for it in sorted(EXAMPLES.glob("*.gabc"))),
+        *tables[:: len(tables) // _TRIED],
+    )
 
 
 def schema_of(kind: Any, known: dict[str, Any]) -> dict[str, Any]:
@@ -46,7 +51,10 @@ def schema_of(kind: Any, known: dict[str, Any]) -> dict[str, Any]:
     if kind.__name__ not in known:
         known[kind.__name__] = {}
         known[kind.__name__] = {
-            "type": "object", "properties": {it: schema_of(hints[it], known) for it in names}, "required": names, "additionalProperties": False,
+            "type": "object",
+            "properties": {it: schema_of(hints[it], known) for it in names},
+            "required": names,
+            "additionalProperties": False,
         }
     return {"$ref": f"#/$defs/{kind.__name__}"}
 
@@ -56,7 +64,11 @@ def whole_schema() -> dict[str, Any]:
     known: dict[str, Any] = {}
     for it in _ANSWERS:
         schema_of(it, known)
-    return {"$schema": "https://json-schema.org/draft/2020-12/schema", "title": "Answers of gregorio_chant.calls", "$defs": known}
+    return {
+        "$schema": "https://json-schema.org/draft/2020-12/schema",
+        "title": "Answers of gregorio_chant.calls",
+        "$defs": known,
+    }
 
 
 def takes(schema: dict[str, Any], value: Any, known: dict[str, Any]) -> bool:
@@ -69,10 +81,19 @@ def takes(schema: dict[str, Any], value: Any, known: dict[str, Any]) -> bool:
         return isinstance(value, list) and all(takes(schema["items"], it, known) for it in value)
     if schema["type"] == "object":
         its, other = schema.get("properties", {}), schema["additionalProperties"]
-        return isinstance(value, dict) and set(schema.get("required", ())) <= set(value) and all(
-            takes(its[name], it, known) if name in its else other is not False and takes(other, it, known) for name, it in value.items()
+        return (
+            isinstance(value, dict)
+            and set(schema.get("required", ())) <= set(value)
+            and all(
+                takes(its[name], it, known)
+                if name in its
+                else other is not False and takes(other, it, known)
+                for name, it in value.items()
+            )
         )
-    return {"string": str, "integer": int, "boolean": bool, "null": type(None)}[schema["type"]] is type(value)
+    return {"string": str, "integer": int, "boolean": bool, "null": type(None)}[
+        schema["type"]
+    ] is type(value)
 
 
 def plain(answer: Any) -> Any:
@@ -88,11 +109,18 @@ class Schema(unittest.TestCase):
         known = whole_schema()["$defs"]
         count = 0
         for text in texts():
-            answers = [*lint(text, _RULES), fix(text, unsafe=True), format_text(text), *index([text], ["book"])]
+            answers = [
+                *lint(text, _RULES),
+                fix(text, unsafe=True),
+                format_text(text),
+                *index([text], ["book"]),
+            ]
             if count % 3 == 0:
                 answers.append(draw(text))
             for it in answers:
-                self.assertTrue(takes({"$ref": f"#/$defs/{type(it).__name__}"}, plain(it), known), it)
+                self.assertTrue(
+                    takes({"$ref": f"#/$defs/{type(it).__name__}"}, plain(it), known), it
+                )
             count += len(answers)
         self.assertGreater(count, 1_000)
 
@@ -108,9 +136,19 @@ class Schema(unittest.TestCase):
 class Lint(InFolder):
     def test_a_problem(self) -> None:
         (it,) = lint("name: a;\n%%\n(c4) a>(f) b(g)")
-        self.assertEqual((it.line, it.column, it.end_line, it.end_column, it.kind, it.code), (3, 7, 3, 8, "error", "E2"))
+        self.assertEqual(
+            (it.line, it.column, it.end_line, it.end_column, it.kind, it.code),
+            (3, 7, 3, 8, "error", "E2"),
+        )
         assert it.repair is not None
-        self.assertEqual((it.repair.name, it.repair.is_safe, [dataclasses.astuple(change) for change in it.repair.changes]), ("escape", True, [(18, 18, "$")]))
+        self.assertEqual(
+            (
+                it.repair.name,
+                it.repair.is_safe,
+                [dataclasses.astuple(change) for change in it.repair.changes],
+            ),
+            ("escape", True, [(18, 18, "$")]),
+        )
         self.assertEqual(lint(SCORE), [])
 
     def test_it_says_what_check_says(self) -> None:
@@ -118,7 +156,9 @@ class Lint(InFolder):
         for name, text in files.items():
             self.put(name, text)
         told: dict[str, list[dict[str, object]]] = {name: [] for name in files}
-        for row in json.loads(command("check", "--no-config", "--rules", "--output-format", "json", "s").stdout):
+        for row in json.loads(
+            command("check", "--no-config", "--rules", "--output-format", "json", "s").stdout
+        ):
             told[row.pop("file")].append(row)
         for name, text in files.items():
             found = [dataclasses.asdict(it) for it in lint(text, _RULES)]
@@ -127,7 +167,8 @@ class Lint(InFolder):
             self.assertEqual(found, told[name])
 
     def test_repairs_can_be_made(self) -> None:
-        """Each repair changes what it says: the text with it has one problem less, at that place."""
+        """Each repair changes what it says: the text with it has one problem less, at that
+        place."""
         made = 0
         for text in texts():
             problems = lint(text)
@@ -150,9 +191,15 @@ class Lint(InFolder):
 
     def test_settings(self) -> None:
         self.assertEqual([it.code for it in lint("%%\n(c4) a>(f)")], ["W1", "E2"])
-        self.assertEqual([it.code for it in lint("%%\n(c4) a>(f)", Settings(ignore=frozenset(("W",))))], ["E2"])
-        self.assertEqual([it.code for it in lint("%%\n(c4) a>(f)", Settings(select=frozenset(("W1",))))], ["W1"])
-        self.assertEqual([it.code for it in lint("name: a;\nmode: 9;\n%%\n(c4) a(f)", _RULES)], ["unknown-mode"])
+        self.assertEqual(
+            [it.code for it in lint("%%\n(c4) a>(f)", Settings(ignore=frozenset(("W",))))], ["E2"]
+        )
+        self.assertEqual(
+            [it.code for it in lint("%%\n(c4) a>(f)", Settings(select=frozenset(("W1",))))], ["W1"]
+        )
+        self.assertEqual(
+            [it.code for it in lint("name: a;\nmode: 9;\n%%\n(c4) a(f)", _RULES)], ["unknown-mode"]
+        )
 
     def test_faults(self) -> None:
         self.assertEqual([it.kind for it in lint("name: a;\n")], [Kind.FATAL.value])
@@ -170,16 +217,23 @@ class Lint(InFolder):
 class Fix(InFolder):
     def test_it_repairs_as_check_does(self) -> None:
         for unsafe in (False, True):
-            paths = [self.put(f"{unsafe}/{number:03}.gabc", text) for number, text in enumerate(texts())]
+            paths = [
+                self.put(f"{unsafe}/{number:03}.gabc", text) for number, text in enumerate(texts())
+            ]
             command("check", "--no-config", "--fix", *["--unsafe-fixes"] * unsafe, str(unsafe))
             for path, text in zip(paths, texts()):
-                self.assertEqual(fix(text, unsafe).text.encode("utf-8", "surrogateescape"), path.read_bytes())
+                self.assertEqual(
+                    fix(text, unsafe).text.encode("utf-8", "surrogateescape"), path.read_bytes()
+                )
 
     def test_guesses(self) -> None:
         text = "name: a;\n%%\n(c4) mun9hh)dá(ij)\n"
         self.assertEqual(fix(text), FixedText(text))
         made = fix(text, unsafe=True)
-        self.assertEqual((made.text, [(it.line, it.column, it.repair) for it in made.guesses]), ("name: a;\n%%\n(c4) mun(hh)dá(ij)\n", [(3, 12, "open-notes")]))
+        self.assertEqual(
+            (made.text, [(it.line, it.column, it.repair) for it in made.guesses]),
+            ("name: a;\n%%\n(c4) mun(hh)dá(ij)\n", [(3, 12, "open-notes")]),
+        )
         self.assertEqual(fix(text, True, Settings(select=frozenset(("W1",)))), FixedText(text))
 
     def test_no_text(self) -> None:
@@ -201,13 +255,24 @@ class Format(InFolder):
     def test_settings(self) -> None:
         text = "name:Kyrie ;\n%%\n(c4)  Ky(f)ri(g)   e(h)"
         self.assertEqual(format_text(text).text, "name: Kyrie;\n%%\n(c4) Ky(f)ri(g) e(h)")
-        self.assertEqual(format_text(text, Settings(wrap=12)).text, "name: Kyrie;\n%%\n(c4)\nKy(f)ri(g)\ne(h)")
-        self.assertEqual(format_text(text, Settings(canonical=True)).text, "name: Kyrie;\n%%\n(c4)\nKy(f)ri(g)\ne(h)\n")
+        self.assertEqual(
+            format_text(text, Settings(wrap=12)).text, "name: Kyrie;\n%%\n(c4)\nKy(f)ri(g)\ne(h)"
+        )
+        self.assertEqual(
+            format_text(text, Settings(canonical=True)).text,
+            "name: Kyrie;\n%%\n(c4)\nKy(f)ri(g)\ne(h)\n",
+        )
 
     def test_reasons(self) -> None:
-        self.assertEqual(format_text("name: a;\n"), FormattedText("name: a;\n", ("it is not whole", "2:1: F2: no %% line")))
+        self.assertEqual(
+            format_text("name: a;\n"),
+            FormattedText("name: a;\n", ("it is not whole", "2:1: F2: no %% line")),
+        )
         made = format_text("name: a;\n%%\n(c4) a(f) % b\n", Settings(canonical=True))
-        self.assertEqual(made.reasons, ("more than its blanks would change", "3:11: comments: a comment would go"))
+        self.assertEqual(
+            made.reasons,
+            ("more than its blanks would change", "3:11: comments: a comment would go"),
+        )
 
 
 class Draw(unittest.TestCase):
@@ -223,18 +288,35 @@ class Draw(unittest.TestCase):
 class Index(InFolder):
     def test_it_says_what_index_says(self) -> None:
         names = sorted(EXAMPLES.glob("*.gabc"))
-        rows = json.loads(command("index", "--no-config", "--output-format", "json", "--header", "book,gabc-copyright", EXAMPLES).stdout)
+        rows = json.loads(
+            command(
+                "index",
+                "--no-config",
+                "--output-format",
+                "json",
+                "--header",
+                "book,gabc-copyright",
+                EXAMPLES,
+            ).stdout
+        )
         for row, name in zip(rows, names):
             entry = dataclasses.asdict(index([name.read_bytes()], ["book", "gabc-copyright"])[0])
             headers, fault = entry.pop("headers"), entry.pop("fault")
             self.assertEqual((row, fault), ({"file": str(name), **entry, **headers}, None))
 
     def test_faults(self) -> None:
-        first, second, third = index(["name: a;\n", "name: b;\nbook: c;\n%%\n(c4) a(f) b(g", SCORE], ["book"])
-        self.assertEqual((first.name, first.headers, first.fault), (None, {"book": None}, "2:1: F2: no %% line"))
+        first, second, third = index(
+            ["name: a;\n", "name: b;\nbook: c;\n%%\n(c4) a(f) b(g", SCORE], ["book"]
+        )
+        self.assertEqual(
+            (first.name, first.headers, first.fault), (None, {"book": None}, "2:1: F2: no %% line")
+        )
         self.assertEqual((second.name, second.headers, second.text), ("b", {"book": "c"}, "a"))
         self.assertTrue((second.fault or "").startswith("4:12: F6:"), second.fault)
-        self.assertEqual((third.degrees, third.volpiano, third.fault), ("fa sol fa sol mi", "1---f--gfg--e", None))
+        self.assertEqual(
+            (third.degrees, third.volpiano, third.fault),
+            ("fa sol fa sol mi", "1---f--gfg--e", None),
+        )
 
 
 class Surface(unittest.TestCase):

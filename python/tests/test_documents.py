@@ -11,14 +11,15 @@ import unittest
 from dataclasses import fields
 from pathlib import Path
 
-from gregorio_chant import dump
-from gregorio_chant.linting.codes import CODES
-from gregorio_chant.commands.main import COMMANDS
-from gregorio_chant.work.keys import FORMAT, FORMAT_KEYS, KEYS
-from gregorio_chant.linting.rules import RULES
-from gregorio_chant.work.settings import Finder, Settings
 from pages import block
 from support import ROOT, SCORE, InFolder, command, has
+
+from gregorio_chant import dump
+from gregorio_chant.commands.main import COMMANDS
+from gregorio_chant.linting.codes import CODES
+from gregorio_chant.linting.rules import RULES
+from gregorio_chant.work.keys import FORMAT, FORMAT_KEYS, KEYS
+from gregorio_chant.work.settings import Finder, Settings
 
 PAGE = (ROOT / "docs" / "PYTHON.md").read_text(encoding="utf-8")
 OBJECTS = (ROOT / "docs" / "OBJECTS.md").read_text(encoding="utf-8")
@@ -34,18 +35,29 @@ class Documents(InFolder):
         self.assertLess(shown.count("\n"), 30)
         self.addCleanup(os.chdir, os.getcwd())
         os.chdir(ROOT)
-        self.assertEqual(command(*first.split()[2:], environment={"COLUMNS": "100"}).stdout.decode(), shown)
+        self.assertEqual(
+            command(*first.split()[2:], environment={"COLUMNS": "100"}).stdout.decode(), shown
+        )
 
     def test_picture_of_the_score(self) -> None:
-        """The picture of the README is what its command makes of its first example. `gregorio-chant show` with these words writes it anew."""
+        """The picture of the README is what its command makes of its first example. `gregorio-chant
+        show` with these words writes it anew."""
         score = block("README.md", "test: score").encode()
         (words,) = re.findall(r"`gregorio-chant\s(show\s[^`]*?)\sscore\.gabc`", README)
-        self.assertEqual(command(*words.split(), "-", data=score).stdout, (ROOT / "docs" / "kyrie.svg").read_bytes())
+        self.assertEqual(
+            command(*words.split(), "-", data=score).stdout,
+            (ROOT / "docs" / "kyrie.svg").read_bytes(),
+        )
 
     def test_options(self) -> None:
         """Each option of the command stands in the page, and no other."""
-        helps = "".join(command(*it, "--help").stdout.decode() for it in ((), *((it.NAME,) for it in COMMANDS)))
-        options = set(re.findall(r"(?<![\w.-])--[a-z][a-z-]+", PAGE + OBJECTS)) - {"--no-deps", "--help"}
+        helps = "".join(
+            command(*it, "--help").stdout.decode() for it in ((), *((it.NAME,) for it in COMMANDS))
+        )
+        options = set(re.findall(r"(?<![\w.-])--[a-z][a-z-]+", PAGE + OBJECTS)) - {
+            "--no-deps",
+            "--help",
+        }
         self.assertEqual(set(re.findall(r"--[a-z][a-z-]+", helps)) - {"--help", "--"}, options)
 
     def test_example(self) -> None:
@@ -65,7 +77,9 @@ class Documents(InFolder):
 
     def test_formatted(self) -> None:
         made = command("format", "-", data=block("docs/PYTHON.md", "test: format").encode())
-        self.assertEqual((made.returncode, made.stdout.decode()), (0, block("docs/PYTHON.md", "test: formatted")))
+        self.assertEqual(
+            (made.returncode, made.stdout.decode()), (0, block("docs/PYTHON.md", "test: formatted"))
+        )
 
     def test_picture_of_python(self) -> None:
         """The lines of the page write a picture."""
@@ -74,39 +88,83 @@ class Documents(InFolder):
         self.assertRegex(Path("kyrie.svg").read_text(encoding="utf-8"), r"(?s)^<svg .*</svg>\n$")
 
     def test_settings(self) -> None:
-        """The settings of the page are read, and say something for each key; so is the example of each key."""
+        """The settings of the page are read, and say something for each key; so is the example of
+        each key."""
         path = self.room / "gregorio-chant.toml"
         path.write_text(block("docs/SETTINGS.md", "test: settings"))
         settings = Finder({*CODES, *RULES}).of(str(self.room / "a.gabc"))
         self.assertNotIn(None, [getattr(settings, it.name) for it in fields(settings)])
-        self.assertTrue(settings.excludes(str(self.room / "old" / "b.gabc")) and settings.ignores_of_files)
+        self.assertTrue(
+            settings.excludes(str(self.room / "old" / "b.gabc")) and settings.ignores_of_files
+        )
         for table, keys in (("", KEYS), (f"[{FORMAT}]\n", FORMAT_KEYS)):
             for key in keys:
                 path.write_text(f"{table}{key.name} = {key.example}\n")
-                changed = {it.name for it in fields(Settings) if getattr(Finder({*CODES, *RULES}).of(str(self.room / "a.gabc")), it.name) != getattr(Settings(), it.name)}
+                changed = {
+                    it.name
+                    for it in fields(Settings)
+                    if getattr(Finder({*CODES, *RULES}).of(str(self.room / "a.gabc")), it.name)
+                    != getattr(Settings(), it.name)
+                }
                 self.assertEqual(changed, {"folder", key.field})
 
     def test_classes(self) -> None:
         """Each field of each class stands in the page, and each name that stands there is one."""
-        rows = {name: row for names, row in re.findall(r"^\| (`[A-Z]\w+`(?:, `[A-Z]\w+`)*) \| (.*) \|$", OBJECTS, re.MULTILINE) for name in re.findall(r"\w+", names)}
-        told = {it for it in dump.__all__ if isinstance(getattr(dump, it), type)} - {"DumpError", "EditError", "Edited", "ScoreError", "Item", "Place"}
+        rows = {
+            name: row
+            for names, row in re.findall(
+                r"^\| (`[A-Z]\w+`(?:, `[A-Z]\w+`)*) \| (.*) \|$", OBJECTS, re.MULTILINE
+            )
+            for name in re.findall(r"\w+", names)
+        }
+        told = {it for it in dump.__all__ if isinstance(getattr(dump, it), type)} - {
+            "DumpError",
+            "EditError",
+            "Edited",
+            "ScoreError",
+            "Item",
+            "Place",
+        }
         self.assertEqual(set(rows), told)
         for name, row in rows.items():
             its = getattr(dump, name)
             words = set(re.findall(r"`([a-z]\w*)[`(]", row)) - {"z0", "h", "su", "pp", "ls", "lt"}
-            self.assertLessEqual({it.name for it in fields(its) if it.name[0] != "_"} - {"place", "spelling"}, words, name)
+            self.assertLessEqual(
+                {it.name for it in fields(its) if it.name[0] != "_"} - {"place", "spelling"},
+                words,
+                name,
+            )
             for word in words:
-                self.assertTrue(hasattr(its, word) or word in {it.name for it in fields(its)}, f"{name}.{word}")
+                self.assertTrue(
+                    hasattr(its, word) or word in {it.name for it in fields(its)}, f"{name}.{word}"
+                )
 
     def test_rules(self) -> None:
         """The pages of rules and of settings are what is printed from their tables."""
-        ran = subprocess.run([sys.executable, ROOT / "tools" / "print_pages", "--check"], capture_output=True, text=True, check=False)
+        ran = subprocess.run(
+            [sys.executable, ROOT / "tools" / "print_pages", "--check"],
+            capture_output=True,
+            text=True,
+            check=False,
+        )
         self.assertEqual((ran.returncode, ran.stdout, ran.stderr), (0, "", ""))
-        self.assertEqual(re.findall(r"^## (.*)$", (ROOT / "docs" / "RULES.md").read_text(encoding="utf-8"), re.MULTILINE), list(RULES))
+        self.assertEqual(
+            re.findall(
+                r"^## (.*)$", (ROOT / "docs" / "RULES.md").read_text(encoding="utf-8"), re.MULTILINE
+            ),
+            list(RULES),
+        )
 
     def test_each_help_says_what_is_not_proved(self) -> None:
-        for words in (["--help"], *([it.NAME, "--help"] for it in COMMANDS if it.NAME not in ("explain", "version"))):
-            self.assertRegex(command(*words).stdout.decode().replace("\n", " "), "outside (that|the) +proof|this command is tested", words)
+        for words in (
+            ["--help"],
+            *([it.NAME, "--help"] for it in COMMANDS if it.NAME not in ("explain", "version")),
+        ):
+            self.assertRegex(
+                command(*words).stdout.decode().replace("\n", " "),
+                "outside (that|the) +proof|this command is tested",
+                words,
+            )
 
 
 class Examples(InFolder):
@@ -114,5 +172,8 @@ class Examples(InFolder):
         self.put("score.gabc", "name: a;\n%%\n(c4) Ky(f)ri(/./)")
         with contextlib.redirect_stdout(io.StringIO()) as written:
             exec(block("docs/PYTHON.md", "test: run"), {})
-        self.assertEqual(written.getvalue().split("\n"), ["3 15 E1 character left out of the notes", "<Status.ERRORS: 1>", ""])
+        self.assertEqual(
+            written.getvalue().split("\n"),
+            ["3 15 E1 character left out of the notes", "<Status.ERRORS: 1>", ""],
+        )
         self.assertEqual(Path("new.gabc").read_text(), "name: a;\n%%\n(c4)\nKy(f)ri(//)\n")

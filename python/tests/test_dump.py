@@ -1,4 +1,5 @@
-"""Tries the reader of dumps: the text at each place is what stands there, and what is no dump is refused."""
+"""Tries the reader of dumps: the text at each place is what stands there, and what is no dump is
+refused."""
 from __future__ import annotations
 
 import unittest
@@ -6,13 +7,29 @@ from collections import Counter
 from collections.abc import Iterator
 from unittest import mock
 
+from support import EXAMPLES, ROOT, scores_of_tables
+
 from gregorio_chant import Format, compile
 from gregorio_chant.objects import dump
 from gregorio_chant.objects.dump import (
-    Attribute, Bar, Custos, DumpError, Element, Glyph, Header, Item, NabcSnippet, Note, NoteSnippet, Place, Score, ScoreError, Space, Syllable,
+    Attribute,
+    Bar,
+    Custos,
+    DumpError,
+    Element,
+    Glyph,
+    Header,
+    Item,
+    NabcSnippet,
+    Note,
+    NoteSnippet,
+    Place,
+    Score,
+    ScoreError,
+    Space,
+    Syllable,
     read_in_turn,
 )
-from support import EXAMPLES, ROOT, scores_of_tables
 
 
 def all_items(score: Score) -> Iterator[Item]:
@@ -33,7 +50,14 @@ def all_items(score: Score) -> Iterator[Item]:
 
 def kept_lines(score: Score) -> Counter[str]:
     """Returns how many lines of each keyword the dump of this score has."""
-    names: dict[type[Item], str] = {Note: "note", Glyph: "glyph", Element: "element", Header: "header", Syllable: "syllable", Bar: "bar"}
+    names: dict[type[Item], str] = {
+        Note: "note",
+        Glyph: "glyph",
+        Element: "element",
+        Header: "header",
+        Syllable: "syllable",
+        Bar: "bar",
+    }
     return Counter(names[type(it)] for it in unique(score) if type(it) in names)
 
 
@@ -47,7 +71,8 @@ def unique(score: Score) -> Iterator[Item]:
 
 class Places(unittest.TestCase):
     def look_at(self, score: bytes) -> int:
-        """Compares each item of a score with the text at its place, and returns how many there are."""
+        """Compares each item of a score with the text at its place, and returns how many there
+        are."""
         canonical = compile(score).canonical
         read = Score.parse(score)
         self.assertEqual(read.canonical, canonical)
@@ -57,12 +82,18 @@ class Places(unittest.TestCase):
         number = 0
         for number, it in enumerate(all_items(read), 1):
             at = starts[it.place.line - 1] + it.place.column - 1
-            self.assertEqual(canonical[at : at + len(it.spelling)], it.spelling, f"{it} in {score!r}")
+            self.assertEqual(
+                canonical[at : at + len(it.spelling)], it.spelling, f"{it} in {score!r}"
+            )
             self.assertEqual(it.place.offset, at)
-            self.assertTrue(it.spelling or isinstance(it, (NoteSnippet, NabcSnippet)), f"an empty {it}")
+            self.assertTrue(
+                it.spelling or isinstance(it, (NoteSnippet, NabcSnippet)), f"an empty {it}"
+            )
         dump = compile(score, Format.DUMP).dump
         for word, count in kept_lines(read).items():
-            self.assertEqual(count, sum(it.startswith(f"{word} ") or it == word for it in dump.split("\n")), word)
+            self.assertEqual(
+                count, sum(it.startswith(f"{word} ") or it == word for it in dump.split("\n")), word
+            )
         return number
 
     def test_scores_of_the_repository(self) -> None:
@@ -83,7 +114,8 @@ class Places(unittest.TestCase):
         self.assertGreater(read, 300)
 
     def test_in_turn(self) -> None:
-        """Syllables that are read one by one are those of the whole score, wherever its lines are cut."""
+        """Syllables that are read one by one are those of the whole score, wherever its lines are
+        cut."""
         faults: dict[str, set[str]] = {}
         for at_once in (0, 1, 300, 1 << 16):
             with mock.patch("gregorio_chant.objects.dump._AT_ONCE", at_once):
@@ -103,18 +135,34 @@ class Places(unittest.TestCase):
         self.assertTrue(score.is_whole)
         self.assertEqual(score.header("nabc-lines"), "1")
         self.assertIsNone(score.header("none"))
-        self.assertTrue(any(isinstance(it, NabcSnippet) for syllable in score.syllables for it in syllable.snippets))
+        self.assertTrue(
+            any(
+                isinstance(it, NabcSnippet)
+                for syllable in score.syllables
+                for it in syllable.snippets
+            )
+        )
         flat = Score.parse("%%\n(cb3) a(ixi/[1]g+  z0[x:1] ,) (::)")
         note = flat.notes[0]
-        self.assertEqual((note.pitch, note.degree, note.alteration, note.shape), ("i", "re", "flat", "punctum"))
-        self.assertEqual([it.spelling for it in flat.syllables[1].items], ["ix", "i", "/[1]", "g+", "  ", "z0", "[x:1]", " ", ","])
+        self.assertEqual(
+            (note.pitch, note.degree, note.alteration, note.shape), ("i", "re", "flat", "punctum")
+        )
+        self.assertEqual(
+            [it.spelling for it in flat.syllables[1].items],
+            ["ix", "i", "/[1]", "g+", "  ", "z0", "[x:1]", " ", ","],
+        )
         kinds = {type(it): it for it in flat.syllables[1].items}
         self.assertEqual(kinds[Attribute], Attribute(Place(24, 3, 16), "[x:1]", "x:1"))
         self.assertEqual(kinds[Custos], Custos(Place(22, 3, 14), "z0", None))
-        self.assertEqual([it.is_blank for it in flat.syllables[1].items if isinstance(it, Space)], [False, True, True])
+        self.assertEqual(
+            [it.is_blank for it in flat.syllables[1].items if isinstance(it, Space)],
+            [False, True, True],
+        )
 
     def test_plain_text(self) -> None:
-        score = Score.parse("%%\n<i>m{a</i>}<sp>'ae</sp>$(<v>\\x</v><alt>y</alt>r<sp>+</sp>[my](c4f)")
+        score = Score.parse(
+            "%%\n<i>m{a</i>}<sp>'ae</sp>$(<v>\\x</v><alt>y</alt>r<sp>+</sp>[my](c4f)"
+        )
         self.assertEqual(score.syllables[0].plain, "maǽ(r†")
         self.assertEqual(score.syllables[0].translation, "my")
 
@@ -129,24 +177,40 @@ class Refusals(unittest.TestCase):
         dump = compile("%%\n(c4) a(fg)", Format.DUMP).dump
         Score.read(dump)
         for wrong, told in (
-            ("", "not 'dump 2'"), ("dump 2", "not 'dump 2'"), (dump[:-1], "not 'dump 2'"), ("x\n", "not 'dump 2'"),
+            ("", "not 'dump 2'"),
+            ("dump 2", "not 'dump 2'"),
+            (dump[:-1], "not 'dump 2'"),
+            ("x\n", "not 'dump 2'"),
             (dump.replace("dump 2", "dump 1"), "reads dump 2, and the text begins with 'dump 1'"),
             (dump.replace("dump 2", "dump 3"), "reads dump 2, and the text begins with 'dump 3'"),
-            (dump.replace("glyph pes 2", "glyph pes 3"), "wants more notes"), (dump.replace("glyph pes 2", "glyph pes 1"), "in no glyph"),
-            (dump.replace("note f", "note o"), "'o' before this line is not known"), (dump.replace("notes:fg", "notes:f"), "is not spelled"),
-            (dump.replace("note f punctum fa none f", "note f"), "6 words"), (dump.replace("end 2", "end 3"), "number of syllables"),
-            (dump.replace("syllable 2", "syllable 3"), "the next number"), (dump.replace("clef", "key"), "is not spelled"),
-            (dump + "end 2\n", "'end' was not awaited"), (dump.replace("end 2", "ende 2"), "'ende' was not awaited"),
+            (dump.replace("glyph pes 2", "glyph pes 3"), "wants more notes"),
+            (dump.replace("glyph pes 2", "glyph pes 1"), "in no glyph"),
+            (dump.replace("note f", "note o"), "'o' before this line is not known"),
+            (dump.replace("notes:fg", "notes:f"), "is not spelled"),
+            (dump.replace("note f punctum fa none f", "note f"), "6 words"),
+            (dump.replace("end 2", "end 3"), "number of syllables"),
+            (dump.replace("syllable 2", "syllable 3"), "the next number"),
+            (dump.replace("clef", "key"), "is not spelled"),
+            (dump + "end 2\n", "'end' was not awaited"),
+            (dump.replace("end 2", "ende 2"), "'ende' was not awaited"),
         ):
             with self.subTest(told), self.assertRaisesRegex(DumpError, told):
                 Score.read(wrong)
 
     def test_damaged_dumps(self) -> None:
-        """A dump with a line left out, given twice or cut is refused, or is one all the same; nothing else comes."""
+        """A dump with a line left out, given twice or cut is refused, or is one all the same;
+        nothing else comes."""
         lines = compile((EXAMPLES / "two-lines.gabc").read_bytes(), Format.DUMP).dump.split("\n")
         refused = 0
         for at, line in enumerate(lines[:-1]):
-            changes: list[list[str]] = [[], [line, line], [""], [line[: len(line) // 2]], [line.rpartition(" ")[0]], [line.replace(" ", ":")]]
+            changes: list[list[str]] = [
+                [],
+                [line, line],
+                [""],
+                [line[: len(line) // 2]],
+                [line.rpartition(" ")[0]],
+                [line.replace(" ", ":")],
+            ]
             for put in changes:
                 try:
                     Score.read("\n".join(lines[:at] + put + lines[at + 1 :]))

@@ -1,4 +1,5 @@
-"""Tries the mode for emacs: its colours, and with eglot the messages of a score, a repair, formatting, the outline and completion."""
+"""Tries the mode for emacs: its colours, and with eglot the messages of a score, a repair,
+formatting, the outline and completion."""
 from __future__ import annotations
 
 import json
@@ -15,9 +16,23 @@ from support import FAULTY, InFolder
 SCORE = "name: a: b;\n% b\n%%\n(c4) <i>K</i>$<(f.[x]|viS1|g) %c\ny(;) <sp>R/</sp>(::) a:(f)\n"
 # The colours at places of this score, by line and column from 1.
 FACES = {
-    (1, 1): "variable-name", (1, 7): None, (2, 3): "comment", (3, 1): "preprocessor", (4, 2): "type", (4, 6): "keyword", (4, 9): None, (4, 15): "builtin",
-    (4, 17): "constant", (4, 19): "preprocessor", (4, 23): "function-name", (4, 28): "constant", (4, 32): "comment", (5, 3): "keyword",
-    (5, 10): "string", (5, 22): None, (5, 25): "constant",
+    (1, 1): "variable-name",
+    (1, 7): None,
+    (2, 3): "comment",
+    (3, 1): "preprocessor",
+    (4, 2): "type",
+    (4, 6): "keyword",
+    (4, 9): None,
+    (4, 15): "builtin",
+    (4, 17): "constant",
+    (4, 19): "preprocessor",
+    (4, 23): "function-name",
+    (4, 28): "constant",
+    (4, 32): "comment",
+    (5, 3): "keyword",
+    (5, 10): "string",
+    (5, 22): None,
+    (5, 25): "constant",
 }
 SHOW = """
 (require 'json)
@@ -25,7 +40,9 @@ SHOW = """
 (defun show (what it) (push (json-encode (list what it (buffer-string))) shown))
 (defun finish () (let ((lines (reverse shown))) (with-temp-file "shown" (dolist (it lines) (insert it "\\n")))) (kill-emacs 0))
 """
-COLOURS = SHOW + """
+COLOURS = (
+    SHOW
+    + """
 (find-file "a.gabc")
 (font-lock-ensure)
 (dolist (it '(%s))
@@ -42,7 +59,10 @@ COLOURS = SHOW + """
   (show "listed" (buffer-substring (line-beginning-position) (line-end-position))))
 (finish)
 """
-TRIAL = SHOW + """
+)
+TRIAL = (
+    SHOW
+    + """
 (require 'package)
 (package-initialize)
 (unless (require 'eglot nil t) (kill-emacs 77))
@@ -75,9 +95,13 @@ TRIAL = SHOW + """
 (show "completed" (seq-take (all-completions "" (nth 2 (eglot-completion-at-point))) 2))
 (finish)
 """
+)
 
 
-@unittest.skipUnless(shutil.which("emacs") and shutil.which("gregorio-chant"), "there is no emacs, or no gregorio-chant on the path")
+@unittest.skipUnless(
+    shutil.which("emacs") and shutil.which("gregorio-chant"),
+    "there is no emacs, or no gregorio-chant on the path",
+)
 class Emacs(InFolder):
     maxDiff = None
 
@@ -85,8 +109,12 @@ class Emacs(InFolder):
         self.put("init.el", for_this_place(block("docs/EDITORS.md", "editor: emacs")))
         self.put("trial.el", trial)
         ran = subprocess.run(
-            ["emacs", "--batch", "-l", "init.el", "-l", "trial.el"], env={**os.environ, "HOME": str(self.room)},
-            stdin=subprocess.DEVNULL, capture_output=True, timeout=100, check=False,
+            ["emacs", "--batch", "-l", "init.el", "-l", "trial.el"],
+            env={**os.environ, "HOME": str(self.room)},
+            stdin=subprocess.DEVNULL,
+            capture_output=True,
+            timeout=100,
+            check=False,
         )
         if ran.returncode == 77:
             self.skipTest("there is no eglot")
@@ -95,10 +123,22 @@ class Emacs(InFolder):
 
     def test_colours(self) -> None:
         self.put("a.gabc", SCORE)
-        *faces, mode, listed = self.run_emacs("(setq gabc-server-command nil)" + COLOURS % " ".join(f"({line} {column})" for line, column in FACES))
-        told = {(place[0], place[1]): face and face.removeprefix("font-lock-").removesuffix("-face") for place, face, _ in faces}
-        self.assertEqual({place: {"comment-delimiter": "comment"}.get(it, it) for place, it in told.items()}, FACES)
-        self.assertEqual(mode[1], ["gabc-mode", "% ", "gregorio-chant check --quiet --output-format lines a.gabc"])
+        *faces, mode, listed = self.run_emacs(
+            "(setq gabc-server-command nil)"
+            + COLOURS % " ".join(f"({line} {column})" for line, column in FACES)
+        )
+        told = {
+            (place[0], place[1]): face and face.removeprefix("font-lock-").removesuffix("-face")
+            for place, face, _ in faces
+        }
+        self.assertEqual(
+            {place: {"comment-delimiter": "comment"}.get(it, it) for place, it in told.items()},
+            FACES,
+        )
+        self.assertEqual(
+            mode[1],
+            ["gabc-mode", "% ", "gregorio-chant check --quiet --output-format lines a.gabc"],
+        )
         self.assertTrue(listed[1].startswith("a.gabc:4:22: error: E1: "), listed[1])
 
     def test_eglot(self) -> None:

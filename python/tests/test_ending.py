@@ -1,4 +1,5 @@
-"""Tries signals at any moment of each command: it ends at once with its status, says nothing, and leaves nothing half written and no process."""
+"""Tries signals at any moment of each command: it ends at once with its status, says nothing, and
+leaves nothing half written and no process."""
 from __future__ import annotations
 
 import os
@@ -17,13 +18,25 @@ MOMENTS = 40 if os.environ.get("GREGORIO_LONG") else 3
 # How long a command may go on after a signal, in seconds, on a machine that does little else.
 PATIENCE = 2.0
 _COMMANDS: dict[str, tuple[str, ...]] = {
-    "check": ("check", "--output-format", "lines", "s"), "rules": ("check", "--rules", "--output-format", "lines", "s"), "fix": ("check", "--fix", "s"),
-    "format": ("format", "--canonical", "s"), "format alone": ("format", "--canonical", "--jobs", "1", "s"), "format stdin": ("format", "-"),
-    "show": ("show", "-o", "page.html", "s"), "show folder": ("show", "-o", "pages/", "s"), "index": ("index", "s"), "find": ("find", "--text", "e", "s"),
-    "neumes": ("neumes", "--jobs", "4", "s"), "server": ("server",), "explain": ("explain", "--all"), "version": ("version",),
+    "check": ("check", "--output-format", "lines", "s"),
+    "rules": ("check", "--rules", "--output-format", "lines", "s"),
+    "fix": ("check", "--fix", "s"),
+    "format": ("format", "--canonical", "s"),
+    "format alone": ("format", "--canonical", "--jobs", "1", "s"),
+    "format stdin": ("format", "-"),
+    "show": ("show", "-o", "page.html", "s"),
+    "show folder": ("show", "-o", "pages/", "s"),
+    "index": ("index", "s"),
+    "find": ("find", "--text", "e", "s"),
+    "neumes": ("neumes", "--jobs", "4", "s"),
+    "server": ("server",),
+    "explain": ("explain", "--all"),
+    "version": ("version",),
 }
 _NEED = {
-    "check text": (("check", "s"), "rich"), "export": (("export", "--to", "midi", "--folder", "midi", "s"), "mido"), "page": (("page",), "uvicorn"),
+    "check text": (("check", "s"), "rich"),
+    "export": (("export", "--to", "midi", "--folder", "midi", "s"), "mido"),
+    "page": (("page",), "uvicorn"),
     "watch": (("show", "--watch", "-o", "page.html", "s"), "watchdog"),
 }
 # The bit of SIGTERM in the masks of /proc.
@@ -31,7 +44,8 @@ _TERM = 1 << (signal.SIGTERM - 1)
 
 
 def catches_signals(process: subprocess.Popen[bytes]) -> bool:
-    """Returns whether the process is so far that a signal does what the command wants: before that, Python itself begins."""
+    """Returns whether the process is so far that a signal does what the command wants: before that,
+    Python itself begins."""
     status = Path(f"/proc/{process.pid}/status").read_text(encoding="ascii")
     return bool(int(status.partition("SigCgt:")[2].split()[0], 16) & _TERM)
 
@@ -41,7 +55,9 @@ def processes_of(group: int) -> list[str]:
     found = []
     for it in Path("/proc").glob("[0-9]*/stat"):
         try:
-            state, _, its = it.read_text(encoding="utf-8", errors="replace").rpartition(")")[2].split()[:3]
+            state, _, its = (
+                it.read_text(encoding="utf-8", errors="replace").rpartition(")")[2].split()[:3]
+            )
         except (OSError, ValueError):
             continue
         if its == str(group) and state not in "ZX":
@@ -64,7 +80,11 @@ class Signals(InFolder):
     def interrupt(self, words: tuple[str, ...], number: signal.Signals, wait: float) -> None:
         """Sends a signal so long after the command has begun, and looks at what is left."""
         run = subprocess.Popen(
-            [sys.executable, "-m", "gregorio_chant", *words], stdin=subprocess.PIPE, stdout=subprocess.DEVNULL, stderr=subprocess.PIPE, start_new_session=True,
+            [sys.executable, "-m", "gregorio_chant", *words],
+            stdin=subprocess.PIPE,
+            stdout=subprocess.DEVNULL,
+            stderr=subprocess.PIPE,
+            start_new_session=True,
         )
         while run.poll() is None and not catches_signals(run):
             time.sleep(0.001)
@@ -96,7 +116,11 @@ class Signals(InFolder):
                 self.assertEqual(it.read_bytes()[-3:], b"\xff\x2f\x00", it)
             elif it.suffix == ".gabc":
                 self.assertIn(it.read_text(encoding="utf-8")[-1:], "\n", it)
-        self.assertLessEqual({it.read_text(encoding="utf-8") for it in Path("s").glob("*.gabc")} - {SCORE, CANONICAL}, _FAULTY)
+        self.assertLessEqual(
+            {it.read_text(encoding="utf-8") for it in Path("s").glob("*.gabc")}
+            - {SCORE, CANONICAL},
+            _FAULTY,
+        )
 
     def try_all(self, words: tuple[str, ...]) -> None:
         for moment in range(MOMENTS):
@@ -117,12 +141,26 @@ class Signals(InFolder):
 
     def test_before_anything(self) -> None:
         """SIGTERM ends the command also while Python begins, and what was ignored is ignored."""
-        run = subprocess.Popen([sys.executable, "-m", "gregorio_chant", "server"], stdin=subprocess.PIPE, stderr=subprocess.PIPE)
+        run = subprocess.Popen(
+            [sys.executable, "-m", "gregorio_chant", "server"],
+            stdin=subprocess.PIPE,
+            stderr=subprocess.PIPE,
+        )
         run.terminate()
-        self.assertEqual((run.communicate(timeout=20)[1], run.returncode in (-signal.SIGTERM, 128 + signal.SIGTERM)), (b"", True))
+        self.assertEqual(
+            (
+                run.communicate(timeout=20)[1],
+                run.returncode in (-signal.SIGTERM, 128 + signal.SIGTERM),
+            ),
+            (b"", True),
+        )
         ignored = signal.signal(signal.SIGINT, signal.SIG_IGN)
         try:
-            run = subprocess.Popen([sys.executable, "-m", "gregorio_chant", "format", "-"], stdin=subprocess.PIPE, stdout=subprocess.PIPE)
+            run = subprocess.Popen(
+                [sys.executable, "-m", "gregorio_chant", "format", "-"],
+                stdin=subprocess.PIPE,
+                stdout=subprocess.PIPE,
+            )
         finally:
             signal.signal(signal.SIGINT, ignored)
         while not catches_signals(run):

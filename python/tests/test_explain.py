@@ -1,15 +1,17 @@
-"""Compares the table of codes with the man page, the compiler and LANGUAGE.md, and tries each wrong line and its right one."""
+"""Compares the table of codes with the man page, the compiler and LANGUAGE.md, and tries each wrong
+line and its right one."""
 from __future__ import annotations
 
 import re
 import shlex
 import unittest
 
+from support import ROOT, command
+
 from gregorio_chant import check
 from gregorio_chant.linting.codes import CODES
 from gregorio_chant.linting.repairs import REPAIRS
 from gregorio_chant.linting.rules import RULES, messages_with_rules
-from support import ROOT, command
 
 
 def meanings_of_man_page() -> dict[str, str]:
@@ -42,7 +44,11 @@ class Table(unittest.TestCase):
         self.assertEqual(meanings_of_man_page(), {name: it.meaning for name, it in CODES.items()})
 
     def test_language(self) -> None:
-        rows = re.findall(r"^\| ([EWF]\d+) \| `([^`]*)` \|", (ROOT / "docs" / "LANGUAGE.md").read_text(encoding="utf-8"), re.MULTILINE)
+        rows = re.findall(
+            r"^\| ([EWF]\d+) \| `([^`]*)` \|",
+            (ROOT / "docs" / "LANGUAGE.md").read_text(encoding="utf-8"),
+            re.MULTILINE,
+        )
         self.assertEqual(dict(rows), {name: it.text for name, it in CODES.items()})
 
     def test_lines(self) -> None:
@@ -51,13 +57,21 @@ class Table(unittest.TestCase):
                 if not code.is_tried:
                     self.skipTest(f"{code.name} wants a score of more than 4 GB")
                 found = check(code.score_with(code.wrong)).messages
-                self.assertIn((code.name, code.text, code.kind), [(it.code, it.text, it.kind) for it in found])
-                self.assertEqual([it.code for it in check(code.score_with(code.right)).messages], [], code.right[:100])
+                self.assertIn(
+                    (code.name, code.text, code.kind), [(it.code, it.text, it.kind) for it in found]
+                )
+                self.assertEqual(
+                    [it.code for it in check(code.score_with(code.right)).messages],
+                    [],
+                    code.right[:100],
+                )
 
     def test_lines_of_rules(self) -> None:
         for rule in RULES.values():
             with self.subTest(rule.name):
-                self.assertIn(rule.name, [it.code for it in messages_with_rules(rule.score_with(rule.wrong))])
+                self.assertIn(
+                    rule.name, [it.code for it in messages_with_rules(rule.score_with(rule.wrong))]
+                )
                 self.assertEqual(messages_with_rules(rule.score_with(rule.right)), ())
 
 
@@ -78,25 +92,36 @@ class Command(unittest.TestCase):
                 shown = command("explain", code).stdout.decode()
                 self.assertIn(f"\n\nRepair {repair.name}, by check --fix", shown)
                 for head, lines in (("Before", repair.wrong), ("After", repair.right)):
-                    self.assertIn(f"\n{head}:\n" + "".join(f"    {it}\n" for it in lines.split("\n")), shown)
+                    self.assertIn(
+                        f"\n{head}:\n" + "".join(f"    {it}\n" for it in lines.split("\n")), shown
+                    )
         page = (ROOT / "docs" / "PYTHON.md").read_text(encoding="utf-8")
-        rows = re.findall(r"^\| `([a-z-]+)` \| (`[\w-]+`(?:, `[\w-]+`)*) \| (yes|no) \| (.*) \|$", page, re.MULTILINE)
+        rows = re.findall(
+            r"^\| `([a-z-]+)` \| (`[\w-]+`(?:, `[\w-]+`)*) \| (yes|no) \| (.*) \|$",
+            page,
+            re.MULTILINE,
+        )
         told = []
         for repair in REPAIRS.values():
             meaning = repair.meaning[0].lower() + repair.meaning[1:].rstrip(".")
             codes = ", ".join(f"`{code}`" for code in sorted(repair.codes))
-            cell = (meaning if repair.is_safe else f"{meaning} ({repair.changes})").replace("|", "\\|")
+            cell = (meaning if repair.is_safe else f"{meaning} ({repair.changes})").replace(
+                "|", "\\|"
+            )
             told.append((repair.name, codes, "yes" if repair.is_safe else "no", cell))
         self.assertEqual(rows, told)
 
     def test_rule(self) -> None:
         """The page of a rule says why, what is wrong and right, and how to silence it."""
         shown = command("explain", "late-punctuation").stdout.decode()
-        self.assertEqual(shown, (
-            "late-punctuation: warning, by check --rules alone\n\nA comma or another sign of punctuation follows the notes of its word. Write it\n"
-            "before their (.\n\nWrong:\n    Ky(f)ri(g)e(h), (;)\n\nRight:\n    Ky(f)ri(g)e,(h) (;)\n\nSilence it, on its line or in the whole score:\n"
-            "    % gregorio: ignore late-punctuation\n    % gregorio: ignore-file late-punctuation\n"
-        ))
+        self.assertEqual(
+            shown,
+            (
+                "late-punctuation: warning, by check --rules alone\n\nA comma or another sign of punctuation follows the notes of its word. Write it\n"
+                "before their (.\n\nWrong:\n    Ky(f)ri(g)e(h), (;)\n\nRight:\n    Ky(f)ri(g)e,(h) (;)\n\nSilence it, on its line or in the whole score:\n"
+                "    % gregorio: ignore late-punctuation\n    % gregorio: ignore-file late-punctuation\n"
+            ),
+        )
         for rule in RULES.values():
             silenced = rule.score_with(f"{rule.wrong} % gregorio: ignore-file {rule.name}")
             if rule.name != "unused-ignore" and not rule.after.startswith("\n%%"):

@@ -1,4 +1,5 @@
-"""Tries what is read and written: nobody else's file is touched, nothing is left half written, and nothing waits or has no end."""
+"""Tries what is read and written: nobody else's file is touched, nothing is left half written, and
+nothing waits or has no end."""
 from __future__ import annotations
 
 import fcntl
@@ -12,12 +13,14 @@ import time
 import unittest
 from pathlib import Path
 
-from gregorio_chant.work import files
 from support import CANONICAL, FAULTY, NOBODY, SCORE, InFolder, command, has
+
+from gregorio_chant.work import files
 
 # So many moments at which a writing run is killed; with GREGORIO_LONG=1 fifty.
 MOMENTS = 50 if os.environ.get("GREGORIO_LONG") else 6
-# In the folder that is the first word each new file of `format` becomes a link to the second word, as soon as it is there.
+# In the folder that is the first word each new file of `format` becomes a link to the second word,
+# as soon as it is there.
 _ATTACK = """
 import ctypes, os, struct, sys
 libc = ctypes.CDLL(None, use_errno=True)
@@ -48,7 +51,12 @@ class Strangers(InFolder):
         shared = Path("shared")
         shared.mkdir()
         os.chown(shared, NOBODY, NOBODY)
-        attack = subprocess.Popen([sys.executable, "-c", _ATTACK, "shared", str(victim.resolve())], user=NOBODY, group=NOBODY, stdout=subprocess.PIPE)
+        attack = subprocess.Popen(
+            [sys.executable, "-c", _ATTACK, "shared", str(victim.resolve())],
+            user=NOBODY,
+            group=NOBODY,
+            stdout=subprocess.PIPE,
+        )
         assert attack.stdout is not None
         self.assertEqual(attack.stdout.readline(), b"ready\n")
         try:
@@ -57,7 +65,10 @@ class Strangers(InFolder):
                 os.chown(score, NOBODY, NOBODY)
                 command("format", "--canonical", score)
                 state = victim.stat()
-                self.assertEqual((state.st_uid, stat.S_IMODE(state.st_mode), victim.read_text()), (0, 0o600, "secret"))
+                self.assertEqual(
+                    (state.st_uid, stat.S_IMODE(state.st_mode), victim.read_text()),
+                    (0, 0o600, "secret"),
+                )
         finally:
             attack.kill()
             attack.communicate()
@@ -67,11 +78,19 @@ class Strangers(InFolder):
         self.put("s/in/a.gabc", SCORE)
         os.symlink("../outside.gabc", "s/out.gabc")
         os.symlink("in/a.gabc", "s/stays.gabc")
-        for words in (("format", "--canonical"), ("check", "--output-format", "lines"), ("index",), ("export", "--to", "midi", "--folder", ".")):
+        for words in (
+            ("format", "--canonical"),
+            ("check", "--output-format", "lines"),
+            ("index",),
+            ("export", "--to", "midi", "--folder", "."),
+        ):
             if words[0] == "export" and not has("mido"):
                 continue
             ran = command(*words, "s")
-            self.assertIn(b"gregorio-chant: s/out.gabc is passed by: this link leads out of the folder; name it to have it read\n", ran.stderr)
+            self.assertIn(
+                b"gregorio-chant: s/out.gabc is passed by: this link leads out of the folder; name it to have it read\n",
+                ran.stderr,
+            )
             self.assertNotIn(b"out.gabc:", ran.stdout)
         self.assertEqual((outside.read_text(), Path("s/in/a.gabc").read_text()), (SCORE, CANONICAL))
         self.assertFalse(Path("out.mid").exists())
@@ -88,14 +107,21 @@ class Strangers(InFolder):
         os.symlink("../outside.gabc", "s/a.gabc")
         os.mkfifo("s/b.gabc")
         os.symlink("/dev/zero", "s/c.gabc")
-        for name, why in (("s/a.gabc", "leads out of the folder"), ("s/b.gabc", "no plain file"), ("s/c.gabc", "no plain file")):
+        for name, why in (
+            ("s/a.gabc", "leads out of the folder"),
+            ("s/b.gabc", "no plain file"),
+            ("s/c.gabc", "no plain file"),
+        ):
             with self.assertRaisesRegex(OSError, why):
                 reader.read(name)
         self.assertEqual(files.Reader.of(["s", "s/a.gabc"]).read("s/a.gabc").data, SCORE.encode())
 
     def test_a_score_without_an_end(self) -> None:
         ran = command("check", "--output-format", "lines", "/dev/zero")
-        self.assertEqual((ran.returncode, ran.stderr[:70]), (4, b"gregorio-chant: cannot read /dev/zero: it is longer than 268,435,456 b"))
+        self.assertEqual(
+            (ran.returncode, ran.stderr[:70]),
+            (4, b"gregorio-chant: cannot read /dev/zero: it is longer than 268,435,456 b"),
+        )
 
     def test_pages_stay_below_their_folder(self) -> None:
         self.put("s/a/b.gabc", SCORE)
@@ -105,7 +131,10 @@ class Strangers(InFolder):
         self.put("other.html", "mine")
         os.symlink("../other.html", "pages/index.html")
         ran = command("show", "-o", "pages/", "s")
-        self.assertEqual((ran.returncode, ran.stderr), (4, b"gregorio-chant: cannot write: it leads out of the folder\n"))
+        self.assertEqual(
+            (ran.returncode, ran.stderr),
+            (4, b"gregorio-chant: cannot write: it leads out of the folder\n"),
+        )
         self.assertEqual(os.listdir("elsewhere"), [])
         os.unlink("pages/a")
         self.assertEqual(command("show", "-o", "pages/", "s").returncode, 0)
@@ -130,9 +159,15 @@ class Rights(InFolder):
 
     def test_lists_of_rights(self) -> None:
         """A list stays, and none is taken over from the folder."""
-        # The version 2; then the owner rw, a user 65534 r, the group r, the mask r, others none; each with its number.
+        # The version 2; then the owner rw, a user 65534 r, the group r, the mask r, others none;
+        # each with its number.
         entries = ((1, 6, -1), (2, 4, NOBODY), (4, 4, -1), (16, 4, -1), (32, 0, -1))
-        rights = b"\2\0\0\0" + b"".join(tag.to_bytes(2, "little") + may.to_bytes(2, "little") + (who % 2**32).to_bytes(4, "little") for tag, may, who in entries)
+        rights = b"\2\0\0\0" + b"".join(
+            tag.to_bytes(2, "little")
+            + may.to_bytes(2, "little")
+            + (who % 2**32).to_bytes(4, "little")
+            for tag, may, who in entries
+        )
         listed, plain = self.put("a.gabc", SCORE), self.put("s/b.gabc", SCORE)
         plain.chmod(0o640)
         self._set(listed, "system.posix_acl_access", rights)
@@ -150,9 +185,13 @@ class Rights(InFolder):
         os.chown(score, 1, 1)
         score.chmod(0o666)
         os.chmod(score, 0o676)
-        self.assertEqual(command("format", "--canonical", "--quiet", "a.gabc", as_nobody=True).stderr, b"")
+        self.assertEqual(
+            command("format", "--canonical", "--quiet", "a.gabc", as_nobody=True).stderr, b""
+        )
         state = score.stat()
-        self.assertEqual((state.st_uid, state.st_gid, stat.S_IMODE(state.st_mode)), (NOBODY, NOBODY, 0o666))
+        self.assertEqual(
+            (state.st_uid, state.st_gid, stat.S_IMODE(state.st_mode)), (NOBODY, NOBODY, 0o666)
+        )
 
 
 class Outputs(InFolder):
@@ -164,8 +203,13 @@ class Outputs(InFolder):
         page = Path("page.html").read_bytes()
         self.put("b.gabc", SCORE + "Ky(f)ri(g)e(h) " * 2_000)
         ran = command("show", "-o", "page.html", "b.gabc", limit=20_000)
-        self.assertEqual((ran.returncode, ran.stderr), (4, b"gregorio-chant: cannot write: File too large\n"))
-        self.assertEqual((Path("page.html").read_bytes(), sorted(os.listdir("."))), (page, ["a.gabc", "b.gabc", "page.html"]))
+        self.assertEqual(
+            (ran.returncode, ran.stderr), (4, b"gregorio-chant: cannot write: File too large\n")
+        )
+        self.assertEqual(
+            (Path("page.html").read_bytes(), sorted(os.listdir("."))),
+            (page, ["a.gabc", "b.gabc", "page.html"]),
+        )
 
     def test_what_is_named(self) -> None:
         """A named link is followed, a device is written into, and the mode stays."""
@@ -201,11 +245,23 @@ class Ended(InFolder):
             for number in range(100):
                 self.put(f"s/{number:03}.gabc", old)
             run = subprocess.Popen(
-                [sys.executable, "-m", "gregorio_chant", "format", "--canonical", "--jobs", str(1 + moment % 2), "s"], stderr=subprocess.DEVNULL,
+                [
+                    sys.executable,
+                    "-m",
+                    "gregorio_chant",
+                    "format",
+                    "--canonical",
+                    "--jobs",
+                    str(1 + moment % 2),
+                    "s",
+                ],
+                stderr=subprocess.DEVNULL,
                 start_new_session=True,
             )
             awaited, end = Path(f"s/{moment * 97 // MOMENTS:03}.gabc"), time.monotonic() + 60
-            while awaited.stat().st_size == len(old) and run.poll() is None and time.monotonic() < end:
+            while (
+                awaited.stat().st_size == len(old) and run.poll() is None and time.monotonic() < end
+            ):
                 time.sleep(0.0002)
             run.send_signal(signal.SIGKILL)
             run.wait()
@@ -218,7 +274,10 @@ class Ended(InFolder):
             self.assertEqual(command("format", "--canonical", "--quiet", "s").stderr, b"")
             self.assertFalse(left.exists())
             self.assertTrue(Path(written.name).exists())
-        self.assertEqual([it.name for it in Path("s").iterdir() if not it.name.endswith(".gabc")], [".gregorio-chant.4567"])
+        self.assertEqual(
+            [it.name for it in Path("s").iterdir() if not it.name.endswith(".gabc")],
+            [".gregorio-chant.4567"],
+        )
 
     @unittest.skipUnless(os.geteuid() == 0, "it wants two users")
     def test_what_others_left(self) -> None:

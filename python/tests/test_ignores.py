@@ -4,13 +4,17 @@ from __future__ import annotations
 import json
 import unittest
 
-from gregorio_chant.linting.checking import check_data
 from support import InFolder, command
+
+from gregorio_chant.linting.checking import check_data
 
 
 def told(score: str, with_rules: bool = False) -> list[tuple[int, str]]:
-    """Returns the line and the code of each message of a score, but for those of the rule on comments."""
-    return [(it.line, it.code) for it in check_data(score.encode(), with_rules) if it.code != "comment"]
+    """Returns the line and the code of each message of a score, but for those of the rule on
+    comments."""
+    return [
+        (it.line, it.code) for it in check_data(score.encode(), with_rules) if it.code != "comment"
+    ]
 
 
 class Ignores(unittest.TestCase):
@@ -18,10 +22,22 @@ class Ignores(unittest.TestCase):
         score = "name: a;\n%%\n(c4) <it>a</it>(h5)) {}\n<it>b</it>(g5) (h){}\n"
         faults = [(3, "E1"), (3, "E2"), (3, "W6"), (3, "W6")]
         self.assertEqual(sorted(told(score))[:4], faults)
-        for words, left in (("W6", faults[:2]), ("W6, E2", faults[:1]), ("W6 E2,E1", []), ("E", faults[2:]), ("W,E", []), ("W1", faults), ("", faults)):
+        for words, left in (
+            ("W6", faults[:2]),
+            ("W6, E2", faults[:1]),
+            ("W6 E2,E1", []),
+            ("E", faults[2:]),
+            ("W,E", []),
+            ("W1", faults),
+            ("", faults),
+        ):
             ignored = score.replace(") {}\n", f") {{}} % here % gregorio: ignore {words}\n")
             self.assertEqual([it for it in sorted(told(ignored)) if it[0] == 3], left, words)
-            self.assertEqual([it for it in sorted(told(ignored)) if it[0] == 4], [(4, "E1"), (4, "W6"), (4, "W6")], words)
+            self.assertEqual(
+                [it for it in sorted(told(ignored)) if it[0] == 4],
+                [(4, "E1"), (4, "W6"), (4, "W6")],
+                words,
+            )
 
     def test_in_the_score(self) -> None:
         score = "name: a;\nmode: 1;\nmode: 2; % gregorio: ignore W2\n%% % gregorio: ignore-file W6\n(c4) <it>a</it>(g5)\n<it>b</it>(g5)\n"
@@ -30,11 +46,19 @@ class Ignores(unittest.TestCase):
         self.assertEqual(told(score + "%gregorio:ignore-file E1"), [])
 
     def test_what_is_none(self) -> None:
-        for comment in ("% gregorio: ignored E1", "% ignore E1", "$% gregorio: ignore E1", "% gregorio: ignore-files E1", "[% gregorio: ignore E1]"):
+        for comment in (
+            "% gregorio: ignored E1",
+            "% ignore E1",
+            "$% gregorio: ignore E1",
+            "% gregorio: ignore-files E1",
+            "[% gregorio: ignore E1]",
+        ):
             self.assertIn((3, "E1"), told(f"name: a;\n%%\n(c4) a(g5) b{comment}\n(g)"), comment)
 
     def test_fatal_faults(self) -> None:
-        score = "name: a; % gregorio: ignore-file F, F6, E1\n%%\n(c4) a(g5) b(g % gregorio: ignore F6"
+        score = (
+            "name: a; % gregorio: ignore-file F, F6, E1\n%%\n(c4) a(g5) b(g % gregorio: ignore F6"
+        )
         self.assertEqual(told(score), [(3, "F6")])
         self.assertEqual(told(score, True), [(3, "F6")])
 
@@ -44,8 +68,10 @@ class Ignores(unittest.TestCase):
         self.assertEqual(
             [(it.line, it.column, it.text) for it in messages],
             [
-                (1, 34, "there is no W3 in the score to silence"), (3, 44, "there is no E2 on this line to silence"),
-                (3, 48, "W99 is no code, so it silences nothing"), (3, 52, "F1 is fatal, so it cannot be silenced"),
+                (1, 34, "there is no W3 in the score to silence"),
+                (3, 44, "there is no E2 on this line to silence"),
+                (3, 48, "W99 is no code, so it silences nothing"),
+                (3, 52, "F1 is fatal, so it cannot be silenced"),
                 (5, 1, "this names no code, so it silences nothing"),
             ],
         )
@@ -61,7 +87,10 @@ class Command(InFolder):
         self.assertEqual(command(*words, "a.gabc").returncode, 1)
         ran = command(*words, "b.gabc")
         self.assertEqual((ran.returncode, json.loads(ran.stdout)), (0, []))
-        self.assertEqual([it["code"] for it in json.loads(command(*words, "--rules", "b.gabc").stdout)], ["outside-staff"])
+        self.assertEqual(
+            [it["code"] for it in json.loads(command(*words, "--rules", "b.gabc").stdout)],
+            ["outside-staff"],
+        )
         self.assertEqual(command("format", "--check", "b.gabc").returncode, 0)
 
 

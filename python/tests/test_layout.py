@@ -1,6 +1,8 @@
-"""Tries what `format` writes by default: lines, empty lines, comments and line ends stay, and nothing is refused.
+"""Tries what `format` writes by default: lines, empty lines, comments and line ends stay, and
+nothing is refused.
 
-The environment's GREGORIO_SCORES says how many scores are made by hypothesis; without it they are few, and the same ones each time.
+The environment's GREGORIO_SCORES says how many scores are made by hypothesis; without it they are
+few, and the same ones each time.
 """
 from __future__ import annotations
 
@@ -9,18 +11,31 @@ import re
 import unittest
 from pathlib import Path
 
+from support import ROOT, InFolder, command, has, scores_of_tables
+
 from gregorio_chant import Status, compile
 from gregorio_chant.format.formatting import Style, formatted
-from support import ROOT, InFolder, command, has, scores_of_tables
 
 _FEW = 300
 _STYLE_TAG = re.compile(r"</?(?:b|c|e|i|sc|tt|ul)>")
 # What is written of each score, by what it shows; nothing where the score stays as it is.
 LAYOUTS: dict[str, tuple[str, str | None]] = {
-    "headers": ("name:Kyrie ;\n mode :  1;;\nbook:a\n b ;;\nuser-notes:;\n%%\n(c4)\n", "name: Kyrie;\nmode: 1;\nbook:\n a\n b;;\nuser-notes:;\n%%\n(c4)\n"),
-    "words on a line": ("name: a;\n%%\n(c4)  Ky(f)ri(g)\te(h)\nson(f) \n\n\n\n  a(g)\n", "name: a;\n%%\n(c4) Ky(f)ri(g) e(h)\nson(f)\n\na(g)\n"),
-    "empty lines": ("\n\nname: a;\n\n \n\nmode: 1;\n\n%%\n\n\n\n(c4)\n\n\t\n\n", "name: a;\n\nmode: 1;\n\n%%\n\n(c4)\n"),
-    "carriage returns": ("name:a;\r\n%% b\r\n\r\n(c4)  a(f)\r\n\r\n\r\nb(g) % c \r\n", "name: a;\r\n%% b\r\n\r\n(c4) a(f)\r\n\r\nb(g) % c\r\n"),
+    "headers": (
+        "name:Kyrie ;\n mode :  1;;\nbook:a\n b ;;\nuser-notes:;\n%%\n(c4)\n",
+        "name: Kyrie;\nmode: 1;\nbook:\n a\n b;;\nuser-notes:;\n%%\n(c4)\n",
+    ),
+    "words on a line": (
+        "name: a;\n%%\n(c4)  Ky(f)ri(g)\te(h)\nson(f) \n\n\n\n  a(g)\n",
+        "name: a;\n%%\n(c4) Ky(f)ri(g) e(h)\nson(f)\n\na(g)\n",
+    ),
+    "empty lines": (
+        "\n\nname: a;\n\n \n\nmode: 1;\n\n%%\n\n\n\n(c4)\n\n\t\n\n",
+        "name: a;\n\nmode: 1;\n\n%%\n\n(c4)\n",
+    ),
+    "carriage returns": (
+        "name:a;\r\n%% b\r\n\r\n(c4)  a(f)\r\n\r\n\r\nb(g) % c \r\n",
+        "name: a;\r\n%% b\r\n\r\n(c4) a(f)\r\n\r\nb(g) % c\r\n",
+    ),
     "mixed ends": ("name:a;\r\n%%\n(c4)\ra(f)\n", "name: a;\r\n%%\r\n(c4)\r\na(f)\r\n"),
     "lone carriage returns": ("name:a;\r%%\r(c4)  a(f)\r", "name: a;\r%%\r(c4) a(f)\r"),
     "no last line end": ("name:a;\n%%\n(c4)  a(f)", "name: a;\n%%\n(c4) a(f)"),
@@ -32,15 +47,21 @@ LAYOUTS: dict[str, tuple[str, str | None]] = {
         "\ufeff\ufeffname:a\ufeff;\nmode: 1;\n\ufeff\n%%\n(c4) $\ufeff$a(f) b(g)\ufeff\n",
     ),
     "comments of headers": (
-        "%a  b \n  % c\nname:a;% d\nmode:1;   % e  f\nx: 100% g;\n\n\n% h\n %% i\n%%\n", "%a  b\n% c\nname: a;% d\nmode: 1; % e  f\nx: 100% g;\n\n% h\n %% i\n%%\n",
+        "%a  b \n  % c\nname:a;% d\nmode:1;   % e  f\nx: 100% g;\n\n\n% h\n %% i\n%%\n",
+        "%a  b\n% c\nname: a;% d\nmode: 1; % e  f\nx: 100% g;\n\n% h\n %% i\n%%\n",
     ),
     "comments of the score": (
-        "name: a;\n%%  b\n  % c\n(c4)   % d\n\n\n  % e\n a(f)%f\n b(g)\n", "name: a;\n%%  b\n% c\n(c4) % d\n\n% e\na(f)%f\nb(g)\n",
+        "name: a;\n%%  b\n  % c\n(c4)   % d\n\n\n  % e\n a(f)%f\n b(g)\n",
+        "name: a;\n%%  b\n% c\n(c4) % d\n\n% e\na(f)%f\nb(g)\n",
     ),
     "comments in syllables": (
-        "name: a;\n%%\n(c4)  K % a\n y( f% )\n)  <v>%</v>r[%]i$%(g[%]) e% \n", "name: a;\n%%\n(c4) K % a\n y( f% )\n) <v>%</v>r[%]i$%(g[%]) e% \n",
+        "name: a;\n%%\n(c4)  K % a\n y( f% )\n)  <v>%</v>r[%]i$%(g[%]) e% \n",
+        "name: a;\n%%\n(c4) K % a\n y( f% )\n) <v>%</v>r[%]i$%(g[%]) e% \n",
     ),
-    "tags": ("name: a;\n%%\n(c4) <i>b<b>i</i>s</b>(f)  <i></i>c(g)\n", "name: a;\n%%\n(c4) <i>b</i><b><i>i</i>s</b>(f) c(g)\n"),
+    "tags": (
+        "name: a;\n%%\n(c4) <i>b<b>i</i>s</b>(f)  <i></i>c(g)\n",
+        "name: a;\n%%\n(c4) <i>b</i><b><i>i</i>s</b>(f) c(g)\n",
+    ),
     "dollars": ("name: a;\n%%\n(c4) $*(f) a$b(g)\n", None),
     "a blank after a tag": ("name: a;\n%%\n(c4) <eu>a(f)</eu> b(g)<i> c</i>(h)\n", None),
     "lines in a text": ("name: a;\n%%\n(c4) a\nb(f) [c\nd](g) e\n(h)\n", None),
@@ -49,8 +70,14 @@ LAYOUTS: dict[str, tuple[str, str | None]] = {
         "bad  line\nname: a;\nmode:1;\n mode:2 ;\nmode :3;\nnabc-lines:9 ;\n%%\n(c4)  Ky(f5 )r )i(g)  e( f-)\n\n\n {a }( h)  [ b][c]( f)  <it>d</it>( g) <i>e( h) f",
         "bad  line\nname: a;\nmode:1;\n mode:2 ;\nmode :3;\nnabc-lines:9 ;\n%%\n(c4) Ky(f5 )r )i(g) e( f-)\n\n{a}( h) [ b][c]( f) <it>d</it>( g) <i>e( h) f",
     ),
-    "text at the end": ("name: a;\n%%\n(c4)  a(f)  b  c \n\n\n", "name: a;\n%%\n(c4) a(f) b  c \n\n\n"),
-    "NABC": ("name: a;\nnabc-lines:1;\n%%\n(c4)  Ky(f|pe su2)  ri(g|p\ne)\n", "name: a;\nnabc-lines: 1;\n%%\n(c4) Ky(f|pesu2) ri(g|p\ne)\n"),
+    "text at the end": (
+        "name: a;\n%%\n(c4)  a(f)  b  c \n\n\n",
+        "name: a;\n%%\n(c4) a(f) b  c \n\n\n",
+    ),
+    "NABC": (
+        "name: a;\nnabc-lines:1;\n%%\n(c4)  Ky(f|pe su2)  ri(g|p\ne)\n",
+        "name: a;\nnabc-lines: 1;\n%%\n(c4) Ky(f|pesu2) ri(g|p\ne)\n",
+    ),
     "nothing": ("%%", None),
 }
 LONG = "name:a line of headers that is longer;\n%%\n(c4) Ky(f)ri(gfg)e(h.) e(ixjvIH'GhvF'E)lé(ghg')i(g)son.(f.) (::) % a comment\na(f) b(g) c(h)\n"
@@ -68,12 +95,15 @@ def bare(text: str) -> str:
 
 
 def parts_of(text: str) -> tuple[str, list[str]]:
-    """Returns the marks at the beginning and all of the headers but blanks, line ends and each `;`, and what stands on each line from `%%` on, but for empty lines."""
+    """Returns the marks at the beginning and all of the headers but blanks, line ends and each `;`,
+    and what stands on each line from `%%` on, but for empty lines."""
     whole = text.lstrip("\ufeff")
     lines = re.split("\r\n|\n|\r", whole)
     end = next(at for at, it in enumerate(lines) if it.replace("\ufeff", "").startswith("%%"))
     marks = text[: len(text) - len(whole)]
-    return marks + bare("".join(lines[:end])).replace(";", ""), [it for it in map(bare, lines[end:]) if it]
+    return marks + bare("".join(lines[:end])).replace(";", ""), [
+        it for it in map(bare, lines[end:]) if it
+    ]
 
 
 class Layout(unittest.TestCase):
@@ -96,7 +126,10 @@ class Layout(unittest.TestCase):
     def test_layouts(self) -> None:
         for name, (score, wanted) in LAYOUTS.items():
             with self.subTest(name):
-                self.assertEqual(formatted(score.encode(), Style()).data.decode(), score if wanted is None else wanted)
+                self.assertEqual(
+                    formatted(score.encode(), Style()).data.decode(),
+                    score if wanted is None else wanted,
+                )
                 self.look_at(score.encode())
 
     def test_canonical_scores(self) -> None:
@@ -129,13 +162,18 @@ class Layout(unittest.TestCase):
     @unittest.skipUnless(has("hypothesis"), "there is no hypothesis")
     def test_made_scores(self) -> None:
         from hypothesis import HealthCheck, given, settings
-
         from made import SCORES
 
         count = os.environ.get("GREGORIO_SCORES")
         checks = list(HealthCheck)
 
-        @settings(max_examples=int(count or _FEW), derandomize=count is None, deadline=None, database=None, suppress_health_check=checks)
+        @settings(
+            max_examples=int(count or _FEW),
+            derandomize=count is None,
+            deadline=None,
+            database=None,
+            suppress_health_check=checks,
+        )
         @given(SCORES)
         def look_at(score: bytes) -> None:
             self.look_at(score)
@@ -153,26 +191,41 @@ class Command(InFolder):
         self.assertEqual(ran.returncode, 2)
         self.assertEqual(
             ran.stderr.decode().replace("gregorio-chant: ", "").split("\n"),
-            ["s/a.gabc would change", "s/b.gabc would change", "s/d.gabc stays as it is: it is not whole", "s/d.gabc:2:1: F2: no %% line",
-             "4 files: 1 unchanged, 2 would change, 1 refused", ""],
+            [
+                "s/a.gabc would change",
+                "s/b.gabc would change",
+                "s/d.gabc stays as it is: it is not whole",
+                "s/d.gabc:2:1: F2: no %% line",
+                "4 files: 1 unchanged, 2 would change, 1 refused",
+                "",
+            ],
         )
         ran = command("format", "--quiet", "s/a.gabc", "s/b.gabc", "s/c.gabc")
         self.assertEqual((ran.returncode, ran.stdout, ran.stderr), (0, b"", b""))
         for name, key in (("s/a.gabc", "carriage returns"), ("s/b.gabc", "findings")):
             self.assertEqual(Path(name).read_bytes().decode(), LAYOUTS[key][1])
-        self.assertEqual(command("format", "--check", "s/a.gabc", "s/b.gabc", "s/c.gabc").returncode, 0)
+        self.assertEqual(
+            command("format", "--check", "s/a.gabc", "s/b.gabc", "s/c.gabc").returncode, 0
+        )
 
     def test_filter_and_diff(self) -> None:
         ran = command("format", "--quiet", "--wrap", "20", "-", data=LONG.encode())
         self.assertEqual((ran.returncode, ran.stdout.decode().split("%%\n")[1]), (0, WRAPPED[20]))
         ran = command("format", "--diff", "--quiet", "-", data=b"name:a;\n%%\n(c4) a(f)\n")
         self.assertEqual(
-            (ran.returncode, ran.stdout), (1, b"--- <stdin>\n+++ <stdin> (formatted)\n@@ -1,3 +1,3 @@\n-name:a;\n+name: a;\n %%\n (c4) a(f)\n"),
+            (ran.returncode, ran.stdout),
+            (
+                1,
+                b"--- <stdin>\n+++ <stdin> (formatted)\n@@ -1,3 +1,3 @@\n-name:a;\n+name: a;\n %%\n (c4) a(f)\n",
+            ),
         )
 
     def test_many_files_by_processes(self) -> None:
         for number in range(250):
-            self.put(f"s/{number:03}.gabc", f"name:{number};\n%%\n(c4)  a(f)\n" if number != 77 else "name")
+            self.put(
+                f"s/{number:03}.gabc",
+                f"name:{number};\n%%\n(c4)  a(f)\n" if number != 77 else "name",
+            )
         ran = command("format", "--jobs", "3", "s")
         self.assertEqual((ran.returncode, ran.stdout), (2, b""))
         self.assertEqual(

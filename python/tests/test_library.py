@@ -6,12 +6,12 @@ import threading
 import tracemalloc
 import unittest
 
-import gregorio_chant
-from gregorio_chant import Kind, Message, Report, Status, check, compile
-from gregorio_chant._native import library
-from gregorio_chant import dump
-from gregorio_chant.objects import edits, items
 from support import EXAMPLES
+
+import gregorio_chant
+from gregorio_chant import Kind, Message, Report, Status, check, compile, dump
+from gregorio_chant._native import library
+from gregorio_chant.objects import edits, items
 
 
 class Calls(unittest.TestCase):
@@ -30,7 +30,12 @@ class Calls(unittest.TestCase):
                 check("%%", all_warnings=wrong)  # type: ignore[arg-type]
 
     def test_kinds_of_bytes(self) -> None:
-        scores: list[str | bytes | bytearray | memoryview] = ["%%\n(c4f)", b"%%\n(c4f)", bytearray(b"%%\n(c4f)"), memoryview(b"%%\n(c4f)")]
+        scores: list[str | bytes | bytearray | memoryview] = [
+            "%%\n(c4f)",
+            b"%%\n(c4f)",
+            bytearray(b"%%\n(c4f)"),
+            memoryview(b"%%\n(c4f)"),
+        ]
         for score in scores:
             self.assertEqual(compile(score).canonical, "%%\n(c4f)\n")
 
@@ -81,7 +86,9 @@ class Memory(unittest.TestCase):
         wrong: list[int] = []
 
         def run(number: int) -> None:
-            wrong.extend(number for _ in range(200) if compile(scores[number]).output != wanted[number])
+            wrong.extend(
+                number for _ in range(200) if compile(scores[number]).output != wanted[number]
+            )
 
         threads = [threading.Thread(target=run, args=(it,)) for it in range(8)]
         for it in threads:

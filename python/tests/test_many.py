@@ -11,18 +11,25 @@ import time
 import unittest
 from pathlib import Path
 
-from gregorio_chant import Status, check
 from support import command, has, in_terminal
+
+from gregorio_chant import Status, check
 
 SCORES = 1_000
 BYTES = 100_000
 TRIES = 3
-# How many of the ten folders are read for the times, from which gain by processes on the processors count as free, and which gain by four
-# threads is asked for: the command itself begins and ends by one, and scores are read so fast that this counts.
+# How many of the ten folders are read for the times, from which gain by processes on the processors
+# count as free, and which gain by four threads is asked for: the command itself begins and ends by
+# one, and scores are read so fast that this counts.
 PARTS = 9
 FREE = 2.5
 GAIN = 1.4
-WORDS = ["Ky(f)ri(gfg)e(e.)", "e(h)lé(ixi)i(ghGF)son(f.) (,)", "<i>Chri</i>(fg!hi)ste(h) *(;)", "al(f/gh)le(g_')lú(hiwj)ia(h.) (::)"]
+WORDS = [
+    "Ky(f)ri(gfg)e(e.)",
+    "e(h)lé(ixi)i(ghGF)son(f.) (,)",
+    "<i>Chri</i>(fg!hi)ste(h) *(;)",
+    "al(f/gh)le(g_')lú(hiwj)ia(h.) (::)",
+]
 
 
 def generated(chance: random.Random, number: int) -> bytes:
@@ -63,12 +70,26 @@ class Many(unittest.TestCase):
         begin = time.monotonic()
         ran = command("check", "--output-format", "lines", "--jobs", str(jobs), *parts)
         self.assertEqual((ran.returncode, ran.stdout), (0, b""), ran.stderr)
-        self.assertEqual(ran.stderr, f"gregorio-chant: {PARTS * SCORES // 10} files: nothing found\n".encode())
+        self.assertEqual(
+            ran.stderr, f"gregorio-chant: {PARTS * SCORES // 10} files: nothing found\n".encode()
+        )
         return time.monotonic() - begin
 
     def seconds_by_processes(self, count: int) -> float:
-        """Returns how long so many processes take, each of which reads a part of the folder by itself."""
-        words = [sys.executable, "-m", "gregorio_chant", "check", "--quiet", "--jobs", "1", "--output-format", "lines", str(self.folder / "0")]
+        """Returns how long so many processes take, each of which reads a part of the folder by
+        itself."""
+        words = [
+            sys.executable,
+            "-m",
+            "gregorio_chant",
+            "check",
+            "--quiet",
+            "--jobs",
+            "1",
+            "--output-format",
+            "lines",
+            str(self.folder / "0"),
+        ]
         begin = time.monotonic()
         running = [subprocess.Popen(words) for _ in range(count)]
         self.assertEqual([it.wait() for it in running], [0] * count)
@@ -82,8 +103,14 @@ class Many(unittest.TestCase):
             by_one, by_four = self.seconds(1), self.seconds(4)
             if by_one >= GAIN * by_four:
                 return
-            tried.append((by_one, by_four, 4 * self.seconds_by_processes(1) / self.seconds_by_processes(4)))
+            tried.append(
+                (by_one, by_four, 4 * self.seconds_by_processes(1) / self.seconds_by_processes(4))
+            )
         gain = min(by_processes for _, _, by_processes in tried)
         if gain < FREE:
-            self.skipTest(f"the processors are busy: four processes do only {gain:.1f} times the work of one")
-        self.fail(f"seconds by one thread and by four, and how many times the work of one process four do: {tried}")
+            self.skipTest(
+                f"the processors are busy: four processes do only {gain:.1f} times the work of one"
+            )
+        self.fail(
+            f"seconds by one thread and by four, and how many times the work of one process four do: {tried}"
+        )

@@ -1,10 +1,13 @@
-"""Compares pictures with what the compiler reads, for the scores of the repository at three widths: each note once, at its height, in order,
-with its signs; clefs, alterations, bars and custodes; no text over a text, no head over a head, and nothing beyond the edges."""
+"""Compares pictures with what the compiler reads, for the scores of the repository at three widths:
+each note once, at its height, in order, with its signs; clefs, alterations, bars and custodes; no
+text over a text, no head over a head, and nothing beyond the edges."""
 from __future__ import annotations
 
 import itertools
 import unittest
 from collections.abc import Iterator
+
+from support import EXAMPLES
 
 from gregorio_chant.dump import Alteration, Bar, Clef, Custos, NabcSnippet, Note, Score, Syllable
 from gregorio_chant.picture import OWN, Face, lay_out
@@ -14,7 +17,6 @@ from gregorio_chant.picture.nabc import hand_of
 from gregorio_chant.picture.symbols import square_face
 from gregorio_chant.picture.values import Line, Part, Rect, Use, height_of, step_of
 from gregorio_chant.rhythm import episemata_of, morae_of
-from support import EXAMPLES
 
 WIDTHS = (336.0, 676.0, 1176.0)
 _SIGNS = ("flat", "natural", "sharp")
@@ -35,7 +37,13 @@ class Meaning(unittest.TestCase):
             score = Score.parse(file.read_bytes())
             for width, face in itertools.product(WIDTHS, (OWN, square_face())):
                 with self.subTest(file.name, width=width, face=face.origin[:12]):
-                    lines = lay_out(score.syllables, width, staff_lines(score.header("staff-lines")), face, hand_of("auto", ""))
+                    lines = lay_out(
+                        score.syllables,
+                        width,
+                        staff_lines(score.header("staff-lines")),
+                        face,
+                        hand_of("auto", ""),
+                    )
                     seen += self.look_at(score, lines, face)
         self.assertGreater(seen, 1500)
 
@@ -46,7 +54,9 @@ class Meaning(unittest.TestCase):
             for placed in line.parts:
                 parts.setdefault(placed.part.syllable.number, []).append(placed.part)
             self.look_at_line(line)
-        self.assertEqual(list(parts), [it.number for it in score.syllables], "each syllable once, in order")
+        self.assertEqual(
+            list(parts), [it.number for it in score.syllables], "each syllable once, in order"
+        )
         for syllable in score.syllables:
             self.look_at_syllable(syllable, parts[syllable.number])
         self.look_at_custodes(lines)
@@ -54,25 +64,57 @@ class Meaning(unittest.TestCase):
 
     def look_at_syllable(self, syllable: Syllable, parts: list[Part]) -> None:
         heads = [y for part in parts for _, block in part.blocks for _, y, _ in block.heads]
-        self.assertEqual(heads, [height_of(step_of(it.pitch)) for it in syllable.notes], syllable.spelling)
+        self.assertEqual(
+            heads, [height_of(step_of(it.pitch)) for it in syllable.notes], syllable.spelling
+        )
         uses = [it for it in _signs(parts) if isinstance(it, Use)]
         rects = [it for it in _signs(parts) if isinstance(it, Rect)]
         items = syllable.items
-        clefs = [it for item in items if isinstance(item, Clef) for it in (item, item.second) if it is not None]
-        self.assertEqual([(it.shape, it.y) for it in uses if it.shape.endswith("-clef")], [(f"{it.letter}-clef", height_of(2 * it.line - 2)) for it in clefs])
-        altered = [(it.sign, height_of(step_of(it.pitch))) for it in items if isinstance(it, Alteration)]
-        self.assertTrue(set(altered) <= {(it.shape, it.y) for it in uses if it.shape in _SIGNS}, syllable.spelling)
+        clefs = [
+            it
+            for item in items
+            if isinstance(item, Clef)
+            for it in (item, item.second)
+            if it is not None
+        ]
+        self.assertEqual(
+            [(it.shape, it.y) for it in uses if it.shape.endswith("-clef")],
+            [(f"{it.letter}-clef", height_of(2 * it.line - 2)) for it in clefs],
+        )
+        altered = [
+            (it.sign, height_of(step_of(it.pitch))) for it in items if isinstance(it, Alteration)
+        ]
+        self.assertTrue(
+            set(altered) <= {(it.shape, it.y) for it in uses if it.shape in _SIGNS},
+            syllable.spelling,
+        )
         custodes = [it for it in uses if it.shape.startswith("custos")]
         wanted = [it for it in items if isinstance(it, Custos)]
-        self.assertEqual([it.y for it, item in zip(custodes, wanted) if item.pitch], [height_of(step_of(it.pitch)) for it in wanted if it.pitch])
+        self.assertEqual(
+            [it.y for it, item in zip(custodes, wanted) if item.pitch],
+            [height_of(step_of(it.pitch)) for it in wanted if it.pitch],
+        )
         notes = syllable.notes
-        self.assertEqual(sum(it.shape == "mora" for it in uses), sum(self.morae(syllable)), syllable.spelling)
+        self.assertEqual(
+            sum(it.shape == "mora" for it in uses), sum(self.morae(syllable)), syllable.spelling
+        )
         bars = [it for it in items if isinstance(it, Bar)]
-        self.assertEqual(sum((it.width, it.height) == (THIN, ICTUS) for it in rects), sum(it.ictus is not None for it in notes) + sum(it.has_ictus for it in bars), syllable.spelling)
+        self.assertEqual(
+            sum((it.width, it.height) == (THIN, ICTUS) for it in rects),
+            sum(it.ictus is not None for it in notes) + sum(it.has_ictus for it in bars),
+            syllable.spelling,
+        )
         covered = episemata_of(items)
         self.assertEqual(any(it.height == THIN for it in rects), bool(covered), syllable.spelling)
         nabc = [it for part in parts for _, block in part.blocks for it in block.neumes]
-        self.assertEqual(len(nabc), sum(isinstance(it, NabcSnippet) and bool(it.spelling.strip()) for it in syllable.snippets), syllable.spelling)
+        self.assertEqual(
+            len(nabc),
+            sum(
+                isinstance(it, NabcSnippet) and bool(it.spelling.strip())
+                for it in syllable.snippets
+            ),
+            syllable.spelling,
+        )
 
     @staticmethod
     def morae(syllable: Syllable) -> Iterator[int]:
@@ -86,19 +128,33 @@ class Meaning(unittest.TestCase):
         text = line.indent - 1.0
         for placed in line.parts:
             part = placed.part
-            heads += [(placed.x + x + left, y, width) for x, block in part.blocks for left, y, width in block.heads]
+            heads += [
+                (placed.x + x + left, y, width)
+                for x, block in part.blocks
+                for left, y, width in block.heads
+            ]
             if part.has_text:
-                self.assertGreaterEqual(placed.x + part.text_left, text - 0.05, "a text over a text")
+                self.assertGreaterEqual(
+                    placed.x + part.text_left, text - 0.05, "a text over a text"
+                )
                 text = placed.x + part.text_right
         self.assertLessEqual(text, line.width + 0.05)
         for x, _, width in heads:
-            self.assertTrue(line.indent <= x + 0.05 and x + width <= line.width + 0.05, "a head beyond the staff")
+            self.assertTrue(
+                line.indent <= x + 0.05 and x + width <= line.width + 0.05,
+                "a head beyond the staff",
+            )
         for (x, y, width), (other, at, _) in itertools.pairwise(sorted(heads)):
-            self.assertTrue(abs(y - at) > 4.0 or other - x >= min(width, 3.5) - 0.05, "a head over a head")
+            self.assertTrue(
+                abs(y - at) > 4.0 or other - x >= min(width, 3.5) - 0.05, "a head over a head"
+            )
 
     def look_at_custodes(self, lines: list[Line]) -> None:
         """At the end of a line stands the custos of the next line's first note."""
-        firsts = [next((it.part.first for it in line.parts if it.part.first is not None), None) for line in lines]
+        firsts = [
+            next((it.part.first for it in line.parts if it.part.first is not None), None)
+            for line in lines
+        ]
         for line, following in zip(lines, firsts[1:]):
             for it in line.signs:
                 if isinstance(it, Use) and it.shape.startswith("custos"):

@@ -1,4 +1,5 @@
-"""Compares the package with tables of cases, and tries its calls. Prints how many trials passed and failed last; the other tests stand beside this file.
+"""Compares the package with tables of cases, and tries its calls. Prints how many trials passed and
+failed last; the other tests stand beside this file.
 
 Usage: python test_package.py TABLE..
 """
@@ -27,10 +28,17 @@ def check(is_well: bool, what: str) -> None:
 
 
 def unescaped(column: str) -> bytes:
-    """Returns the bytes of a column, in which a backslash begins `\\n`, `\\t`, `\\r`, `\\\\` or `\\xNN`."""
+    """Returns the bytes of a column, in which a backslash begins `\\n`, `\\t`, `\\r`, `\\\\` or
+    `\\xNN`."""
+
     def byte(found: re.Match[bytes]) -> bytes:
         code = found[1]
-        return bytes([int(code[1:], 16)]) if code[:1] == b"x" else {b"n": b"\n", b"t": b"\t", b"r": b"\r"}.get(code, code)
+        return (
+            bytes([int(code[1:], 16)])
+            if code[:1] == b"x"
+            else {b"n": b"\n", b"t": b"\t", b"r": b"\r"}.get(code, code)
+        )
+
     return re.sub(rb"\\(x[0-9A-Fa-f]{2}|.)", byte, column.encode())
 
 
@@ -49,14 +57,19 @@ def try_case(columns: list[str]) -> None:
     check(result.output.encode() == unescaped(output), f"output of {score}")
     check(result.messages_text.encode() == unescaped(messages), f"messages of {score}")
     check(result.status == int(status), f"status of {score}")
-    check(len(list(result)) == result.messages_text.count("\n"), f"a message for each line of {score}")
+    check(
+        len(list(result)) == result.messages_text.count("\n"), f"a message for each line of {score}"
+    )
 
 
 def try_calls() -> None:
     """Tries what the tables do not say: texts, formats, long answers, threads."""
     result = gregorio_chant.compile("%%\nA(f)é(/./)", "gabc")
     check(result.canonical == "%%\nA(f)é(//)\n" and result.status is Status.ERRORS, "a str")
-    check(list(result)[-1] == Message(2, 8, Kind.ERROR, "E1", "character left out of the notes"), "a message")
+    check(
+        list(result)[-1] == Message(2, 8, Kind.ERROR, "E1", "character left out of the notes"),
+        "a message",
+    )
     for wrong in ("gtex", ""):
         try:
             gregorio_chant.compile("%%", wrong)
@@ -66,7 +79,10 @@ def try_calls() -> None:
     long = gregorio_chant.compile("%%\n(" + "?" * 10_000 + ")")
     check(len(list(long)) == 10_001, "messages that are longer than the first buffer")
     answers: list[str] = []
-    threads = [threading.Thread(target=lambda: answers.append(gregorio_chant.compile("%%\n(f)").canonical)) for _ in range(4)]
+    threads = [
+        threading.Thread(target=lambda: answers.append(gregorio_chant.compile("%%\n(f)").canonical))
+        for _ in range(4)
+    ]
     for it in threads:
         it.start()
     for it in threads:

@@ -1,4 +1,5 @@
-"""Tries the server of `page`: what it answers of a score, whom it refuses, how much it takes, what it lets a browser do. `tools/try_show` tries it in a browser."""
+"""Tries the server of `page`: what it answers of a score, whom it refuses, how much it takes, what
+it lets a browser do. `tools/try_show` tries it in a browser."""
 from __future__ import annotations
 
 import json
@@ -15,11 +16,12 @@ from urllib.parse import urlsplit
 from xml.etree import ElementTree as Xml
 
 from asking import Asking, foreign
-from gregorio_chant import Format, compile
 from pages import block
 from support import EXAMPLES, FAULTY, SCORE, InFolder, command, has, without
 from test_picture import HOSTILE
 from test_show import Page
+
+from gregorio_chant import Format, compile
 
 _HAS_PACKAGES = has("starlette") and has("uvicorn")
 MOST = 1_000_000
@@ -27,7 +29,7 @@ MOST = 1_000_000
 
 def _without_links(text: str) -> str:
     """Returns HTML without the links into pictures: a page of `show` has two of these."""
-    return re.sub(' <a[^>]*>in the picture</a>', "", text)
+    return re.sub(" <a[^>]*>in the picture</a>", "", text)
 
 
 @unittest.skipUnless(_HAS_PACKAGES, "there is no starlette, or no uvicorn")
@@ -65,64 +67,121 @@ class Serving(Asking):
         return json.loads(body)
 
     def test_answers(self) -> None:
-        """It answers the compiler's output and dump, and the picture and messages that `show --play` writes."""
-        for score in (FAULTY.encode(), (EXAMPLES / "every-finding.gabc").read_bytes(), b"", b"\xff", b"name: a;\n%%\n(c4) a(f) b(g\n", HOSTILE.encode()):
+        """It answers the compiler's output and dump, and the picture and messages that `show
+        --play` writes."""
+        for score in (
+            FAULTY.encode(),
+            (EXAMPLES / "every-finding.gabc").read_bytes(),
+            b"",
+            b"\xff",
+            b"name: a;\n%%\n(c4) a(f) b(g\n",
+            HOSTILE.encode(),
+        ):
             it = self.answer(score)
             shown = command("show", "--play", "-", data=score).stdout.decode()
-            self.assertEqual((it["canonical"], it["dump"]), (compile(score).output, compile(score, Format.DUMP).output))
+            self.assertEqual(
+                (it["canonical"], it["dump"]),
+                (compile(score).output, compile(score, Format.DUMP).output),
+            )
             self.assertIn(it["picture"], shown)
             self.assertIn(_without_links(it["messages"]), _without_links(shown))
             page = Page(it["picture"] + it["messages"])
             self.assertEqual({"script", "b", "foo", "img", "style"} & set(page.tags), set())
-            self.assertEqual([name for name in page.attributes if name.startswith("on") or name == "style"], [])
+            self.assertEqual(
+                [name for name in page.attributes if name.startswith("on") or name == "style"], []
+            )
             Xml.fromstring(it["picture"])
         self.assertEqual(self.answer(SCORE.encode())["name"], "Kyrie")
 
     def test_sounds(self) -> None:
-        """It answers the notes of a score for the script that sings, and none where a note has no height."""
+        """It answers the notes of a score for the script that sings, and none where a note has no
+        height."""
         for score, wanted in (
-            (b"name: a;\n%%\n(c4) a(f.) b(gss,)\n", [[2, 0, 53, 2.0], [3, 0, 55, 1.0], [3, 0, 55, 1.0], [3, 0, None, 1.0]]), (b"%%\na(f)\n", []), (b"", []),
+            (
+                b"name: a;\n%%\n(c4) a(f.) b(gss,)\n",
+                [[2, 0, 53, 2.0], [3, 0, 55, 1.0], [3, 0, 55, 1.0], [3, 0, None, 1.0]],
+            ),
+            (b"%%\na(f)\n", []),
+            (b"", []),
         ):
             status, body, _ = self.ask("POST", "/sounds", score)
             self.assertEqual((status, json.loads(body)), (200, wanted))
 
     def test_width(self) -> None:
         """A picture is as wide as it is asked for, within bounds."""
-        for word, width in (("", "720"), ("?width=400", "400"), ("?width=1", "280"), ("?width=99999", "1200"), ("?width=x", "720"), ("?width=" + "9" * 5000, "720")):
+        for word, width in (
+            ("", "720"),
+            ("?width=400", "400"),
+            ("?width=1", "280"),
+            ("?width=99999", "1200"),
+            ("?width=x", "720"),
+            ("?width=" + "9" * 5000, "720"),
+        ):
             status, body, _ = self.ask("POST", f"/score{word}", SCORE.encode())
-            self.assertEqual((status, Xml.fromstring(json.loads(body)["picture"]).get("width")), (200, width), word[:20])
+            self.assertEqual(
+                (status, Xml.fromstring(json.loads(body)["picture"]).get("width")),
+                (200, width),
+                word[:20],
+            )
 
     def test_page(self) -> None:
-        """The page has no script and no style within it, and asks for nothing but what the server has."""
+        """The page has no script and no style within it, and asks for nothing but what the server
+        has."""
         status, body, headers = self.ask("GET", "/")
         page = Page(body.decode())
         self.assertEqual((status, headers["Content-Type"]), (200, "text/html; charset=utf-8"))
         self.assertIn(f'data-most="{MOST}"', body.decode())
         self.assertEqual((page.tags.count("script"), page.tags.count("style")), (2, 0))
         self.assertEqual([it for it in page.attributes if it.startswith("on") or it == "style"], [])
-        for path, kind in (("/page.js", "text/javascript"), ("/sing.js", "text/javascript"), ("/page.css", "text/css"), ("/icon.svg", "image/svg+xml")):
+        for path, kind in (
+            ("/page.js", "text/javascript"),
+            ("/sing.js", "text/javascript"),
+            ("/page.css", "text/css"),
+            ("/icon.svg", "image/svg+xml"),
+        ):
             self.assertIn(path, page.links)
             status, body, headers = self.ask("GET", path)
             self.assertEqual((status, headers.get_content_type()), (200, kind))
-            self.assertEqual(set(re.findall(rb"https?://[^\"' ]*", body)) - {b"http://www.w3.org/2000/svg"}, set())
+            self.assertEqual(
+                set(re.findall(rb"https?://[^\"' ]*", body)) - {b"http://www.w3.org/2000/svg"},
+                set(),
+            )
             self.assertNotRegex(body, rb"url\(|@import|eval\(")
-        self.assertEqual(set(page.links), {"/page.js", "/sing.js", "/page.css", "/icon.svg", *_TO_LEARN})
+        self.assertEqual(
+            set(page.links), {"/page.js", "/sing.js", "/page.css", "/icon.svg", *_TO_LEARN}
+        )
 
     def test_to_learn(self) -> None:
-        """The tutorial and the cheat sheet are served, each with its pictures in itself and with no script, and they lead to each other."""
+        """The tutorial and the cheat sheet are served, each with its pictures in itself and with no
+        script, and they lead to each other."""
         for path in _TO_LEARN:
             status, body, headers = self.ask("GET", path)
             page = Page(body.decode())
-            self.assertEqual((status, headers["Content-Type"], headers["Content-Security-Policy"]), (200, "text/html; charset=utf-8", _STILL))
+            self.assertEqual(
+                (status, headers["Content-Type"], headers["Content-Security-Policy"]),
+                (200, "text/html; charset=utf-8", _STILL),
+            )
             self.assertEqual((headers["Cache-Control"], page.tags.count("script")), ("no-store", 0))
-            self.assertEqual({f"/{it}" for it in page.links if not it.startswith(("data:image/svg+xml,", "https:"))}, set(_TO_LEARN))
+            self.assertEqual(
+                {
+                    f"/{it}"
+                    for it in page.links
+                    if not it.startswith(("data:image/svg+xml,", "https:"))
+                },
+                set(_TO_LEARN),
+            )
             self.assertGreater(sum(it.startswith("data:") for it in page.links), 3)
 
     def test_policy(self) -> None:
         """Each answer forbids a browser all but the page's own parts, also one that refuses."""
         requests: list[tuple[str, str, dict[str, str], int]] = [
-            ("GET", "/", {}, 200), ("POST", "/score", {}, 200), ("GET", "/other", {}, 404), ("GET", "/score", {}, 405), ("POST", "/", {}, 405),
-            ("GET", "/", {"Host": "example.org"}, 403), ("POST", "/score", {"Content-Length": str(MOST + 1)}, 413),
+            ("GET", "/", {}, 200),
+            ("POST", "/score", {}, 200),
+            ("GET", "/other", {}, 404),
+            ("GET", "/score", {}, 405),
+            ("POST", "/", {}, 405),
+            ("GET", "/", {"Host": "example.org"}, 403),
+            ("POST", "/score", {"Content-Length": str(MOST + 1)}, 413),
         ]
         for method, path, sent, status in requests:
             got, _, headers = self.ask(method, path, b"" if method == "POST" else None, **sent)
@@ -134,37 +193,77 @@ class Serving(Asking):
             self.assertNotIn("Access-Control-Allow-Origin", headers)
 
     def test_foreign_requests(self) -> None:
-        """A request by another name of the server, also one that leads to this machine, or of a page from elsewhere, is refused before its body comes."""
+        """A request by another name of the server, also one that leads to this machine, or of a
+        page from elsewhere, is refused before its body comes."""
         for headers in foreign(self.port):
             for method, path in (("POST", "/score"), ("GET", "/"), ("GET", "/page.js")):
-                self.assertEqual(self.status_of(self.head(method, path, Content_Length="1000", **headers)), 403, headers)
-        twice = self.head("GET", "/").replace(b"\r\n\r\n", b"\r\nOrigin: http://localhost:%d\r\nOrigin: http://example.org\r\n\r\n" % self.port)
+                self.assertEqual(
+                    self.status_of(self.head(method, path, Content_Length="1000", **headers)),
+                    403,
+                    headers,
+                )
+        twice = self.head("GET", "/").replace(
+            b"\r\n\r\n",
+            b"\r\nOrigin: http://localhost:%d\r\nOrigin: http://example.org\r\n\r\n" % self.port,
+        )
         self.assertEqual(self.status_of(twice), 403)
         for host in ("localhost", "127.0.0.1", f"LOCALHOST:{self.port}", f"127.0.0.1:{self.port}"):
-            self.assertEqual(self.answer(SCORE.encode(), Host=host, Origin=f"http://{host}")["name"], "Kyrie")
+            self.assertEqual(
+                self.answer(SCORE.encode(), Host=host, Origin=f"http://{host}")["name"], "Kyrie"
+            )
 
     def test_length(self) -> None:
-        """A body of the most bytes is read, and one above is refused: before it comes where its length is said, and else once it is too long."""
+        """A body of the most bytes is read, and one above is refused: before it comes where its
+        length is said, and else once it is too long."""
         score = b"name: a;\n%%\n(c4) a(f)\n"
         self.assertEqual(self.answer(score + b" " * (MOST - len(score)))["name"], "a")
-        self.assertEqual(self.status_of(self.head("POST", "/score", Content_Length=str(MOST + 1))), 413)
-        self.assertEqual(self.status_of(self.head("POST", "/score", Content_Length=str(MOST + 1), Expect="100-continue")), 413)
+        self.assertEqual(
+            self.status_of(self.head("POST", "/score", Content_Length=str(MOST + 1))), 413
+        )
+        self.assertEqual(
+            self.status_of(
+                self.head("POST", "/score", Content_Length=str(MOST + 1), Expect="100-continue")
+            ),
+            413,
+        )
         piece = b"%x\r\n%s\r\n" % (100_000, b" " * 100_000)
-        self.assertEqual(self.status_of(self.head("POST", "/score", Transfer_Encoding="chunked") + 10 * piece + b"1\r\n \r\n"), 413)
-        self.assertEqual(self.status_of(self.head("POST", "/score", Transfer_Encoding="chunked") + 10 * piece + b"0\r\n\r\n"), 200)
+        self.assertEqual(
+            self.status_of(
+                self.head("POST", "/score", Transfer_Encoding="chunked")
+                + 10 * piece
+                + b"1\r\n \r\n"
+            ),
+            413,
+        )
+        self.assertEqual(
+            self.status_of(
+                self.head("POST", "/score", Transfer_Encoding="chunked") + 10 * piece + b"0\r\n\r\n"
+            ),
+            200,
+        )
 
     def test_no_request(self) -> None:
         """What is no request is answered, and no line tells of it."""
         self.assertEqual(self.status_of(b"\x16\x03\x01 no request\r\n\r\n"), 400)
         self.assertEqual(self.status_of(self.head("POST", "/score", Content_Length="x")), 400)
-        self.assertEqual(self.status_of(self.head("POST", "/score", Content_Length="9" * 5_000)), 413)
+        self.assertEqual(
+            self.status_of(self.head("POST", "/score", Content_Length="9" * 5_000)), 413
+        )
 
     def test_loopback_alone(self) -> None:
         """No other address of this machine leads to it."""
         table = Path("/proc/net/tcp").read_text()
-        listening = [line.split()[1] for line in table.split("\n")[1:] if line and line.split()[3] == "0A"]
-        self.assertEqual([it for it in listening if it.endswith(f":{self.port:04X}")], [f"0100007F:{self.port:04X}"])
-        self.assertNotIn(f":{self.port:04X}", Path("/proc/net/tcp6").read_text() if Path("/proc/net/tcp6").exists() else "")
+        listening = [
+            line.split()[1] for line in table.split("\n")[1:] if line and line.split()[3] == "0A"
+        ]
+        self.assertEqual(
+            [it for it in listening if it.endswith(f":{self.port:04X}")],
+            [f"0100007F:{self.port:04X}"],
+        )
+        self.assertNotIn(
+            f":{self.port:04X}",
+            Path("/proc/net/tcp6").read_text() if Path("/proc/net/tcp6").exists() else "",
+        )
         with self.assertRaises(ConnectionRefusedError):
             socket.create_connection(("127.0.0.2", self.port), timeout=20)
 
@@ -196,7 +295,9 @@ class Serving(Asking):
 
     def children(self) -> int:
         """Returns how many processes the server has."""
-        return len(Path(f"/proc/{self.server.pid}/task/{self.server.pid}/children").read_text().split())
+        return len(
+            Path(f"/proc/{self.server.pid}/task/{self.server.pid}/children").read_text().split()
+        )
 
     def await_children(self, number: int) -> None:
         end = time.monotonic() + 10
@@ -208,7 +309,9 @@ class Serving(Asking):
         """Asks about a score that takes long."""
         asked = socket.create_connection(("127.0.0.1", self.port), timeout=60)
         self.addCleanup(asked.close)
-        asked.sendall(self.head("POST", "/score", Content_Length=str(len(_LONG)), **headers) + _LONG)
+        asked.sendall(
+            self.head("POST", "/score", Content_Length=str(len(_LONG)), **headers) + _LONG
+        )
         return asked
 
     def test_given_up(self) -> None:
@@ -243,7 +346,10 @@ class Serving(Asking):
     def test_port(self) -> None:
         taken = command("page", "--port", str(self.port))
         self.assertEqual((taken.returncode, taken.stdout), (4, b""))
-        self.assertEqual(taken.stderr.decode(), f"gregorio-chant: cannot serve at port {self.port}: Address already in use\n")
+        self.assertEqual(
+            taken.stderr.decode(),
+            f"gregorio-chant: cannot serve at port {self.port}: Address already in use\n",
+        )
 
     def test_line_of_the_page(self) -> None:
         """The line of docs/PYTHON.md serves at its port, which is a free one here."""
@@ -256,9 +362,7 @@ class Serving(Asking):
         self.assertEqual(self.port, port)
 
 
-_POLICY = (
-    "default-src 'none'; script-src 'self'; style-src 'self'; img-src 'self'; connect-src 'self'; base-uri 'none'; form-action 'none'; frame-ancestors 'none'"
-)
+_POLICY = "default-src 'none'; script-src 'self'; style-src 'self'; img-src 'self'; connect-src 'self'; base-uri 'none'; form-action 'none'; frame-ancestors 'none'"
 _STILL = "default-src 'none'; style-src 'unsafe-inline'; img-src data:; base-uri 'none'; form-action 'none'; frame-ancestors 'none'"
 _TO_LEARN = ("/tutorial.html", "/cheatsheet.html")
 # A score that takes seconds to be drawn.

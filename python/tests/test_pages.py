@@ -9,20 +9,26 @@ import shlex
 import unittest
 from collections import Counter
 
-from gregorio_chant import compile
 from pages import Block, block, blocks_of, pages
 from support import EXAMPLES, ROOT, InFolder, command, has
+
+from gregorio_chant import compile
 
 
 def texts(folder: str, pattern: str, comment: str) -> str:
     """Returns the files of a folder of the repository, without their comments."""
-    files = (it.read_text(encoding="utf-8") for it in sorted((ROOT / folder).glob(pattern)) if it.is_file())
+    files = (
+        it.read_text(encoding="utf-8")
+        for it in sorted((ROOT / folder).glob(pattern))
+        if it.is_file()
+    )
     return re.sub(comment, "", "\n".join(files), flags=re.MULTILINE)
 
 
 class Claims(unittest.TestCase):
-    """A block is taken by a script of `tools`, by the name of its mark `recipe`, or by its language where it is fenced; by a test of the package, by its
-    whole mark; or by none, and then the page says so."""
+    """A block is taken by a script of `tools`, by the name of its mark `recipe`, or by its language
+    where it is fenced; by a test of the package, by its whole mark; or by none, and then the page
+    says so."""
 
     def setUp(self) -> None:
         self.scripts = texts("tools", "*", "^ *#.*$")
@@ -34,7 +40,13 @@ class Claims(unittest.TestCase):
         if it.mark == "not run":
             return "no test runs" in " ".join(it.words.lower().split())
         if kind == "recipe":
-            return re.search(rf"(?:recipe|recipe {re.escape(page)}|name=) ?{re.escape(name)}(?![\w-])", self.scripts) is not None
+            return (
+                re.search(
+                    rf"(?:recipe|recipe {re.escape(page)}|name=) ?{re.escape(name)}(?![\w-])",
+                    self.scripts,
+                )
+                is not None
+            )
         if kind == "score":
             return f'scores_of("{page}")' in self.tests
         if it.mark:
@@ -47,14 +59,29 @@ class Claims(unittest.TestCase):
         self.assertEqual([f"{it.place}: {it.mark}" for it in blocks if not self.is_claimed(it)], [])
 
     def test_what_is_no_claim(self) -> None:
-        for mark, words in (("", ""), ("recipe: none", ""), ("test: none", ""), ("test: none", "No test runs it."), ("not run", "It is run.")):
+        for mark, words in (
+            ("", ""),
+            ("recipe: none", ""),
+            ("test: none", ""),
+            ("test: none", "No test runs it."),
+            ("not run", "It is run."),
+        ):
             self.assertFalse(self.is_claimed(Block("docs/USE.md:1", "", mark, "", words)), mark)
-        self.assertTrue(self.is_claimed(Block("docs/USE.md:1", "", "not run", "", "No test\nruns it.")))
+        self.assertTrue(
+            self.is_claimed(Block("docs/USE.md:1", "", "not run", "", "No test\nruns it."))
+        )
 
     def test_marks(self) -> None:
-        """Each block of a page has a mark of its own, and each recipe of all pages, since scripts take it by its name."""
-        marks = Counter((it.mark, "" if it.mark.startswith("recipe") else page) for page in pages() for it in blocks_of(page))
-        self.assertEqual([it for it, count in marks.items() if count > 1 and it[0] not in ("", "not run")], [])
+        """Each block of a page has a mark of its own, and each recipe of all pages, since scripts
+        take it by its name."""
+        marks = Counter(
+            (it.mark, "" if it.mark.startswith("recipe") else page)
+            for page in pages()
+            for it in blocks_of(page)
+        )
+        self.assertEqual(
+            [it for it, count in marks.items() if count > 1 and it[0] not in ("", "not run")], []
+        )
 
 
 class Scores(InFolder):
@@ -65,28 +92,53 @@ class Scores(InFolder):
         self.assertEqual(made.messages_text, block("README.md", "test: message"))
 
     def test_dumps(self) -> None:
-        self.assertEqual(compile("%%\n(c4) a(ixi) b(i)", "dump").dump, block("docs/FORMATS.md", "test: flat"))
+        self.assertEqual(
+            compile("%%\n(c4) a(ixi) b(i)", "dump").dump, block("docs/FORMATS.md", "test: flat")
+        )
 
     def test_lines_of_dumps(self) -> None:
-        """The first words of the page, and those of its tables of items, are those of the examples."""
+        """The first words of the page, and those of its tables of items, are those of the
+        examples."""
         page = (ROOT / "docs" / "FORMATS.md").read_text(encoding="utf-8")
         items = page.split("The items of a GABC snippet, in order:")[1].partition("\n## ")[0]
         first = re.compile(r"^[a-z]+", re.MULTILINE)
-        awaited = {*first.findall(block("docs/FORMATS.md", "test: lines of a dump")), *re.findall(r"^\| `([a-z]+)", items, re.MULTILINE), "descriptor"}
-        self.assertEqual(set(first.findall("".join(it.read_text(encoding="utf-8") for it in EXAMPLES.glob("*.dump")))), awaited)
+        awaited = {
+            *first.findall(block("docs/FORMATS.md", "test: lines of a dump")),
+            *re.findall(r"^\| `([a-z]+)", items, re.MULTILINE),
+            "descriptor",
+        }
+        self.assertEqual(
+            set(
+                first.findall(
+                    "".join(it.read_text(encoding="utf-8") for it in EXAMPLES.glob("*.dump"))
+                )
+            ),
+            awaited,
+        )
 
     def test_messages(self) -> None:
         form = re.escape(block("docs/FORMATS.md", "test: message")[:-1])
-        for word, its in (("NAME", "<stdin>"), ("LINE", r"\d+"), ("COLUMN", r"\d+"), ("KIND", "(warning|error|fatal)"), ("CODE", r"[EWF]\d+"), ("TEXT", ".+")):
+        for word, its in (
+            ("NAME", "<stdin>"),
+            ("LINE", r"\d+"),
+            ("COLUMN", r"\d+"),
+            ("KIND", "(warning|error|fatal)"),
+            ("CODE", r"[EWF]\d+"),
+            ("TEXT", ".+"),
+        ):
             form = form.replace(word, its)
-        lines = "".join(it.read_text(encoding="utf-8") for it in EXAMPLES.glob("*.messages")).splitlines()
+        lines = "".join(
+            it.read_text(encoding="utf-8") for it in EXAMPLES.glob("*.messages")
+        ).splitlines()
         self.assertGreater(len(lines), 20)
         self.assertEqual([it for it in lines if not re.fullmatch(form, it)], [])
 
     def test_python(self) -> None:
         with contextlib.redirect_stdout(io.StringIO()) as written:
             exec(block("python/README.md", "test: Python"), {})
-        self.assertEqual(written.getvalue().split("\n")[:3], ["%%", "Ky(f)ri(//)", "1 1 W1 no name header"])
+        self.assertEqual(
+            written.getvalue().split("\n")[:3], ["%%", "Ky(f)ri(//)", "1 1 W1 no name header"]
+        )
 
     @unittest.skipUnless(has("pathspec"), "there is no pathspec")
     def test_find(self) -> None:
@@ -94,25 +146,36 @@ class Scores(InFolder):
         for line in block("docs/OBJECTS.md", "test: find").splitlines():
             name, *words = shlex.split(line)
             found = command(*words, "--quiet")
-            self.assertEqual((name, found.returncode, found.stderr), ("gregorio-chant", 0, b""), line)
+            self.assertEqual(
+                (name, found.returncode, found.stderr), ("gregorio-chant", 0, b""), line
+            )
             self.assertIn(b"scores/a.gabc", found.stdout, line)
 
     def test_silenced(self) -> None:
         """The comments of the page silence what is reported without them."""
         first, second = block("docs/PYTHON.md", "test: ignore").splitlines()
         score = f"name: a;\n{second}\n(c4) <i>a</b>(f)\n{first}\n"
-        codes = [re.findall(rb" ([EWF]\d+): ", command("check", "--output-format", "lines", "-", data=it.encode()).stdout) for it in (score, score.replace("%% %", "%%").replace("ignore", ""))]
+        codes = [
+            re.findall(
+                rb" ([EWF]\d+): ",
+                command("check", "--output-format", "lines", "-", data=it.encode()).stdout,
+            )
+            for it in (score, score.replace("%% %", "%%").replace("ignore", ""))
+        ]
         self.assertEqual([sorted(set(it)) for it in codes], [[], [b"W3", b"W6"]])
 
     def test_what_stays(self) -> None:
         self.put("a.gabc", "name: a;\n%%\n(c4) abcdef</b>(f)\nKy(f)  % c\n")
         ran = command("format", "--canonical", "--quiet", "a.gabc")
-        self.assertEqual((ran.returncode, ran.stderr.decode()), (1, block("docs/PYTHON.md", "test: canonical")))
+        self.assertEqual(
+            (ran.returncode, ran.stderr.decode()), (1, block("docs/PYTHON.md", "test: canonical"))
+        )
 
 
 class Lists(unittest.TestCase):
     def test_tools(self) -> None:
-        """Each script of CONTRIBUTING.md is there and has the options that the list says, and the list has each."""
+        """Each script of CONTRIBUTING.md is there and has the options that the list says, and the
+        list has each."""
         named: dict[str, str] = {}
         name = ""
         for line in block("CONTRIBUTING.md", "test: tools").splitlines():
@@ -122,24 +185,44 @@ class Lists(unittest.TestCase):
             if name != "rt":
                 self.assertTrue(os.access(ROOT / name, os.X_OK), name)
                 text = (ROOT / name).read_text(encoding="utf-8")
-                self.assertEqual([it for it in re.findall(r"--[a-z][a-z-]+", lines) if it not in text], [], name)
-        scripts = {f"tools/{it.name}" for it in (ROOT / "tools").iterdir() if it.is_file() and os.access(it, os.X_OK)}
+                self.assertEqual(
+                    [it for it in re.findall(r"--[a-z][a-z-]+", lines) if it not in text], [], name
+                )
+        scripts = {
+            f"tools/{it.name}"
+            for it in (ROOT / "tools").iterdir()
+            if it.is_file() and os.access(it, os.X_OK)
+        }
         self.assertEqual(scripts - set(named), set())
 
     def test_types(self) -> None:
-        """In the picture of docs/CODE.md each type is named where the one that it stands in is declared."""
-        sources = [it.read_text(encoding="utf-8") for it in sorted((ROOT / "crates").glob("*/src/*.rt"))]
+        """In the picture of docs/CODE.md each type is named where the one that it stands in is
+        declared."""
+        sources = [
+            it.read_text(encoding="utf-8") for it in sorted((ROOT / "crates").glob("*/src/*.rt"))
+        ]
         above: list[str] = []
         for line in block("docs/CODE.md", "test: types").splitlines():
             depth = (len(line) - len(line.lstrip())) // 4
             name = line.split()[0]
-            declared = [it for it in sources if re.search(rf"^pub(?:\(crate\))? struct {name}\b", it, re.MULTILINE)]
+            declared = [
+                it
+                for it in sources
+                if re.search(rf"^pub(?:\(crate\))? struct {name}\b", it, re.MULTILINE)
+            ]
             self.assertEqual(len(declared), 1, name)
             self.assertTrue(not depth or re.search(rf"\b{name}\b", above[depth - 1]), line)
             above[depth:] = declared
 
     def test_folders(self) -> None:
-        """The list of docs/CODE.md has each folder of crates with code or proofs, and the files of wrong bodies."""
+        """The list of docs/CODE.md has each folder of crates with code or proofs, and the files of
+        wrong bodies."""
         named = {line.split()[0] for line in block("docs/CODE.md", "test: folders").splitlines()}
-        there = {f"{it.name}/" for it in (ROOT / "crates").glob("*/*") if it.is_dir()} | {f"specs/{it.name}/" for it in (ROOT / "crates").glob("*/specs/*") if it.is_dir()}
-        self.assertEqual(named, there - {"data/", "out/"} | {it.name for it in (ROOT / "crates").glob("*/wrong_bodies.*")})
+        there = {f"{it.name}/" for it in (ROOT / "crates").glob("*/*") if it.is_dir()} | {
+            f"specs/{it.name}/" for it in (ROOT / "crates").glob("*/specs/*") if it.is_dir()
+        }
+        self.assertEqual(
+            named,
+            there - {"data/", "out/"}
+            | {it.name for it in (ROOT / "crates").glob("*/wrong_bodies.*")},
+        )

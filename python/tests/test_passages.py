@@ -3,8 +3,9 @@ from __future__ import annotations
 
 import unittest
 
-from gregorio_chant.dump import Bar, Note, Score, ScoreError
 from support import EXAMPLES, ROOT, scores_of_tables
+
+from gregorio_chant.dump import Bar, Note, Score, ScoreError
 
 
 class Everywhere(unittest.TestCase):
@@ -23,14 +24,20 @@ class Everywhere(unittest.TestCase):
         ends = [it.bar for it in score.phrases if it.bar]
         self.assertEqual(ends, [it for it in bars if it in ends])
         for phrase in score.phrases:
-            self.assertEqual([it for it in phrase.items if isinstance(it, Bar)], [phrase.bar] if phrase.bar else [])
+            self.assertEqual(
+                [it for it in phrase.items if isinstance(it, Bar)],
+                [phrase.bar] if phrase.bar else [],
+            )
             for syllable in phrase.syllables:
                 if syllable.notes:
                     self.assertIn(syllable.notes[0], phrase.notes)
 
     def test_scores(self) -> None:
         tried = 0
-        for data in [*(it.read_bytes() for it in sorted(ROOT.glob("examples/*.gabc"))), *scores_of_tables()]:
+        for data in [
+            *(it.read_bytes() for it in sorted(ROOT.glob("examples/*.gabc"))),
+            *scores_of_tables(),
+        ]:
             try:
                 score = Score.parse(data)
             except ScoreError:
@@ -43,21 +50,44 @@ class Everywhere(unittest.TestCase):
 
 class ByHand(unittest.TestCase):
     def test_words(self) -> None:
-        score = Score.parse("%%\n(c4) <i>Ký</i>(f)ri(gfg)e,(,) *(;) e{l}é(h)i(g)son.(f) <sp>V/</sp>(::)")
+        score = Score.parse(
+            "%%\n(c4) <i>Ký</i>(f)ri(gfg)e,(,) *(;) e{l}é(h)i(g)son.(f) <sp>V/</sp>(::)"
+        )
         self.assertEqual([it.text for it in score.words], ["Kýrie,", "eléison."])
         first = score.words[0]
-        self.assertEqual((len(first.syllables), "".join(it.pitch for it in first.notes), [it.kind for it in first.glyphs]), (3, "fgfg", ["punctum", "porrectus"]))
+        self.assertEqual(
+            (
+                len(first.syllables),
+                "".join(it.pitch for it in first.notes),
+                [it.kind for it in first.glyphs],
+            ),
+            (3, "fgfg", ["punctum", "porrectus"]),
+        )
         self.assertEqual((str(first.source), first.source.spelling), ("2:6", "<i>Ký</i>(f)"))
 
     def test_phrases(self) -> None:
         score = Score.parse("%%\n(c4) a(f) b(g,h) *(,) c(`i) (;) (;) d(j) (::) e()")
-        found = [(it.text, "".join(note.pitch for note in it.notes), it.bar.name if it.bar else None) for it in score.phrases]
-        self.assertEqual(found, [
-            ("a b", "fg", "minima"), ("*", "h", "minima"), ("c", "i", "minor"), ("d", "j", "finalis"), ("e", "", None),
-        ])
+        found = [
+            (it.text, "".join(note.pitch for note in it.notes), it.bar.name if it.bar else None)
+            for it in score.phrases
+        ]
+        self.assertEqual(
+            found,
+            [
+                ("a b", "fg", "minima"),
+                ("*", "h", "minima"),
+                ("c", "i", "minor"),
+                ("d", "j", "finalis"),
+                ("e", "", None),
+            ],
+        )
         self.assertEqual([it.text for it in score.phrases_at("minor")], ["a b * c", "d e"])
-        self.assertEqual([[word.text for word in it.words] for it in score.verses], [["a", "b", "c", "d"], ["e"]])
-        self.assertEqual([str(it.source) for it in score.phrases], ["2:1", "2:18", "2:23", "2:37", "2:47"])
+        self.assertEqual(
+            [[word.text for word in it.words] for it in score.verses], [["a", "b", "c", "d"], ["e"]]
+        )
+        self.assertEqual(
+            [str(it.source) for it in score.phrases], ["2:1", "2:18", "2:23", "2:37", "2:47"]
+        )
 
     def test_verses(self) -> None:
         verses = Score.parse((EXAMPLES / "hymn-verses.gabc").read_bytes()).verses

@@ -1,4 +1,5 @@
-"""Tries patterns of paths beside those of `pathspec`, each matched by itself, and what a stranger's patterns cost."""
+"""Tries patterns of paths beside those of `pathspec`, each matched by itself, and what a stranger's
+patterns cost."""
 from __future__ import annotations
 
 import os
@@ -7,15 +8,43 @@ import unittest
 
 from hypothesis import given, settings
 from hypothesis import strategies as st
+from support import FAULTY, InFolder, command, has
 
 from gregorio_chant.work.patterns import MOST, NoPattern, Patterns
 from gregorio_chant.work.settings import NAME
-from support import FAULTY, InFolder, command, has
 
-_WORDS = ("a", "b", "ab", "a.b", "*", "*", "**", "/", "?", "[ab]", "!", "\\*", " ", "#", "\u00e9", "\U0001d11e", "\n", "\r", "\u2028")
-_LINES = st.lists(st.lists(st.sampled_from(_WORDS), min_size=1, max_size=6).map("".join), max_size=3)
-_NAME = st.lists(st.sampled_from(("a", "b", "c", ".", " ", "*", "\u00e9", "\U0001d11e", "\n", "\r", "\u2028")), min_size=1, max_size=7).map("".join)
-_PATHS = st.builds("{}{}".format, st.lists(_NAME, min_size=1, max_size=4).map("/".join), st.sampled_from(("", "/")))
+_WORDS = (
+    "a",
+    "b",
+    "ab",
+    "a.b",
+    "*",
+    "*",
+    "**",
+    "/",
+    "?",
+    "[ab]",
+    "!",
+    "\\*",
+    " ",
+    "#",
+    "\u00e9",
+    "\U0001d11e",
+    "\n",
+    "\r",
+    "\u2028",
+)
+_LINES = st.lists(
+    st.lists(st.sampled_from(_WORDS), min_size=1, max_size=6).map("".join), max_size=3
+)
+_NAME = st.lists(
+    st.sampled_from(("a", "b", "c", ".", " ", "*", "\u00e9", "\U0001d11e", "\n", "\r", "\u2028")),
+    min_size=1,
+    max_size=7,
+).map("".join)
+_PATHS = st.builds(
+    "{}{}".format, st.lists(_NAME, min_size=1, max_size=4).map("/".join), st.sampled_from(("", "/"))
+)
 
 
 @unittest.skipUnless(has("pathspec"), "there is no pathspec")
@@ -24,6 +53,7 @@ class Alike(unittest.TestCase):
     @given(_LINES, st.lists(_PATHS, min_size=1, max_size=5))
     def test_beside_pathspec(self, lines: list[str], paths: list[str]) -> None:
         from pathspec.patterns.gitwildmatch import GitWildMatchPattern
+
         try:
             patterns = Patterns(lines)
         except NoPattern:
@@ -38,7 +68,14 @@ class Alike(unittest.TestCase):
 
     def test_what_is_taken_back(self) -> None:
         patterns = Patterns(("drafts/", "!drafts/kept.gabc", "*.old", "!kept.old"))
-        self.assertEqual([it for it in ("drafts/kept.gabc", "a/x.old", "a/kept.old", "b", "a\nb.old") if patterns.has(it)], ["drafts/kept.gabc", "a/x.old", "a\nb.old"])
+        self.assertEqual(
+            [
+                it
+                for it in ("drafts/kept.gabc", "a/x.old", "a/kept.old", "b", "a\nb.old")
+                if patterns.has(it)
+            ],
+            ["drafts/kept.gabc", "a/x.old", "a\nb.old"],
+        )
 
 
 @unittest.skipUnless(has("pathspec"), "there is no pathspec")
@@ -55,26 +92,43 @@ class Strangers(InFolder):
         self.put("s/a.gabc", FAULTY)
         self.put(f"s/{'a' * 60}.gabc", FAULTY)
         lists = {
-            "*a" * 8 + "b\n*?" + "*[ab]" * 6 + "c\n": [""], "x\n\n" + "*a" * 9: ["cannot read s/.gitignore: line 3: a pattern has at most 8 * and 2 **"],
-            "**/" * 3 + "x": ["cannot read s/.gitignore: line 1: a pattern has at most 8 * and 2 **"],
-            "# c\n" + "x\n" * (MOST + 1): [f"cannot read s/.gitignore: line {MOST + 2}: there are at most 5,000 patterns, with those of the folders above"],
+            "*a" * 8 + "b\n*?" + "*[ab]" * 6 + "c\n": [""],
+            "x\n\n"
+            + "*a" * 9: ["cannot read s/.gitignore: line 3: a pattern has at most 8 * and 2 **"],
+            "**/" * 3
+            + "x": ["cannot read s/.gitignore: line 1: a pattern has at most 8 * and 2 **"],
+            "# c\n"
+            + "x\n"
+            * (MOST + 1): [
+                f"cannot read s/.gitignore: line {MOST + 2}: there are at most 5,000 patterns, with those of the folders above"
+            ],
             "x" * (1 << 18) + "y": ["cannot read s/.gitignore: it is longer than 262,144 bytes"],
         }
         for text, told in lists.items():
             self.put("s/.gitignore", text)
-            self.assertEqual(self.refused("s"), [f"gregorio-chant: {it}" if it else "" for it in told])
+            self.assertEqual(
+                self.refused("s"), [f"gregorio-chant: {it}" if it else "" for it in told]
+            )
         os.unlink("s/.gitignore")
         os.symlink("/dev/zero", "s/.gitignore")
-        self.assertEqual(self.refused("s"), ["gregorio-chant: cannot read s/.gitignore: Too many levels of symbolic links"])
+        self.assertEqual(
+            self.refused("s"),
+            ["gregorio-chant: cannot read s/.gitignore: Too many levels of symbolic links"],
+        )
         os.unlink("s/.gitignore")
         os.mkfifo("s/.gitignore")
-        self.assertEqual(self.refused("s"), ["gregorio-chant: cannot read s/.gitignore: it is no plain file"])
+        self.assertEqual(
+            self.refused("s"), ["gregorio-chant: cannot read s/.gitignore: it is no plain file"]
+        )
 
     def test_deep_folders(self) -> None:
         self.put("s/" + "d/" * 100 + "a.gabc", FAULTY)
         self.assertEqual(self.refused("s"), [""])
         self.put("s/" + "d/" * 101 + "b.gabc", FAULTY)
-        self.assertEqual(self.refused("s"), [f"gregorio-chant: cannot read s/{'d/' * 100}d: it lies more than 100 folders deep"])
+        self.assertEqual(
+            self.refused("s"),
+            [f"gregorio-chant: cannot read s/{'d/' * 100}d: it lies more than 100 folders deep"],
+        )
 
     def test_settings(self) -> None:
         self.put("a.gabc", FAULTY)
@@ -82,14 +136,20 @@ class Strangers(InFolder):
             ".".join("a" * 20_000) + " = 1": ":1: a key has at most 8 dots",
             "rules = true\n[" + " . ".join(["'a'"] * 9_000) + "]": ":2: a key has at most 8 dots",
             'a = """\n.........\n"""\nx.' + "y." * 8 + "z = 1": ":4: a key has at most 8 dots",
-            "exclude = ['" + "*a" * 9 + "']": f":1: exclude: {'*a' * 9}: a pattern has at most 8 * and 2 **",
-            "exclude = [" + "'x'," * (MOST + 1) + "]": ":1: exclude: there are at most 5,000 patterns",
+            "exclude = ['"
+            + "*a" * 9
+            + "']": f":1: exclude: {'*a' * 9}: a pattern has at most 8 * and 2 **",
+            "exclude = ["
+            + "'x'," * (MOST + 1)
+            + "]": ":1: exclude: there are at most 5,000 patterns",
             "exclude = ['!']": ":1: exclude: !: this is no pattern",
             "[per-file-ignores]\n'!a' = ['W3']": ":2: !a: a pattern of files in which codes are ignored takes nothing back",
         }
         for text, told in files.items():
             self.put(NAME, text)
-            self.assertEqual(self.refused("a.gabc"), [f"gregorio-chant: {self.room.resolve()}/{NAME}{told}"])
+            self.assertEqual(
+                self.refused("a.gabc"), [f"gregorio-chant: {self.room.resolve()}/{NAME}{told}"]
+            )
         self.put(NAME, "exclude = ['a.b.c.d.e.f.g.h.i.j.k']  # a.b.c.d.e.f.g.h.i.j.k\n")
         self.assertEqual(self.refused("a.gabc"), [""])
 
@@ -98,18 +158,34 @@ class Strangers(InFolder):
         for kind in ("x{:04}", "*.x{:04}", "*x{:04}*", "/d{}/*.old{}.gabc"):
             begin = time.process_time()
             patterns = Patterns(kind.format(it, it) for it in range(MOST))
-            self.assertEqual([it for it in range(10_000) if patterns.has(f"s/aa{it // 50}/score{it}.gabc")], [])
+            self.assertEqual(
+                [it for it in range(10_000) if patterns.has(f"s/aa{it // 50}/score{it}.gabc")], []
+            )
             self.assertLess(time.process_time() - begin, 5)
-            self.assertEqual(patterns.verdict(kind.replace("*", "q").lstrip("/").format(77, 77)), True)
+            self.assertEqual(
+                patterns.verdict(kind.replace("*", "q").lstrip("/").format(77, 77)), True
+            )
 
     def test_one_language(self) -> None:
         """Settings and `--exclude` leave out the same."""
         for name in ("drafts/a.gabc", "s/drafts/b.gabc", "s/c.old.gabc", "d.gabc", "x/y/e.gabc"):
             self.put(name, FAULTY)
-        for pattern in ("/drafts", "**/drafts", "drafts/", "*.old.gabc", "x/*.gabc", "x/**", "s/*/b.gabc", "[cd]*", "drafts/a.gabc"):
+        for pattern in (
+            "/drafts",
+            "**/drafts",
+            "drafts/",
+            "*.old.gabc",
+            "x/*.gabc",
+            "x/**",
+            "s/*/b.gabc",
+            "[cd]*",
+            "drafts/a.gabc",
+        ):
             self.put(NAME, f"exclude = ['{pattern}']\n")
             by_settings = command("check", "--output-format", "lines", ".").stdout
-            by_word = command("check", "--output-format", "lines", "--no-config", "--exclude", pattern, ".").stdout
+            by_word = command(
+                "check", "--output-format", "lines", "--no-config", "--exclude", pattern, "."
+            ).stdout
             self.assertEqual(by_settings, by_word, pattern)
 
 

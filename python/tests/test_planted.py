@@ -1,8 +1,10 @@
-"""Plants each slip into scores at many places, and repairs them. The judge is the score before the slip was planted.
+"""Plants each slip into scores at many places, and repairs them. The judge is the score before the
+slip was planted.
 
-After safe repairs its notes and its sung text are back, or each place that was told is still told. After guesses they are no further from it than the
-slip was. Whatever was repaired, a second run changes nothing. With GREGORIO_SLIPS=N each slip is planted at N places of each score, and not at one of
-some; GREGORIO_FOLDER names a folder of more scores.
+After safe repairs its notes and its sung text are back, or each place that was told is still told.
+After guesses they are no further from it than the slip was. Whatever was repaired, a second run
+changes nothing. With GREGORIO_SLIPS=N each slip is planted at N places of each score, and not at
+one of some; GREGORIO_FOLDER names a folder of more scores.
 """
 from __future__ import annotations
 
@@ -15,12 +17,13 @@ from dataclasses import dataclass
 from functools import cached_property
 from itertools import islice
 
-from gregorio_chant import Format, Status, compile
-from gregorio_chant.linting.checking import check_data
-from gregorio_chant.dump import Score
-from gregorio_chant.linting.repairing import How, repair
 from slips import SLIPS, Slip
 from support import files_of_scores
+
+from gregorio_chant import Format, Status, compile
+from gregorio_chant.dump import Score
+from gregorio_chant.linting.checking import check_data
+from gregorio_chant.linting.repairing import How, repair
 
 _SAFE, _ALL = How(with_rules=True), How(allow_unsafe=True, with_rules=True)
 _PLACES = int(os.environ.get("GREGORIO_SLIPS", "0"))
@@ -32,7 +35,8 @@ _SCORES = 2
 
 @dataclass(frozen=True)
 class Read:
-    """What the compiler reads of a score: its headers, and of each syllable the letters that are sung, and its notes."""
+    """What the compiler reads of a score: its headers, and of each syllable the letters that are
+    sung, and its notes."""
 
     text: str
 
@@ -44,7 +48,9 @@ class Read:
         score = Score.read(result.output)
         headers = "".join(f"{it.name}:{it.value}\n" for it in score.headers)
         return headers + "".join(
-            "".join(c for c in it.plain if c.isalnum()) + "".join(f"({snippet.spelling})" for snippet in it.snippets) for it in score.syllables
+            "".join(c for c in it.plain if c.isalnum())
+            + "".join(f"({snippet.spelling})" for snippet in it.snippets)
+            for it in score.syllables
         )
 
     @cached_property
@@ -53,7 +59,8 @@ class Read:
 
 
 def distance(old: str, new: str, most: int) -> int:
-    """Returns how many characters are inserted, deleted or replaced between two texts, or `most` and one if there are more."""
+    """Returns how many characters are inserted, deleted or replaced between two texts, or `most`
+    and one if there are more."""
     begin = len(os.path.commonprefix([old, new]))
     old, new = old[begin:], new[begin:]
     end = len(os.path.commonprefix([old[::-1], new[::-1]]))
@@ -64,7 +71,11 @@ def distance(old: str, new: str, most: int) -> int:
     for number, it in enumerate(old, 1):
         below: dict[int, int] = {}
         for at in range(max(0, number - most), min(len(new), number + most) + 1):
-            below[at] = min(row.get(at, most) + 1, below.get(at - 1, most) + 1, row.get(at - 1, most + 1) + (at == 0 or it != new[at - 1]))
+            below[at] = min(
+                row.get(at, most) + 1,
+                below.get(at - 1, most) + 1,
+                row.get(at - 1, most + 1) + (at == 0 or it != new[at - 1]),
+            )
         row = below
     return min(row.get(len(new), most + 1), most + 1)
 
@@ -72,7 +83,9 @@ def distance(old: str, new: str, most: int) -> int:
 def moved(old: str, new: str, line: int, column: int) -> tuple[int, int]:
     """Returns where what stood at a place stands after a repair that keeps the lines."""
     before, after = old.split("\n")[line - 1], new.split("\n")[line - 1]
-    for kind, begin, end, new_begin, _ in difflib.SequenceMatcher(None, before, after, False).get_opcodes():
+    for kind, begin, end, new_begin, _ in difflib.SequenceMatcher(
+        None, before, after, False
+    ).get_opcodes():
         if kind == "equal" and begin <= column - 1 <= end:
             return line, new_begin + column - begin
     return line, column
@@ -84,7 +97,10 @@ def fault_of(score: Read, slip: str) -> str | None:
     safe = Read(repair(slip.encode(), _SAFE).data.decode())
     if safe.text != slip and safe.parts != score.parts:
         still = set(safe.told)
-        if not all((code, *moved(slip, safe.text, line, column)) in still for code, line, column in planted.told):
+        if not all(
+            (code, *moved(slip, safe.text, line, column)) in still
+            for code, line, column in planted.told
+        ):
             return "a message goes, and the slip stays"
     guessed = Read(repair(slip.encode(), _ALL).data.decode())
     if guessed.text != slip:
@@ -113,7 +129,12 @@ def places(slip: Slip, score: Read, most: int) -> Iterator[str]:
 class Planted(unittest.TestCase):
     def test_distance(self) -> None:
         for old, new, most, wanted in (
-            ("kitten", "sitting", 9, 3), ("kitten", "sitting", 2, 3), ("ab", "ab", 1, 0), ("", "abc", 9, 3), ("abc", "", 2, 3), ("abcd", "bcde", 4, 2),
+            ("kitten", "sitting", 9, 3),
+            ("kitten", "sitting", 2, 3),
+            ("ab", "ab", 1, 0),
+            ("", "abc", 9, 3),
+            ("abc", "", 2, 3),
+            ("abcd", "bcde", 4, 2),
         ):
             self.assertEqual(distance(old, new, most), wanted)
 

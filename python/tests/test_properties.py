@@ -1,4 +1,5 @@
-"""Tries modules over texts that hypothesis makes, with all line ends, marks, half characters and what a terminal obeys."""
+"""Tries modules over texts that hypothesis makes, with all line ends, marks, half characters and
+what a terminal obeys."""
 from __future__ import annotations
 
 import io
@@ -10,22 +11,69 @@ from pathlib import Path
 from hypothesis import given, settings
 from hypothesis import strategies as st
 
-from gregorio_chant.work.files import Content, Reader, read, replace, write
 from gregorio_chant.format.formatting import difference
+from gregorio_chant.report.terminal import window
 from gregorio_chant.server.text import Text
 from gregorio_chant.server.wire import Unreadable, Wire
-from gregorio_chant.work.settings import NAME, Finder, SettingsError
 from gregorio_chant.text.source import Lines, text_of
+from gregorio_chant.work.files import Content, Reader, read, replace, write
+from gregorio_chant.work.settings import NAME, Finder, SettingsError
 from gregorio_chant.work.streams import printable, printable_lines
-from gregorio_chant.report.terminal import window
 
 _CASES = settings(max_examples=10_000 if os.environ.get("GREGORIO_LONG") else 150, deadline=None)
-_PARTS = st.sampled_from((
-    "a", "(", "\r", "\r\n", "\n", "\u0085", "\u2028", "\0", "\ufeff", "\U0001d11e", "a\u0301", "\x1b[31m", "\u202e", "\t", "\udcff", "\ud834", "\u00a0", "%% ", "name: a;",
-))
+_PARTS = st.sampled_from(
+    (
+        "a",
+        "(",
+        "\r",
+        "\r\n",
+        "\n",
+        "\u0085",
+        "\u2028",
+        "\0",
+        "\ufeff",
+        "\U0001d11e",
+        "a\u0301",
+        "\x1b[31m",
+        "\u202e",
+        "\t",
+        "\udcff",
+        "\ud834",
+        "\u00a0",
+        "%% ",
+        "name: a;",
+    )
+)
 _TEXTS = st.one_of(st.lists(_PARTS, max_size=12).map("".join), st.text(max_size=20))
 _BYTES = _TEXTS.map(lambda it: it.encode("utf-8", "surrogatepass"))
-_TOML = st.lists(st.sampled_from(("select", "exclude", "[", "]", "=", '"', "'", "a", ".", "\n", "W3", ",", "{", "}", "#", "\\", '"""', "format", "wrap", "1", " ")), max_size=20).map("".join)
+_TOML = st.lists(
+    st.sampled_from(
+        (
+            "select",
+            "exclude",
+            "[",
+            "]",
+            "=",
+            '"',
+            "'",
+            "a",
+            ".",
+            "\n",
+            "W3",
+            ",",
+            "{",
+            "}",
+            "#",
+            "\\",
+            '"""',
+            "format",
+            "wrap",
+            "1",
+            " ",
+        )
+    ),
+    max_size=20,
+).map("".join)
 
 
 class Streams(unittest.TestCase):
@@ -78,10 +126,30 @@ class Places(unittest.TestCase):
 
 class Ends(unittest.TestCase):
     @_CASES
-    @given(st.lists(st.one_of(_BYTES, st.sampled_from((b"Content-Length: 2\r\n\r\n{}", b"Content-Length: 9\r\n\r\n", b"\r\n", b"Content-Type: a\r\n"))), max_size=8))
+    @given(
+        st.lists(
+            st.one_of(
+                _BYTES,
+                st.sampled_from(
+                    (
+                        b"Content-Length: 2\r\n\r\n{}",
+                        b"Content-Length: 9\r\n\r\n",
+                        b"\r\n",
+                        b"Content-Type: a\r\n",
+                    )
+                ),
+            ),
+            max_size=8,
+        )
+    )
     def test_wire(self, pieces: list[bytes]) -> None:
         """Whatever comes, what follows is read."""
-        came = list(Wire(io.BytesIO(b"".join(pieces) + b"\n" * 12 + b"Content-Length: 4\r\n\r\ntrue"), io.BytesIO()).messages())
+        came = list(
+            Wire(
+                io.BytesIO(b"".join(pieces) + b"\n" * 12 + b"Content-Length: 4\r\n\r\ntrue"),
+                io.BytesIO(),
+            ).messages()
+        )
         self.assertTrue(came[-1] is True or isinstance(came[-1], Unreadable), came)
 
     @_CASES

@@ -5,14 +5,19 @@ import json
 import unittest
 from pathlib import Path
 
+from support import EXAMPLES, InFolder, command, scores_of_tables
+
 from gregorio_chant import Kind, Status, compile
 from gregorio_chant.linting.rules import RULES, messages_with_rules
-from support import EXAMPLES, InFolder, command, scores_of_tables
 
 
 def found(score: str, name: str) -> list[tuple[int, int, str]]:
     """Returns the places and texts of what a rule finds."""
-    return [(it.line, it.column, it.text) for it in messages_with_rules(score.encode()) if it.code == name]
+    return [
+        (it.line, it.column, it.text)
+        for it in messages_with_rules(score.encode())
+        if it.code == name
+    ]
 
 
 class Rules(unittest.TestCase):
@@ -21,10 +26,14 @@ class Rules(unittest.TestCase):
         for lines, highest, over in (("2", "i", "j"), ("3", "k", "l"), ("4", "m", "n")):
             score = f"name: a; % b\nstaff-lines:{lines};\n%%\n(c1)  a ({highest}x{highest}5{over}) ({over}+) ({over}#)\n"
             text = told.format(over, lines, highest)
-            self.assertEqual(found(score, "outside-staff"), [(4, 13, text), (4, 18, text), (4, 23, text)])
+            self.assertEqual(
+                found(score, "outside-staff"), [(4, 13, text), (4, 18, text), (4, 23, text)]
+            )
         self.assertEqual(found("staff-lines: 5;\n%%\n(c1) (p)", "outside-staff"), [])
         self.assertEqual(found("staff-lines: x;\n%%\n(c1) (p)", "outside-staff"), [])
-        self.assertEqual(found("%%\n(c1) (nz0a)", "outside-staff"), [(2, 7, told.format("n", "4", "m"))])
+        self.assertEqual(
+            found("%%\n(c1) (nz0a)", "outside-staff"), [(2, 7, told.format("n", "4", "m"))]
+        )
 
     def test_bracket_in_attribute(self) -> None:
         score = "%%\n(c4) a(f[cs:x)b(g]h)  c (f/[(]g [a])[d)](f)"
@@ -33,22 +42,42 @@ class Rules(unittest.TestCase):
     def test_nabc_without_header(self) -> None:
         body = "%%\n(c4) a(f&|vi) b(gh)\nc(f[|]|pe!clsu2|) d(f)"
         messages = messages_with_rules(f"name: a;\n{body}".encode())
-        self.assertEqual([(it.line, it.column, it.code) for it in messages if it.code != "outside-staff"], [(3, 9, "E1"), (3, 10, "nabc-without-header")])
+        self.assertEqual(
+            [(it.line, it.column, it.code) for it in messages if it.code != "outside-staff"],
+            [(3, 9, "E1"), (3, 10, "nabc-without-header")],
+        )
         self.assertIn("in the notes of 2 syllables", messages[1].text)
-        self.assertIn("in the notes of 1 syllable,", found("%%\n(c4) Ky(f|pu)", "nabc-without-header")[0][2])
+        self.assertIn(
+            "in the notes of 1 syllable,", found("%%\n(c4) Ky(f|pu)", "nabc-without-header")[0][2]
+        )
         self.assertGreater(len(compile(f"name: a;\n{body}").messages), 4)
         self.assertEqual(found(f"nabc-lines: 1;\n{body}", "nabc-without-header"), [])
         self.assertEqual(len(found(f"nabc-lines: 0;\n{body}", "nabc-without-header")), 1)
 
     def test_comment(self) -> None:
         score = "% a\nname: b%c\n;; % d\n%% e\n(c4%f\n) $%g(f[%]) <v>%</v>(h%i)\n)[%]%j"
-        self.assertEqual([it[:2] for it in found(score, "comment")], [(1, 1), (3, 4), (4, 4), (5, 4), (6, 23), (7, 5)])
+        self.assertEqual(
+            [it[:2] for it in found(score, "comment")],
+            [(1, 1), (3, 4), (4, 4), (5, 4), (6, 23), (7, 5)],
+        )
 
     def test_asterisk_without_bar(self) -> None:
         for notes, is_well in (
-            ("*(;)", True), ("*() (;)", True), ("*() (z0::c3)", True), ("a*(f) (,)", True), ("<i>*</i>(`)", True), ("**(f,)", True),
-            ("*()", True), ("*() b(g) c(h) (,)", True), ("*() b(g)c(h) (::)", True), ("*() b(g) d(;)", True), ("*() (g;)", True),
-            ("*() b(g)c(h) (;)", False), ("*(f) b(g) (,)", False), ("a(f) <b>b*</b>(g) c(,)(,)", True), ("<sp>*</sp>() d(g) (;)", False),
+            ("*(;)", True),
+            ("*() (;)", True),
+            ("*() (z0::c3)", True),
+            ("a*(f) (,)", True),
+            ("<i>*</i>(`)", True),
+            ("**(f,)", True),
+            ("*()", True),
+            ("*() b(g) c(h) (,)", True),
+            ("*() b(g)c(h) (::)", True),
+            ("*() b(g) d(;)", True),
+            ("*() (g;)", True),
+            ("*() b(g)c(h) (;)", False),
+            ("*(f) b(g) (,)", False),
+            ("a(f) <b>b*</b>(g) c(,)(,)", True),
+            ("<sp>*</sp>() d(g) (;)", False),
         ):
             score = f"name: a;\n%%\n(c4)  {notes}   c(f)"
             places = [it[:2] for it in found(score, "asterisk-without-bar")]
@@ -61,19 +90,39 @@ class Rules(unittest.TestCase):
         self.assertEqual(found(score.replace("lines: 3", "lines: x"), "clef-off-staff"), [])
 
     def test_unknown_mode(self) -> None:
-        for mode, is_well in (("9", False), ("0", False), ("12", False), ("10t", False), ("8", True), ("6t", True), ("n", True), ("", True), ("1*", True)):
-            places = [it[:2] for it in found(f"name: a;\nmode: 9;\n mode:{mode};\n%%\n(c4)\n", "unknown-mode")]
+        for mode, is_well in (
+            ("9", False),
+            ("0", False),
+            ("12", False),
+            ("10t", False),
+            ("8", True),
+            ("6t", True),
+            ("n", True),
+            ("", True),
+            ("1*", True),
+        ):
+            places = [
+                it[:2]
+                for it in found(f"name: a;\nmode: 9;\n mode:{mode};\n%%\n(c4)\n", "unknown-mode")
+            ]
             self.assertEqual(places, [] if is_well else [(3, 1)], mode)
 
     def test_blank_before_notes(self) -> None:
         score = "name: a;\n%%\n(c4) a (f)b  (g) c(h) (;) <eu> (::) <i>d</i>\n(f) e % f\n(g) $( (h) [a b] (i) g"
-        self.assertEqual([it[:2] for it in found(score, "blank-before-notes")], [(3, 7), (3, 12), (3, 45), (5, 7), (5, 17)])
+        self.assertEqual(
+            [it[:2] for it in found(score, "blank-before-notes")],
+            [(3, 7), (3, 12), (3, 45), (5, 7), (5, 17)],
+        )
 
     def test_lone_capital(self) -> None:
         score = "name: a;\n%%\n(c4) a(F) b(fG) c(hGF) d(fgF) e(G~) f(gH) (;) (i) (I) (i)\n"
-        self.assertEqual([it[:2] for it in found(score, "lone-capital")], [(3, 8), (3, 14), (3, 40), (3, 52)])
+        self.assertEqual(
+            [it[:2] for it in found(score, "lone-capital")], [(3, 8), (3, 14), (3, 40), (3, 52)]
+        )
         for sign in "~<>012":
-            self.assertEqual(found(f"name: a;\n%%\n(c4) Ky(f)ri(G{sign})e(h)", "lone-capital"), [], sign)
+            self.assertEqual(
+                found(f"name: a;\n%%\n(c4) Ky(f)ri(G{sign})e(h)", "lone-capital"), [], sign
+            )
         self.assertEqual(found("name: a;\n%%\n(c4) a(fv) b(gs) c(G) d(h_)", "lone-capital"), [])
 
     def test_unknown_special(self) -> None:
@@ -82,15 +131,30 @@ class Rules(unittest.TestCase):
 
     def test_misspelled_header(self) -> None:
         score = "name: a;\n moed: 1;\nstaff-line: 4;\nlicense: b;\nx: y;\nanotation: c;\ndef-m1: d;\n%%\n(c4) a(f)"
-        self.assertEqual([it[:2] for it in found(score, "misspelled-header")], [(2, 1), (3, 1), (6, 1)])
+        self.assertEqual(
+            [it[:2] for it in found(score, "misspelled-header")], [(2, 1), (3, 1), (6, 1)]
+        )
 
     def test_mode_without_number(self) -> None:
         for mode, is_well in (
-            ("VII", False), ("iv.", False), ("seven", False), ("7", True), ("9", True), ("n", True), ("", True), ("p", True), ("tonus irreg.", True),
+            ("VII", False),
+            ("iv.", False),
+            ("seven", False),
+            ("7", True),
+            ("9", True),
+            ("n", True),
+            ("", True),
+            ("p", True),
+            ("tonus irreg.", True),
         ):
-            places = [it[:2] for it in found(f"name: a;\nmode: {mode};\n%%\n(c4)\n", "mode-without-number")]
+            places = [
+                it[:2]
+                for it in found(f"name: a;\nmode: {mode};\n%%\n(c4)\n", "mode-without-number")
+            ]
             self.assertEqual(places, [] if is_well else [(2, 1)], mode)
-        self.assertIn("write mode: 4;", found("mode: iv.;\n%%\n(c4)\n", "mode-without-number")[0][2])
+        self.assertIn(
+            "write mode: 4;", found("mode: iv.;\n%%\n(c4)\n", "mode-without-number")[0][2]
+        )
 
     def test_punctuation(self) -> None:
         score = "name: a;\n%%\n(c4)  me(f), (;) et(g),(h) a,(f)b(g) c.(f) d(g) 1.(::)e(f) f;()g(f)"
@@ -104,9 +168,13 @@ class Rules(unittest.TestCase):
     def test_words(self) -> None:
         score = "name: a;\n%%\n(c4) A-(e)sp\u00e9r-(f)ges(g) me-(h) -(f)b(g) D&oacute;(f)mi&x;(g)ne&#233;(h) De()us(f) V() *() a()"
         self.assertEqual([it[:2] for it in found(score, "typed-hyphen")], [(3, 6), (3, 11)])
-        self.assertEqual([it[1:] for it in found(score, "html-entity")], [
-            (43, "&oacute; is a name of HTML, and is sung letter for letter: write \u00f3"), (64, "&#233; is a name of HTML, and is sung letter for letter: write \u00e9"),
-        ])
+        self.assertEqual(
+            [it[1:] for it in found(score, "html-entity")],
+            [
+                (43, "&oacute; is a name of HTML, and is sung letter for letter: write \u00f3"),
+                (64, "&#233; is a name of HTML, and is sung letter for letter: write \u00e9"),
+            ],
+        )
         self.assertEqual([it[:2] for it in found(score, "syllable-without-notes")], [(3, 74)])
 
     def test_notes_in_translation(self) -> None:
@@ -115,11 +183,24 @@ class Rules(unittest.TestCase):
 
     def test_unused_alteration(self) -> None:
         for notes, is_well in (
-            ("(ixi)", True), ("(ix)b(i)", True), ("(ixg,i)", False), ("(ixg`i)", True), ("(iix)", False), ("(jxhi)", False), ("(ix)", True),
-            ("(ixiyi)", False), ("(ixg) b(i)", False), ("(ixgc3i)", False),
+            ("(ixi)", True),
+            ("(ix)b(i)", True),
+            ("(ixg,i)", False),
+            ("(ixg`i)", True),
+            ("(iix)", False),
+            ("(jxhi)", False),
+            ("(ix)", True),
+            ("(ixiyi)", False),
+            ("(ixg) b(i)", False),
+            ("(ixgc3i)", False),
         ):
-            self.assertEqual(bool(found(f"name: a;\n%%\n(c4) a{notes}", "unused-alteration")), not is_well, notes)
-        self.assertEqual([it[:2] for it in found("name: a;\n%%\n(c4)   a(hi  ixg)", "unused-alteration")], [(3, 14)])
+            self.assertEqual(
+                bool(found(f"name: a;\n%%\n(c4) a{notes}", "unused-alteration")), not is_well, notes
+            )
+        self.assertEqual(
+            [it[:2] for it in found("name: a;\n%%\n(c4)   a(hi  ixg)", "unused-alteration")],
+            [(3, 14)],
+        )
 
     def test_second_score_line(self) -> None:
         score = "name: a;\n%% a\n(c4) a(f)\n %% b\n%%\nb(g) %% c\n%%d"
@@ -129,13 +210,17 @@ class Rules(unittest.TestCase):
         self.assertEqual(found("name: a;\n%%\n(c4) a(f) (||) b(| |)", "nabc-without-header"), [])
 
     def test_scores_of_the_tables(self) -> None:
-        """Each score of the tables can be tried, whatever stands in it, and its messages come in order, a fatal fault last."""
+        """Each score of the tables can be tried, whatever stands in it, and its messages come in
+        order, a fatal fault last."""
         for score in sorted(set(scores_of_tables())):
             with self.subTest(score):
                 messages = messages_with_rules(score)
                 places = [(it.line, it.column) for it in messages if it.kind is not Kind.FATAL]
                 self.assertEqual(places, sorted(places))
-                self.assertEqual(messages[-1:] != () and messages[-1].kind is Kind.FATAL, compile(score).status is Status.FATAL)
+                self.assertEqual(
+                    messages[-1:] != () and messages[-1].kind is Kind.FATAL,
+                    compile(score).status is Status.FATAL,
+                )
 
     def test_off_unless_asked(self) -> None:
         for score in sorted(EXAMPLES.glob("*.gabc")):
@@ -149,7 +234,15 @@ class Rules(unittest.TestCase):
         messages = messages_with_rules(b"%%\n(c4) <x>a</x>(n&) % b\n*(f) a(g) (;)")
         self.assertEqual(
             [(it.line, it.column, it.code) for it in messages],
-            [(1, 1, "W1"), (2, 6, "W6"), (2, 10, "W6"), (2, 15, "outside-staff"), (2, 16, "E1"), (2, 19, "comment"), (3, 1, "asterisk-without-bar")],
+            [
+                (1, 1, "W1"),
+                (2, 6, "W6"),
+                (2, 10, "W6"),
+                (2, 15, "outside-staff"),
+                (2, 16, "E1"),
+                (2, 19, "comment"),
+                (3, 1, "asterisk-without-bar"),
+            ],
         )
 
 
@@ -159,17 +252,28 @@ class Command(InFolder):
         words = ["check", "--output-format", "lines", "--quiet"]
         self.assertEqual(command(*words, "a.gabc").stdout, b"")
         lines = command(*words, "--rules", "a.gabc").stdout.decode()
-        self.assertEqual([it.split(": ")[1:3] for it in lines.split("\n")[:-1]], [["warning", "outside-staff"]])
+        self.assertEqual(
+            [it.split(": ")[1:3] for it in lines.split("\n")[:-1]], [["warning", "outside-staff"]]
+        )
         lines = command(*words, "--rules", "--select", "comment", "a.gabc").stdout.decode()
-        self.assertEqual([it.split(": ")[1:3] for it in lines.split("\n")[:-1]], [["warning", "comment"]])
+        self.assertEqual(
+            [it.split(": ")[1:3] for it in lines.split("\n")[:-1]], [["warning", "comment"]]
+        )
         self.put("gregorio-chant.toml", "[format]\ncanonical = true\n")
         self.assertIn(b"warning: comment", command(*words, "--rules", "a.gabc").stdout)
-        self.assertNotIn(b"warning: comment", command(*words, "--rules", "--no-config", "a.gabc").stdout)
+        self.assertNotIn(
+            b"warning: comment", command(*words, "--rules", "--no-config", "a.gabc").stdout
+        )
         Path("gregorio-chant.toml").unlink()
-        self.assertEqual(command(*words, "--rules", "--fail-on", "outside-staff", "a.gabc").returncode, 1)
+        self.assertEqual(
+            command(*words, "--rules", "--fail-on", "outside-staff", "a.gabc").returncode, 1
+        )
         self.assertEqual(command(*words, "--rules", "--fail-on", "rules", "a.gabc").returncode, 1)
         self.assertEqual(command(*words, "--rules", "a.gabc").returncode, 0)
         self.assertEqual(command(*words, "--rules", "--ignore", "rules", "a.gabc").stdout, b"")
-        self.assertIn(b"outside-staff", command(*words, "--rules", "--select", "outside-staff", "a.gabc").stdout)
+        self.assertIn(
+            b"outside-staff",
+            command(*words, "--rules", "--select", "outside-staff", "a.gabc").stdout,
+        )
         self.put("b.gabc", "name: a;\n%%\n(c4) a(f|vi)\n")
         self.assertEqual(command(*words, "--rules", "b.gabc").returncode, 1)

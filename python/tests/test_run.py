@@ -1,4 +1,5 @@
-"""Tries runs in pieces: the tables of runs, states that are kept and bent, what is refused, and what memory a step wants."""
+"""Tries runs in pieces: the tables of runs, states that are kept and bent, what is refused, and
+what memory a step wants."""
 from __future__ import annotations
 
 import doctest
@@ -12,9 +13,20 @@ import tracemalloc
 import unittest
 from collections.abc import Callable, Iterable, Iterator
 
-from gregorio_chant import Format, Run, RunOverError, StateError, Status, Step, check, compile, pieces
-from gregorio_chant._native import memory, runs
 from support import EXAMPLES, ROOT, unescaped
+
+from gregorio_chant import (
+    Format,
+    Run,
+    RunOverError,
+    StateError,
+    Status,
+    Step,
+    check,
+    compile,
+    pieces,
+)
+from gregorio_chant._native import memory, runs
 
 SCORE = ("name: a;\n%%\n(c4) " + "Ky(f)ri(gfg)e(e.) " * 20_000).encode()
 
@@ -26,7 +38,11 @@ class Case:
         words, _, self.ending, score, output, messages, status = columns
         self.format = Format.DUMP if "dump" in words else Format.GABC
         self.all_warnings = "-W" in words
-        self.score, self.output, self.messages = unescaped(score), unescaped(output), unescaped(messages)
+        self.score, self.output, self.messages = (
+            unescaped(score),
+            unescaped(output),
+            unescaped(messages),
+        )
         self.status = Status(int(status))
 
 
@@ -35,23 +51,32 @@ def cases() -> Iterator[Case]:
     for table in sorted((ROOT / "crates" / "vectors" / "data").glob("*.tsv")):
         for line in table.read_text(encoding="utf-8").split("\n"):
             columns = line.split("\t")
-            if len(columns) == 7 and columns[1] == "65536,16384,4294967295" and columns[2] in ("whole", "broken"):
+            if (
+                len(columns) == 7
+                and columns[1] == "65536,16384,4294967295"
+                and columns[2] in ("whole", "broken")
+            ):
                 yield Case(columns)
 
 
 def cut(score: bytes, size: int) -> list[bytes]:
-    return [score[it:it + size] for it in range(0, len(score), size)]
+    return [score[it : it + size] for it in range(0, len(score), size)]
 
 
 def joined(steps: Iterable[Step]) -> tuple[bytes, bytes, Status | None]:
     """Returns the output and the messages of all steps, and the last status."""
     all_steps = list(steps)
-    return "".join(it.output for it in all_steps).encode(), "".join(it.messages_text for it in all_steps).encode(), all_steps[-1].status
+    return (
+        "".join(it.output for it in all_steps).encode(),
+        "".join(it.messages_text for it in all_steps).encode(),
+        all_steps[-1].status,
+    )
 
 
 class Runs(unittest.TestCase):
     def steps_of(self, case: Case, size: int, restores: bool) -> Iterator[Step]:
-        """Yields the steps of a run in pieces of `size` bytes, which is restored after each if `restores`."""
+        """Yields the steps of a run in pieces of `size` bytes, which is restored after each if
+        `restores`."""
         run = Run(case.format, all_warnings=case.all_warnings)
         for piece in cut(case.score, size):
             step = run.feed(piece)
@@ -66,7 +91,11 @@ class Runs(unittest.TestCase):
         tried = 0
         for case in cases():
             for size, restores in ((1, False), (7, True), (4096, False)):
-                self.assertEqual(joined(self.steps_of(case, size, restores)), (case.output, case.messages, case.status), case.score)
+                self.assertEqual(
+                    joined(self.steps_of(case, size, restores)),
+                    (case.output, case.messages, case.status),
+                    case.score,
+                )
             tried += 1
         self.assertGreater(tried, 500)
 
@@ -76,7 +105,8 @@ class Runs(unittest.TestCase):
                 result = compile(name.read_bytes(), format)
                 with name.open("rb") as file:
                     self.assertEqual(
-                        joined(Run(format).steps(pieces(file, 100))), (result.output.encode(), result.messages_text.encode(), result.status)
+                        joined(Run(format).steps(pieces(file, 100))),
+                        (result.output.encode(), result.messages_text.encode(), result.status),
                     )
 
     def test_documentation(self) -> None:
@@ -88,7 +118,12 @@ class Runs(unittest.TestCase):
         wanted = joined(Run().steps([b"%%\n(c4f)"]))
         gaps = memoryview(bytes(byte for it in b"%%\n(c4f)" for byte in (it, 0)))[::2]
         score = b"%%\n(c4f)"
-        kinds: list[bytes | bytearray | memoryview] = [bytearray(score), memoryview(score), memoryview(bytearray(score)), gaps]
+        kinds: list[bytes | bytearray | memoryview] = [
+            bytearray(score),
+            memoryview(score),
+            memoryview(bytearray(score)),
+            gaps,
+        ]
         for piece in kinds:
             self.assertEqual(joined(Run().steps([piece])), wanted)
         for wrong in ("%%", 5, None, [1]):
@@ -109,7 +144,9 @@ class Runs(unittest.TestCase):
         for format in Format:
             result = compile(score, format)
             for size in (1000, len(score)):
-                self.assertEqual(joined(Run(format).steps(cut(score, size)))[0], result.output.encode())
+                self.assertEqual(
+                    joined(Run(format).steps(cut(score, size)))[0], result.output.encode()
+                )
 
     def test_over(self) -> None:
         fatal, ended, broken = Run(), Run(), Run()
@@ -118,7 +155,12 @@ class Runs(unittest.TestCase):
         self.assertIs(broken.broken().status, Status.BROKEN)
         for run in (fatal, ended, broken):
             self.assertIsNotNone(run.status)
-            steps: list[Callable[[], object]] = [lambda: run.feed(b""), run.end, run.broken, lambda: run.state]
+            steps: list[Callable[[], object]] = [
+                lambda: run.feed(b""),
+                run.end,
+                run.broken,
+                lambda: run.state,
+            ]
             for step in steps:
                 with self.assertRaisesRegex(RunOverError, "the run is over"):
                     step()
@@ -146,11 +188,20 @@ class States(unittest.TestCase):
         first = run.feed(score[:100]).output
         state = run.state
         for _ in range(2):
-            self.assertEqual(first + "".join(it.output for it in Run.restore(state).steps([score[100:]])), wanted)
-        program = "import sys\nfrom gregorio_chant import Run\nrun = Run.restore(bytes.fromhex(sys.argv[1]))\n" \
+            self.assertEqual(
+                first + "".join(it.output for it in Run.restore(state).steps([score[100:]])), wanted
+            )
+        program = (
+            "import sys\nfrom gregorio_chant import Run\nrun = Run.restore(bytes.fromhex(sys.argv[1]))\n"
             "for it in run.steps([sys.stdin.buffer.read()]): sys.stdout.buffer.write(it.output.encode())"
+        )
         other = subprocess.run(
-            [sys.executable, "-c", program, state.hex()], input=score[100:], capture_output=True, check=True, timeout=60, cwd="/"
+            [sys.executable, "-c", program, state.hex()],
+            input=score[100:],
+            capture_output=True,
+            check=True,
+            timeout=60,
+            cwd="/",
         )
         self.assertEqual(first.encode() + other.stdout, wanted.encode())
 
@@ -163,7 +214,10 @@ class States(unittest.TestCase):
             with self.assertRaisesRegex(StateError, "the bytes are no state of a run"):
                 Run.restore(other, "dump", all_warnings=False)
         for format, all_warnings in (("gabc", False), ("dump", True), ("gabc", True)):
-            with self.assertRaisesRegex(ValueError, "the state is one of another format, of other warnings or of other limits"):
+            with self.assertRaisesRegex(
+                ValueError,
+                "the state is one of another format, of other warnings or of other limits",
+            ):
                 Run.restore(state, format, all_warnings=all_warnings)
 
     def test_what_is_no_state_and_no_truth(self) -> None:
@@ -196,7 +250,11 @@ class States(unittest.TestCase):
         wrong: list[int] = []
 
         def run(number: int) -> None:
-            wrong.extend(number for _ in range(20) if joined(Run().steps(cut(scores[number], 40)))[0] != wanted[number])
+            wrong.extend(
+                number
+                for _ in range(20)
+                if joined(Run().steps(cut(scores[number], 40)))[0] != wanted[number]
+            )
 
         threads = [threading.Thread(target=run, args=(it,)) for it in range(8)]
         for it in threads:
@@ -208,7 +266,8 @@ class States(unittest.TestCase):
 
 class Memory(unittest.TestCase):
     def peak(self, made: Iterable[object]) -> int:
-        """Returns how many bytes are held at once besides what was before, while what is `made` is gone through."""
+        """Returns how many bytes are held at once besides what was before, while what is `made` is
+        gone through."""
         tracemalloc.start()
         for _ in made:
             pass
@@ -220,10 +279,13 @@ class Memory(unittest.TestCase):
         return [SCORE, bytearray(SCORE), memoryview(SCORE), memoryview(bytearray(SCORE))[1:-1]]
 
     def test_no_score_is_copied(self) -> None:
-        """After the first call the text of the output is all that is made, and of a check nothing."""
+        """After the first call the text of the output is all that is made, and of a check
+        nothing."""
         for score in self.kinds():
             compile(score)
-            self.assertLess(self.peak(compile(it) for it in [score]), len(SCORE) + 20_000, type(score))
+            self.assertLess(
+                self.peak(compile(it) for it in [score]), len(SCORE) + 20_000, type(score)
+            )
             check(score)
             self.assertLess(self.peak(check(it) for it in [score]), 20_000, type(score))
 
@@ -239,7 +301,8 @@ class Memory(unittest.TestCase):
         self.assertLess(peak, 60_000)
 
     def test_bytes_stay_where_they_are(self) -> None:
-        """A `bytearray` keeps its length as long as it is borrowed, and is free again after a call."""
+        """A `bytearray` keeps its length as long as it is borrowed, and is free again after a
+        call."""
         score = bytearray(b"%%\n(c4f)")
         with memory.Borrowed(score), self.assertRaises(BufferError):
             score.append(0)
@@ -250,7 +313,9 @@ class Memory(unittest.TestCase):
 
 class Pieces(unittest.TestCase):
     def test_files(self) -> None:
-        self.assertEqual([bytes(it) for it in pieces(io.BytesIO(b"abcdefg"), 3)], [b"abc", b"def", b"g"])
+        self.assertEqual(
+            [bytes(it) for it in pieces(io.BytesIO(b"abcdefg"), 3)], [b"abc", b"def", b"g"]
+        )
         self.assertEqual(list(pieces(io.BytesIO(b""))), [])
         with self.assertRaises(ValueError):
             next(pieces(io.BytesIO(b"a"), 0))

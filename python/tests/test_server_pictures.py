@@ -7,9 +7,10 @@ from pathlib import Path
 from urllib.parse import unquote, urlsplit
 
 from client import Served, Told, place
-from gregorio_chant.picture import picture
 from support import FAULTY, SCORE
 from test_show import Page
+
+from gregorio_chant.picture import picture
 
 BAD_PARAMETERS, FAILED = -32602, -32803
 COMMAND = "gregorio-chant.show"
@@ -19,8 +20,14 @@ class Pictures(Served):
     capabilities_of_client = {"window": {"showDocument": {"support": True}}}
 
     def show(self, line: int, character: int) -> Told:
-        """Asks for the page at a position, and returns what the server asked of the editor for it."""
-        self.assertIsNone(self.ask("workspace/executeCommand", {"command": COMMAND, "arguments": [self.uri, place(line, character)]}))
+        """Asks for the page at a position, and returns what the server asked of the editor for
+        it."""
+        self.assertIsNone(
+            self.ask(
+                "workspace/executeCommand",
+                {"command": COMMAND, "arguments": [self.uri, place(line, character)]},
+            )
+        )
         return self.told[-1]
 
     def page_at(self, uri: str) -> tuple[Path, str]:
@@ -45,9 +52,19 @@ class Pictures(Served):
         """The editor is asked to open a page that leads to the syllable at the cursor."""
         self.assertEqual(self.capabilities["executeCommandProvider"], {"commands": [COMMAND]})
         self.open("name: Kyrie;\n%%\n(c4) Ky(f)ri(g5)e(e.) (::)\n")
-        for line, character, id in ((2, 0, "s1"), (2, 5, "s2"), (2, 8, "s2"), (2, 11, "s3"), (2, 99, "s5"), (0, 0, "s1"), (9, 9, "s5")):
+        for line, character, id in (
+            (2, 0, "s1"),
+            (2, 5, "s2"),
+            (2, 8, "s2"),
+            (2, 11, "s3"),
+            (2, 99, "s5"),
+            (0, 0, "s1"),
+            (9, 9, "s5"),
+        ):
             asked = self.show(line, character)
-            self.assertEqual((asked["method"], asked["params"]["external"]), ("window/showDocument", True))
+            self.assertEqual(
+                (asked["method"], asked["params"]["external"]), ("window/showDocument", True)
+            )
             page, its = self.page_at(asked["params"]["uri"])
             self.assertEqual(its, id, (line, character))
             read = Page(page.read_text(encoding="utf-8"))
@@ -68,16 +85,36 @@ class Pictures(Served):
         self.open(FAULTY)
         at = place(0, 0)
         for method, params, code in (
-            ("gregorio/picture", {}, BAD_PARAMETERS), ("gregorio/picture", {"textDocument": {"uri": "file:///other"}}, BAD_PARAMETERS),
-            ("workspace/executeCommand", {"command": "other", "arguments": [self.uri, at]}, BAD_PARAMETERS),
+            ("gregorio/picture", {}, BAD_PARAMETERS),
+            ("gregorio/picture", {"textDocument": {"uri": "file:///other"}}, BAD_PARAMETERS),
+            (
+                "workspace/executeCommand",
+                {"command": "other", "arguments": [self.uri, at]},
+                BAD_PARAMETERS,
+            ),
             ("workspace/executeCommand", {"command": COMMAND}, BAD_PARAMETERS),
-            ("workspace/executeCommand", {"command": COMMAND, "arguments": [self.uri]}, BAD_PARAMETERS),
-            ("workspace/executeCommand", {"command": COMMAND, "arguments": ["file:///other", at]}, BAD_PARAMETERS),
-            ("workspace/executeCommand", {"command": COMMAND, "arguments": [self.uri, {"line": -1, "character": 0}]}, BAD_PARAMETERS),
+            (
+                "workspace/executeCommand",
+                {"command": COMMAND, "arguments": [self.uri]},
+                BAD_PARAMETERS,
+            ),
+            (
+                "workspace/executeCommand",
+                {"command": COMMAND, "arguments": ["file:///other", at]},
+                BAD_PARAMETERS,
+            ),
+            (
+                "workspace/executeCommand",
+                {"command": COMMAND, "arguments": [self.uri, {"line": -1, "character": 0}]},
+                BAD_PARAMETERS,
+            ),
         ):
             self.assertEqual(self.answer(method, params)["error"]["code"], code, (method, params))
         self.change("%%\n(c4)" + " " * 1_000_000)
-        self.assertEqual(self.answer("gregorio/picture", {"textDocument": {"uri": self.uri}})["error"]["code"], FAILED)
+        self.assertEqual(
+            self.answer("gregorio/picture", {"textDocument": {"uri": self.uri}})["error"]["code"],
+            FAILED,
+        )
 
 
 class WithoutBrowser(Pictures):

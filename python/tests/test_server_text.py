@@ -13,7 +13,8 @@ PARTS = ("a", "(", "\u00e9", "\U0001d11e", "\ufeff", "\r\n", "\n", "\r", "\u2028
 
 
 def units_before(text: str, position: Position) -> int:
-    """Returns how many units of UTF-16 stand before a position that the text has, or before the nearest end."""
+    """Returns how many units of UTF-16 stand before a position that the text has, or before the
+    nearest end."""
     at, lines = 0, re.split("(\r\n|\n|\r)", text)
     for number in range(0, len(lines), 2):
         length = len(lines[number].encode("utf-16-le")) // 2
@@ -40,12 +41,16 @@ class Places(unittest.TestCase):
             units = text.encode("utf-16-le")
             first, last = sorted(2 * units_before(text, it) for it in (start, end))
             try:
-                wanted = (units[:first] + new.encode("utf-16-le") + units[last:]).decode("utf-16-le")
+                wanted = (units[:first] + new.encode("utf-16-le") + units[last:]).decode(
+                    "utf-16-le"
+                )
                 units[first:].decode("utf-16-le")
             except UnicodeDecodeError:
                 continue
             number += 1
-            self.assertEqual(Text(text).changed(Range(start, end), new).raw, wanted, (text, start, end))
+            self.assertEqual(
+                Text(text).changed(Range(start, end), new).raw, wanted, (text, start, end)
+            )
 
     def test_offsets(self) -> None:
         """Each character that the compiler counts has a position, and that leads back to it."""
@@ -61,7 +66,9 @@ class Places(unittest.TestCase):
         for _ in range(200):
             text = Text(self.text())
             self.assertEqual("".join(text.lines()), text.raw)
-            self.assertEqual(units_before(text.raw, text.end()), len(text.raw.encode("utf-16-le")) // 2)
+            self.assertEqual(
+                units_before(text.raw, text.end()), len(text.raw.encode("utf-16-le")) // 2
+            )
 
 
 if __name__ == "__main__":

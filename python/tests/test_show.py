@@ -15,12 +15,13 @@ from subprocess import CompletedProcess
 from urllib.parse import unquote_to_bytes
 from xml.etree import ElementTree as Xml
 
-from gregorio_chant.picture import Look, Names, draw
-from gregorio_chant.picture.page import Shown, page_of
-from gregorio_chant.report.reports import Checked
 from pages import block
 from support import EXAMPLES, FAULTY, SCORE, InFolder, command, in_terminal
 from test_picture import HOSTILE
+
+from gregorio_chant.picture import Look, Names, draw
+from gregorio_chant.picture.page import Shown, page_of
+from gregorio_chant.report.reports import Checked
 
 WARNED = "name: b;\n%%\n(c4) <x>Ky(g)ri(g)\n"
 FATAL = "name: c;\n%%\n(c4) Ky(g)ri(g\n"
@@ -83,10 +84,15 @@ class OnePage(InFolder):
         """A page has a picture, the messages and the source, whose lines have numbers."""
         self.put("a.gabc", FAULTY)
         page = self.show("a.gabc", status=1)
-        self.assertEqual((page.tags.count("section"), page.tags.count("li"), page.tags.count("details")), (1, 1, 1))
+        self.assertEqual(
+            (page.tags.count("section"), page.tags.count("li"), page.tags.count("details")),
+            (1, 1, 1),
+        )
         self.assertIn("character left out of the notes", page.text)
         self.assertIn(FAULTY.split("\n")[2], page.text)
-        self.assertEqual([it for it in page.ids if re.fullmatch("p1-l[0-9]+", it)], ["p1-l1", "p1-l2", "p1-l3"])
+        self.assertEqual(
+            [it for it in page.ids if re.fullmatch("p1-l[0-9]+", it)], ["p1-l1", "p1-l2", "p1-l3"]
+        )
 
     def test_links(self) -> None:
         """Each link leads to what is there, each id stands once, and each message leads into the
@@ -94,9 +100,14 @@ class OnePage(InFolder):
         self.put("a.gabc", FAULTY)
         self.put("b.gabc", WARNED)
         self.put("c.gabc", FATAL)
-        for page in (self.show("a.gabc", "b.gabc", "c.gabc", str(EXAMPLES / "every-finding.gabc"), status=2), self.show(str(EXAMPLES / "every-finding.gabc"), status=1)):
+        for page in (
+            self.show("a.gabc", "b.gabc", "c.gabc", str(EXAMPLES / "every-finding.gabc"), status=2),
+            self.show(str(EXAMPLES / "every-finding.gabc"), status=1),
+        ):
             self.assertEqual(len(page.ids), len(set(page.ids)))
-            self.assertEqual([it for it in page.links if it[:1] != "#" or it[1:] not in page.ids], [])
+            self.assertEqual(
+                [it for it in page.links if it[:1] != "#" or it[1:] not in page.ids], []
+            )
             messages = [it for it in page.ids if re.fullmatch(r"p\d+-m\d+", it)]
             for it in messages:
                 self.assertIn(f"{it}-at", page.ids)
@@ -107,10 +118,14 @@ class OnePage(InFolder):
     def test_nothing_from_elsewhere(self) -> None:
         """A page has no script and asks for nothing; its policy forbids both."""
         page = self.show(str(EXAMPLES / "kyrie.gabc"))
-        self.assertEqual({"script", "link", "img", "iframe", "object", "form"} & set(page.tags), set())
+        self.assertEqual(
+            {"script", "link", "img", "iframe", "object", "form"} & set(page.tags), set()
+        )
         self.assertEqual([it for it in page.links if not it.startswith("#")], [])
         whole = command("show", str(EXAMPLES / "kyrie.gabc")).stdout.decode()
-        self.assertEqual(set(re.findall(r"https?://[^\"' ]*", whole)), {"http://www.w3.org/2000/svg"})
+        self.assertEqual(
+            set(re.findall(r"https?://[^\"' ]*", whole)), {"http://www.w3.org/2000/svg"}
+        )
         self.assertNotRegex(whole, r"url\(|@import")
         self.assertIn("default-src 'none'", whole)
 
@@ -170,12 +185,23 @@ class Output(InFolder):
     def test_terminal(self) -> None:
         """A page is not written to a terminal: the command says where to write it."""
         status, shown = in_terminal("show", self.put("a.gabc", SCORE))
-        self.assertEqual((status, shown), (3, "gregorio-chant: a page is not for a terminal: write it into a file, as with -o page.html\n"))
+        self.assertEqual(
+            (status, shown),
+            (
+                3,
+                "gregorio-chant: a page is not for a terminal: write it into a file, as with -o page.html\n",
+            ),
+        )
 
     def test_score_is_not_written_over(self) -> None:
         self.put("a.gabc", SCORE)
         Path("b.html").symlink_to("a.gabc")
-        for words in (("-o", "a.gabc", "a.gabc"), ("-o", "b.html", "a.gabc"), ("--svg", "-o", "b.html", "a.gabc"), ("-o", "a.gabc", ".")):
+        for words in (
+            ("-o", "a.gabc", "a.gabc"),
+            ("-o", "b.html", "a.gabc"),
+            ("--svg", "-o", "b.html", "a.gabc"),
+            ("-o", "a.gabc", "."),
+        ):
             self.assertEqual(command("show", *words).returncode, 3, words)
         self.put("index.html", SCORE)
         self.put("a.gabc.html", SCORE)
@@ -196,7 +222,10 @@ class Output(InFolder):
         self.assertEqual(ran.returncode, 2)
         self.assertIn(b"5 files: 1 fatal fault, 1 error, ", ran.stderr)
         index = Page(Path("pages/index.html").read_text())
-        pages = [Path("pages/" + unquote_to_bytes(it).decode("utf-8", "surrogateescape")) for it in index.links]
+        pages = [
+            Path("pages/" + unquote_to_bytes(it).decode("utf-8", "surrogateescape"))
+            for it in index.links
+        ]
         self.assertEqual(len(set(pages)), 5)
         for it in pages:
             page = Page(it.read_text())
@@ -222,19 +251,24 @@ class Output(InFolder):
             self.assertEqual(command("show", "--svg", *words).returncode, 3, words)
 
     def test_clean(self) -> None:
-        """`--no-messages` leaves out messages, their marks, and what is not drawn; the status stays."""
+        """`--no-messages` leaves out messages, their marks, and what is not drawn; the status
+        stays."""
         self.put("a.gabc", "name: a;\n%%\n(c4) <x>Ky(g[nv:x]5)ri(g)\n")
         for words in (("--svg",), ()):
-            with_them, without = (command("show", *words, *more, "a.gabc") for more in ((), ("--no-messages",)))
+            with_them, without = (
+                command("show", *words, *more, "a.gabc") for more in ((), ("--no-messages",))
+            )
             self.assertEqual((with_them.returncode, without.returncode), (1, 1))
             for it in ('class="code"', 'class="mark', "Not drawn"):
                 self.assertIn(it, with_them.stdout.decode())
                 self.assertNotIn(it, without.stdout.decode())
-        self.assertNotIn("character left out", command("show", "--no-messages", "a.gabc").stdout.decode())
+        self.assertNotIn(
+            "character left out", command("show", "--no-messages", "a.gabc").stdout.decode()
+        )
 
     def test_play(self) -> None:
-        """`--play` has a button, the notes and one script, which the policy lets through by its hash; a
-        score without height has no button, and a page without `--play` no script."""
+        """`--play` has a button, the notes and one script, which the policy lets through by its
+        hash; a score without height has no button, and a page without `--play` no script."""
         self.put("a.gabc", SCORE)
         self.put("b.gabc", "%%\na(f)\n")
         whole = command("show", "--play", "a.gabc", "b.gabc").stdout.decode()
@@ -242,7 +276,10 @@ class Output(InFolder):
         (script,) = re.findall("(?s)<script>(.*?)</script>", whole)
         name = base64.b64encode(hashlib.sha256(script.encode()).digest()).decode()
         self.assertIn(f"script-src 'sha256-{name}'", whole)
-        self.assertIn('data-sounds="[[2,0,53,1.0],[3,0,55,1.0],[3,1,53,1.0],[3,2,55,1.0],[4,0,52,2.0],[5,0,null,2.0]]"', whole)
+        self.assertIn(
+            'data-sounds="[[2,0,53,1.0],[3,0,55,1.0],[3,1,53,1.0],[3,2,55,1.0],[4,0,52,2.0],[5,0,null,2.0]]"',
+            whole,
+        )
         self.assertNotIn("data-heads", command("show", "a.gabc").stdout.decode())
         self.assertNotIn("<script", command("show", "--play", "b.gabc").stdout.decode())
 
@@ -250,12 +287,19 @@ class Output(InFolder):
         """Faces, hands and the initial are chosen by words."""
         self.put("a.gabc", "name: a;\nnabc-lines: 1;\n%%\n(c4) Ky(fg|vi)\n")
         for words, shapes in (
-            ((), {"c-clef", "PesOneNothing", "stgall-vi"}), (("--face", "plain", "--neumes", "text"), {"c-clef", "punctum-under", "punctum-over"}),
+            ((), {"c-clef", "PesOneNothing", "stgall-vi"}),
+            (("--face", "plain", "--neumes", "text"), {"c-clef", "punctum-under", "punctum-over"}),
             (("--neumes", "laon"), {"c-clef", "PesOneNothing", "laon-vi"}),
         ):
             root = Xml.fromstring(command("show", "--svg", *words, "a.gabc").stdout)
-            self.assertEqual({it.get("id") for it in root.iter() if it.tag.endswith("}path") and it.get("id")}, shapes)
-        sizes = [b'font-size="46"' in command("show", "--svg", *words, "a.gabc").stdout for words in ((), ("--no-initial",))]
+            self.assertEqual(
+                {it.get("id") for it in root.iter() if it.tag.endswith("}path") and it.get("id")},
+                shapes,
+            )
+        sizes = [
+            b'font-size="46"' in command("show", "--svg", *words, "a.gabc").stdout
+            for words in ((), ("--no-initial",))
+        ]
         self.assertEqual(sizes, [True, False])
 
     def test_phone(self) -> None:
@@ -264,9 +308,13 @@ class Output(InFolder):
         self.put("a.gabc", FAULTY)
         page = Page(command("show", "a.gabc").stdout.decode())
         self.assertEqual(page.tags.count("svg"), 2)
-        self.assertEqual([it for it in page.links if it.endswith("-at")], ["#p1-m1-at", "#p1-n-m1-at"])
+        self.assertEqual(
+            [it for it in page.links if it.endswith("-at")], ["#p1-m1-at", "#p1-n-m1-at"]
+        )
         self.assertEqual([it for it in page.links if it[1:] not in page.ids], [])
-        self.assertEqual(Page(command("show", "--width", "300", "a.gabc").stdout.decode()).tags.count("svg"), 1)
+        self.assertEqual(
+            Page(command("show", "--width", "300", "a.gabc").stdout.decode()).tags.count("svg"), 1
+        )
 
     @unittest.skipUnless(shutil.which("rsvg-convert"), "there is no rsvg-convert")
     def test_pdf(self) -> None:

@@ -1,15 +1,16 @@
-"""Tries the signs of notes: what a spelling says, which notes a mora or an episema reaches, and where
-ictus, episemata, ledger lines and clefs are drawn."""
+"""Tries the signs of notes: what a spelling says, which notes a mora or an episema reaches, and
+where ictus, episemata, ledger lines and clefs are drawn."""
 from __future__ import annotations
 
 import unittest
 
+from test_picture import score_with
+
 from gregorio_chant.dump import Bar, Clef, NoteSnippet, Score
+from gregorio_chant.objects.signs import Episema, signs_of
 from gregorio_chant.picture import lay_out, staff
 from gregorio_chant.picture.values import Rect, height_of, step_of
 from gregorio_chant.rhythm import episemata_of, morae_of
-from gregorio_chant.objects.signs import Episema, signs_of
-from test_picture import score_with
 
 _THIN = 0.9
 
@@ -25,7 +26,9 @@ def rects(notes: str) -> list[Rect]:
     """Returns the rectangles of a syllable with these notes, from the left of its first block."""
     blocks = lay_out(score_with(notes).syllables, 700.0)[0].parts[1].part.blocks
     left = blocks[0][0]
-    return [sign.moved(at - left) for at, it in blocks for sign in it.signs if isinstance(sign, Rect)]
+    return [
+        sign.moved(at - left) for at, it in blocks for sign in it.signs if isinstance(sign, Rect)
+    ]
 
 
 def lines(notes: str) -> list[Rect]:
@@ -41,49 +44,103 @@ class Spelled(unittest.TestCase):
     def test_signs(self) -> None:
         """Each sign of the manual is a property of its note."""
         for spelling, name, value in (
-            ("g.", "morae", 1), ("g..", "morae", 2), ("g", "morae", 0), ("g'", "ictus", "auto"), ("g'0", "ictus", "under"), ("g'1", "ictus", "over"),
-            ("g", "ictus", None), ("g_", "episemata", (Episema(),)), ("g___", "episemata", (Episema(3),)), ("g_0", "episemata", (Episema(1, "under"),)),
-            ("g_1", "episemata", (Episema(1, "over"),)), ("g_02", "episemata", (Episema(1, "under", is_bridged=False),)),
-            ("g_0_4", "episemata", (Episema(1, "under"), Episema(1, "auto", "centre"))), ("H_502", "episemata", (Episema(1, "under", "right", False),)),
-            ("g~", "liquescence", "deminutus"), ("g<", "liquescence", "augmented"), ("g>", "liquescence", "diminished"), ("g", "liquescence", None),
-            ("-g", "is_initio_debilis", True), ("g", "is_initio_debilis", False), ("gr", "is_hollow", True), ("gr0", "is_lined", True), ("gR", "is_lined", True),
-            ("Gr", "is_hollow", True), ("Gr1", "is_hollow", False), ("G'_.r3", "over_staff", ("circle",)), ("gv_r7r1", "over_staff", ("natural", "accent")),
-            ("go", "points_up", None), ("go0", "points_up", False), ("gO1", "points_up", True),
+            ("g.", "morae", 1),
+            ("g..", "morae", 2),
+            ("g", "morae", 0),
+            ("g'", "ictus", "auto"),
+            ("g'0", "ictus", "under"),
+            ("g'1", "ictus", "over"),
+            ("g", "ictus", None),
+            ("g_", "episemata", (Episema(),)),
+            ("g___", "episemata", (Episema(3),)),
+            ("g_0", "episemata", (Episema(1, "under"),)),
+            ("g_1", "episemata", (Episema(1, "over"),)),
+            ("g_02", "episemata", (Episema(1, "under", is_bridged=False),)),
+            ("g_0_4", "episemata", (Episema(1, "under"), Episema(1, "auto", "centre"))),
+            ("H_502", "episemata", (Episema(1, "under", "right", False),)),
+            ("g~", "liquescence", "deminutus"),
+            ("g<", "liquescence", "augmented"),
+            ("g>", "liquescence", "diminished"),
+            ("g", "liquescence", None),
+            ("-g", "is_initio_debilis", True),
+            ("g", "is_initio_debilis", False),
+            ("gr", "is_hollow", True),
+            ("gr0", "is_lined", True),
+            ("gR", "is_lined", True),
+            ("Gr", "is_hollow", True),
+            ("Gr1", "is_hollow", False),
+            ("G'_.r3", "over_staff", ("circle",)),
+            ("gv_r7r1", "over_staff", ("natural", "accent")),
+            ("go", "points_up", None),
+            ("go0", "points_up", False),
+            ("gO1", "points_up", True),
         ):
             with self.subTest(spelling=spelling, name=name):
                 self.assertEqual(getattr(signs_of(spelling), name), value)
                 note = score_with(f"h/{spelling}").notes[-1]
                 self.assertEqual((note.spelling, getattr(note, name)), (spelling, value))
-        self.assertEqual([it.times for it in score_with("g gvv gss gvvv gsss").notes], [1, 2, 2, 3, 3])
+        self.assertEqual(
+            [it.times for it in score_with("g gvv gss gvvv gsss").notes], [1, 2, 2, 3, 3]
+        )
 
     def test_bars_and_others(self) -> None:
-        bars = [it for it in score_with(", ,0 ;3 :? :' ,_ ::").syllables[1].items if isinstance(it, Bar)]
+        bars = [
+            it for it in score_with(", ,0 ;3 :? :' ,_ ::").syllables[1].items if isinstance(it, Bar)
+        ]
         self.assertEqual([it.position for it in bars], [None, 0, 3, None, None, None, None])
         self.assertEqual([it.is_dotted for it in bars].index(True), 3)
-        self.assertEqual([(it.has_ictus, it.has_brace) for it in bars[4:6]], [(True, False), (False, True)])
+        self.assertEqual(
+            [(it.has_ictus, it.has_brace) for it in bars[4:6]], [(True, False), (False, True)]
+        )
 
     def test_morae_reach(self) -> None:
-        for notes, wanted in (("gf..", [1, 1]), ("f..", [2]), ("f.g..", [1, 1]), ("fg", [0, 0]), ("fgh..", [0, 1, 1])):
+        for notes, wanted in (
+            ("gf..", [1, 1]),
+            ("f..", [2]),
+            ("f.g..", [1, 1]),
+            ("fg", [0, 0]),
+            ("fgh..", [0, 1, 1]),
+        ):
             self.assertEqual(morae_of(score_with(notes).notes), wanted, notes)
 
     def test_episemata_reach(self) -> None:
         """So many `_` cover as many notes, up to anything that is no note."""
         for notes, wanted in (
-            ("ghg___", "111"), ("jjh__", "011"), ("f/g__", "01"), ("fG__", "11"), ("gg__", "11"), ("f_g", "10"), ("fixi__", "01"), ("f[cs:a]g__", "11"), ("f@g__", "11"),
-            ("f!g__", "01"), ("g_____", "1"),
+            ("ghg___", "111"),
+            ("jjh__", "011"),
+            ("f/g__", "01"),
+            ("fG__", "11"),
+            ("gg__", "11"),
+            ("f_g", "10"),
+            ("fixi__", "01"),
+            ("f[cs:a]g__", "11"),
+            ("f@g__", "11"),
+            ("f!g__", "01"),
+            ("g_____", "1"),
         ):
             snippet = snippet_of(notes)
             covered = episemata_of(snippet.items)
             here = score_with(notes).syllables[1].notes
-            self.assertEqual("".join(str(int(it.place.offset in covered)) for it in here), wanted, notes)
+            self.assertEqual(
+                "".join(str(int(it.place.offset in covered)) for it in here), wanted, notes
+            )
 
 
 class Drawn(unittest.TestCase):
     def test_episemata(self) -> None:
-        """An episema goes from the first note that it covers to the last one, and the next one joins
-        it, unless it must not."""
+        """An episema goes from the first note that it covers to the last one, and the next one
+        joins it, unless it must not."""
         for notes, wanted in (
-            ("ghg___", 1), ("g_/g_", 2), ("g_2/g_", 2), ("g_ g_", 2), ("g_f_", 1), ("f_g_", 2), ("g_f_0", 2), ("g_0_4", 2), ("gg__", 2), ("g_3", 1),
+            ("ghg___", 1),
+            ("g_/g_", 2),
+            ("g_2/g_", 2),
+            ("g_ g_", 2),
+            ("g_f_", 1),
+            ("f_g_", 2),
+            ("g_f_0", 2),
+            ("g_0_4", 2),
+            ("gg__", 2),
+            ("g_3", 1),
         ):
             self.assertEqual(len(lines(notes)), wanted, notes)
         (whole,) = lines("ghg___")
@@ -99,7 +156,9 @@ class Drawn(unittest.TestCase):
         for pitch in "defghijk":
             for side in "01":
                 (line,) = lines(f"{pitch}_{side}")
-                self.assertGreater(abs((line.y + _THIN / 2 + 5.0) % 10.0 - 5.0), _THIN, f"{pitch}_{side}")
+                self.assertGreater(
+                    abs((line.y + _THIN / 2 + 5.0) % 10.0 - 5.0), _THIN, f"{pitch}_{side}"
+                )
 
     def test_ictus(self) -> None:
         """An ictus stands below its note, or over one that stands over another; as it is told if it
@@ -113,16 +172,31 @@ class Drawn(unittest.TestCase):
         self.assertLess(beside.y + beside.height, line.y + _THIN)
 
     def test_ledger_lines(self) -> None:
-        ledgers: dict[str, list[int]] = {"a": [-2], "b": [-2], "c": [], "k": [], "l": [8], "m": [8], "n": [8, 10], "p": [8, 10]}
+        ledgers: dict[str, list[int]] = {
+            "a": [-2],
+            "b": [-2],
+            "c": [],
+            "k": [],
+            "l": [8],
+            "m": [8],
+            "n": [8, 10],
+            "p": [8, 10],
+        }
         for notes, steps in ledgers.items():
-            self.assertEqual([it.y + 0.35 for it in rects(notes) if it.height == 0.7], [height_of(it) for it in steps], notes)
+            self.assertEqual(
+                [it.y + 0.35 for it in rects(notes) if it.height == 0.7],
+                [height_of(it) for it in steps],
+                notes,
+            )
 
     def test_clefs(self) -> None:
         """A flat stands at the height of si; two clefs stand over one another if there is room."""
+
         def signs(spelling: str) -> list[tuple[float, float]]:
             clef = Score.parse(f"%%\n({spelling}) a(f)\n").syllables[0].items[0]
             assert isinstance(clef, Clef)
             return [(it.x, it.y) for it in staff.clef(clef).signs]
+
         self.assertEqual([y for _, y in signs("cb3")], [height_of(4), height_of(3)])
         self.assertEqual([y for _, y in signs("fb3")], [height_of(4), height_of(7)])
         self.assertEqual(signs("c4@c2"), [(0.0, height_of(6)), (0.0, height_of(2))])

@@ -1,20 +1,25 @@
-"""Plants slips of the pen into a score in which nothing is found: most are told, each with a help that names it, and guesses bring most back."""
+"""Plants slips of the pen into a score in which nothing is found: most are told, each with a help
+that names it, and guesses bring most back."""
 from __future__ import annotations
 
 import unittest
+
+from slips import BACK, SCORE, SLIPS, STAYS, Slip
 
 from gregorio_chant.linting.checking import check_data
 from gregorio_chant.linting.helps import helps_for
 from gregorio_chant.linting.repairing import How, repair
 from gregorio_chant.text.source import text_of
-from slips import BACK, SCORE, SLIPS, STAYS, Slip
 
 
 def told_of(score: str) -> list[tuple[str, str]]:
     """Returns the code of each message, and its help, or what a rule says."""
     data = score.encode()
     found = check_data(data, True)
-    return [(it.code, help or it.text) for it, help in zip(found, helps_for(text_of(data), found, found))]
+    return [
+        (it.code, help or it.text)
+        for it, help in zip(found, helps_for(text_of(data), found, found))
+    ]
 
 
 class Slips(unittest.TestCase):
@@ -31,17 +36,25 @@ class Slips(unittest.TestCase):
                 if slip.code is None:
                     self.assertEqual(told, [])
                 else:
-                    self.assertTrue([help for code, help in told if code == slip.code and slip.help in help], told)
+                    self.assertTrue(
+                        [help for code, help in told if code == slip.code and slip.help in help],
+                        told,
+                    )
 
     def test_guesses(self) -> None:
         for slip in SLIPS:
             with self.subTest(wrong=slip.wrong, right=slip.right):
                 planted = self.planted(slip)
-                made = repair(planted.encode(), How(allow_unsafe=True, with_rules=True)).data.decode()
+                made = repair(
+                    planted.encode(), How(allow_unsafe=True, with_rules=True)
+                ).data.decode()
                 self.assertEqual(made, {BACK: SCORE, STAYS: planted}.get(slip.repaired, made))
                 if slip.repaired not in (BACK, STAYS):
                     self.assertIn(slip.repaired, made)
-                self.assertEqual(repair(made.encode(), How(allow_unsafe=True, with_rules=True)).data.decode(), made)
+                self.assertEqual(
+                    repair(made.encode(), How(allow_unsafe=True, with_rules=True)).data.decode(),
+                    made,
+                )
 
     def test_numbers(self) -> None:
         self.assertGreaterEqual(len(SLIPS), 96)

@@ -27,11 +27,17 @@ class Staged(InFolder):
     def git(self, *words: str, path: str | None = None) -> subprocess.CompletedProcess[bytes]:
         settings = {**os.environ, **_QUIET, **({"PATH": path} if path else {})}
         return subprocess.run(
-            ["git", "-c", "user.name=a", "-c", "user.email=a@example.org", *words], stdout=subprocess.PIPE, stderr=subprocess.STDOUT, env=settings, check=False,
+            ["git", "-c", "user.name=a", "-c", "user.email=a@example.org", *words],
+            stdout=subprocess.PIPE,
+            stderr=subprocess.STDOUT,
+            env=settings,
+            check=False,
         )
 
     def lines(self, *words: str | Path) -> list[str]:
-        ran = command("check", "--output-format", "lines", "--quiet", "--staged", *words, environment=_QUIET)
+        ran = command(
+            "check", "--output-format", "lines", "--quiet", "--staged", *words, environment=_QUIET
+        )
         self.assertEqual(ran.stderr, b"")
         return [it.split(":")[0] for it in ran.stdout.decode().split("\n")[:-1]]
 
@@ -60,7 +66,10 @@ class Staged(InFolder):
         self.git("add", "a.gabc")
         self.put("a.gabc", WHOLE)
         ran = command("format", "--check", "--staged", environment=_QUIET)
-        self.assertEqual((ran.returncode, ran.stderr), (1, b"gregorio-chant: a.gabc would change\ngregorio-chant: 1 file: 1 would change\n"))
+        self.assertEqual(
+            (ran.returncode, ran.stderr),
+            (1, b"gregorio-chant: a.gabc would change\ngregorio-chant: 1 file: 1 would change\n"),
+        )
         ran = command("format", "--diff", "--staged", "--quiet", environment=_QUIET)
         self.assertIn(b"-name:Kyrie;\n+name: Kyrie;\n", ran.stdout)
         self.assertEqual(Path("a.gabc").read_text(), WHOLE)
@@ -71,11 +80,24 @@ class Staged(InFolder):
     def test_no_repository(self) -> None:
         shutil.rmtree(".git")
         for words in (("check", "--output-format", "lines"), ("format", "--check")):
-            ran = command(*words, "--staged", environment={**_QUIET, "GIT_CEILING_DIRECTORIES": "/"})
+            ran = command(
+                *words, "--staged", environment={**_QUIET, "GIT_CEILING_DIRECTORIES": "/"}
+            )
             self.assertEqual((ran.returncode, ran.stdout), (4, b""))
-            self.assertRegex(ran.stderr.decode(), r"^gregorio-chant: cannot read what is staged: fatal: not a git repository.*\n$")
-        ran = command("check", "--output-format", "lines", "--staged", environment={"PATH": str(self.room)})
-        self.assertEqual((ran.returncode, ran.stderr), (4, b"gregorio-chant: cannot read what is staged: git cannot be run: No such file or directory\n"))
+            self.assertRegex(
+                ran.stderr.decode(),
+                r"^gregorio-chant: cannot read what is staged: fatal: not a git repository.*\n$",
+            )
+        ran = command(
+            "check", "--output-format", "lines", "--staged", environment={"PATH": str(self.room)}
+        )
+        self.assertEqual(
+            (ran.returncode, ran.stderr),
+            (
+                4,
+                b"gregorio-chant: cannot read what is staged: git cannot be run: No such file or directory\n",
+            ),
+        )
 
     def path_with_command(self) -> str:
         """Returns a path on which the command stands."""
@@ -88,7 +110,13 @@ class Staged(InFolder):
 
     def test_hook(self) -> None:
         path = self.path_with_command()
-        ran = subprocess.run(["bash", "-c", block("docs/USE.md", "command: hook")], env={**os.environ, **_QUIET, "PATH": path}, stdout=subprocess.PIPE, stderr=subprocess.STDOUT, check=False)
+        ran = subprocess.run(
+            ["bash", "-c", block("docs/USE.md", "command: hook")],
+            env={**os.environ, **_QUIET, "PATH": path},
+            stdout=subprocess.PIPE,
+            stderr=subprocess.STDOUT,
+            check=False,
+        )
         self.assertEqual((ran.returncode, ran.stdout), (0, b""))
         self.put("s/whole.gabc", WHOLE)
         self.put("s/loose.gabc", LOOSE)
@@ -113,17 +141,34 @@ class Staged(InFolder):
         self.assertEqual(self.git("commit", "-m", "taken away").returncode, 0)
         self.assertEqual(Path("s/loose.gabc").read_text(), WHOLE)
         Path(".git/hooks/pre-commit").write_text("mine")
-        subprocess.run(["bash", "-c", block("docs/USE.md", "command: hook")], env={**os.environ, "PATH": path}, stdout=subprocess.PIPE, stderr=subprocess.STDOUT, check=False)
+        subprocess.run(
+            ["bash", "-c", block("docs/USE.md", "command: hook")],
+            env={**os.environ, "PATH": path},
+            stdout=subprocess.PIPE,
+            stderr=subprocess.STDOUT,
+            check=False,
+        )
         self.assertEqual(Path(".git/hooks/pre-commit").read_text(), "mine")
 
     def test_entries_for_pre_commit(self) -> None:
         """Each entry of .pre-commit-hooks.yaml runs over the files that are named after it."""
         self.put("a.gabc", LOOSE)
-        entries = re.findall(r"^  entry: gregorio-chant (.*)$", (ROOT / ".pre-commit-hooks.yaml").read_text(encoding="utf-8"), re.MULTILINE)
+        entries = re.findall(
+            r"^  entry: gregorio-chant (.*)$",
+            (ROOT / ".pre-commit-hooks.yaml").read_text(encoding="utf-8"),
+            re.MULTILINE,
+        )
         self.assertEqual(sorted(entries), ["check", "format", "format --check"])
         for entry in sorted(entries, reverse=True):
-            self.assertEqual(command(*entry.split(), "a.gabc").returncode, 0 if entry != "format --check" else 1, entry)
-            self.assertEqual(Path("a.gabc").read_text(), WHOLE if entry == "format" else Path("a.gabc").read_text())
+            self.assertEqual(
+                command(*entry.split(), "a.gabc").returncode,
+                0 if entry != "format --check" else 1,
+                entry,
+            )
+            self.assertEqual(
+                Path("a.gabc").read_text(),
+                WHOLE if entry == "format" else Path("a.gabc").read_text(),
+            )
 
 
 if __name__ == "__main__":

@@ -1,4 +1,5 @@
-"""Tries that each line that a command writes is printable, whatever stands in a name, a setting or a score, and that one module alone writes lines."""
+"""Tries that each line that a command writes is printable, whatever stands in a name, a setting or
+a score, and that one module alone writes lines."""
 from __future__ import annotations
 
 import json
@@ -7,24 +8,34 @@ import re
 import unittest
 from pathlib import Path
 
+from support import SCORE, InFolder, command, has, in_terminal
+
 import gregorio_chant
 from gregorio_chant.work.settings import NAME
 from gregorio_chant.work.streams import printable, printable_lines
-from support import SCORE, InFolder, command, has, in_terminal
 
 PACKAGE = Path(gregorio_chant.__file__).parent
 # Characters that a terminal obeys, and one that is no UTF-8.
 ODD = "x\x1b[31m\n\x7f\u009b\u202e\u2028\udcff"
-# What else writes: the protocol of the server, and the printing into memory that is sent by `streams`.
-_OTHERS = {"server/serving.py": r"sys\.stdout\.buffer", "terminal.py": r"Console\(|self\._console\.print"}
-_WRITES = re.compile(r"\bprint\(|sys\.(?:__)?(?:stdout|stderr)|os\.write\(|Console\(|\.print\(|logging|warnings\.")
+# What else writes: the protocol of the server, and the printing into memory that is sent by
+# `streams`.
+_OTHERS = {
+    "server/serving.py": r"sys\.stdout\.buffer",
+    "terminal.py": r"Console\(|self\._console\.print",
+}
+_WRITES = re.compile(
+    r"\bprint\(|sys\.(?:__)?(?:stdout|stderr)|os\.write\(|Console\(|\.print\(|logging|warnings\."
+)
 
 
 class Lines(InFolder):
     def setUp(self) -> None:
         super().setUp()
         self.name = f"{ODD}.gabc"
-        self.put(os.fsencode(f"s/{self.name}"), "name: \x1b[31m\x7f;\nmode: \u009b1;\n%%\n(c4) Ky\x1b]0;(g5)\u202eri(g&)\n")
+        self.put(
+            os.fsencode(f"s/{self.name}"),
+            "name: \x1b[31m\x7f;\nmode: \u009b1;\n%%\n(c4) Ky\x1b]0;(g5)\u202eri(g&)\n",
+        )
         os.symlink("../nowhere", os.fsencode(f"s/b{ODD}.gabc"))
         os.symlink(os.fsencode(f"../{ODD}"), os.fsencode(f"s/c{ODD}.gabc"))
         self.put(os.fsencode(ODD), SCORE)
@@ -33,16 +44,30 @@ class Lines(InFolder):
         missing = os.fsencode(f"gone{ODD}")
         named = os.fsdecode(missing)
         return [
-            ("check", "--output-format", "lines", "s", named), ("check", "--output-format", "github", "s", named), ("check", "--output-format", "json", "s"),
-            ("check", "--output-format", "sarif", "s"), ("check", "--fix", "--unsafe-fixes", "s", named), ("check", "--select", named, "s"), ("format", "--check", "s", named),
-            ("index", "s", named), ("index", "--output-format", "json", "s"), ("find", "--text", "ky*", "s"), ("find", "--neume", ODD[:-1], "s"),
-            ("explain", ODD[:-1]), ("show", "-o", f"{ODD}/page.html", "s"), ("check", f"--{ODD}"), ("check", "--exclude", "!" + "*a" * 20 + ODD, "s"),
-            *([("check", "s", named)] if has("rich") else []), *([("export", "--to", "midi", "s", named)] if has("mido") else []),
+            ("check", "--output-format", "lines", "s", named),
+            ("check", "--output-format", "github", "s", named),
+            ("check", "--output-format", "json", "s"),
+            ("check", "--output-format", "sarif", "s"),
+            ("check", "--fix", "--unsafe-fixes", "s", named),
+            ("check", "--select", named, "s"),
+            ("format", "--check", "s", named),
+            ("index", "s", named),
+            ("index", "--output-format", "json", "s"),
+            ("find", "--text", "ky*", "s"),
+            ("find", "--neume", ODD[:-1], "s"),
+            ("explain", ODD[:-1]),
+            ("show", "-o", f"{ODD}/page.html", "s"),
+            ("check", f"--{ODD}"),
+            ("check", "--exclude", "!" + "*a" * 20 + ODD, "s"),
+            *([("check", "s", named)] if has("rich") else []),
+            *([("export", "--to", "midi", "s", named)] if has("mido") else []),
         ]
 
     def check_printable(self, written: bytes, words: object) -> None:
         text = written.decode("utf-8")
-        self.assertEqual([it for it in text.split("\n") if not it.replace("\t", "").isprintable()], [], words)
+        self.assertEqual(
+            [it for it in text.split("\n") if not it.replace("\t", "").isprintable()], [], words
+        )
 
     def test_commands(self) -> None:
         for words in self.words():
@@ -56,7 +81,12 @@ class Lines(InFolder):
                 json.loads(ran.stdout)
 
     def test_settings(self) -> None:
-        for text in ('select = ["E\\u001b[31m"]', '"\\u001b[31m" = 1', 'exclude = ["\\u001b*******************"]', '[per-file-ignores]\n"\\u001b" = ["\\u001b"]'):
+        for text in (
+            'select = ["E\\u001b[31m"]',
+            '"\\u001b[31m" = 1',
+            'exclude = ["\\u001b*******************"]',
+            '[per-file-ignores]\n"\\u001b" = ["\\u001b"]',
+        ):
             self.put(NAME, text)
             ran = command("check", "--output-format", "lines", os.fsencode(f"s/{self.name}"))
             self.assertEqual((ran.returncode, ran.stderr.count(b"\n")), (3, 1))
@@ -90,7 +120,11 @@ class OnePlace(unittest.TestCase):
             code = re.sub(r'"""(?:\\.|[^\\])*?"""', "", file.read_text(encoding="utf-8"))
             for line in code.split("\n"):
                 known = _OTHERS.get(name)
-                if _WRITES.search(line) and name != "streams.py" and not (known and re.search(known, line)):
+                if (
+                    _WRITES.search(line)
+                    and name != "streams.py"
+                    and not (known and re.search(known, line))
+                ):
                     found.append(f"{name}: {line.strip()}")
         self.assertEqual(found, [])
 

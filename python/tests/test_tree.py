@@ -1,19 +1,21 @@
-"""Tries the views of a tree: what lies in a node, its bytes and its places; trees of all kinds of scores, and what no tree is made of."""
+"""Tries the views of a tree: what lies in a node, its bytes and its places; trees of all kinds of
+scores, and what no tree is made of."""
 from __future__ import annotations
 
 import doctest
 import threading
 import unittest
 
-from gregorio_chant import Node, NodeKind, Tree, check, tree
-from gregorio_chant._native import memory, trees
-from gregorio_chant.dump import Score
-from gregorio_chant._native.nodes import RECORD
-from gregorio_chant.text.source import Place
-from gregorio_chant._native.trees import _LEAST, _TIMES
 from pages import block
 from support import EXAMPLES, ROOT
 from tree_form import own_parts
+
+from gregorio_chant import Node, NodeKind, Tree, check, tree
+from gregorio_chant._native import memory, trees
+from gregorio_chant._native.nodes import RECORD
+from gregorio_chant._native.trees import _LEAST, _TIMES
+from gregorio_chant.dump import Score
+from gregorio_chant.text.source import Place
 
 _DEGREES = ("ut", "re", "mi", "fa", "sol", "la", "si")
 _ALTERATIONS = ("none", "flat", "natural", "sharp")
@@ -35,10 +37,15 @@ class Nodes(unittest.TestCase):
 
     def test_what_lies_in_a_node(self) -> None:
         root = self.tree.root
-        self.assertEqual((root.kind, root.begin, root.end, len(root)), (NodeKind.FILE, 0, len(SCORE.encode()), len(self.tree) - 1))
+        self.assertEqual(
+            (root.kind, root.begin, root.end, len(root)),
+            (NodeKind.FILE, 0, len(SCORE.encode()), len(self.tree) - 1),
+        )
         self.assertEqual(list(root), list(self.tree)[1:])
         header = first(self.tree, NodeKind.HEADER)
-        self.assertEqual([it.kind for it in header.children()], [NodeKind.HEADER_NAME, NodeKind.HEADER_VALUE])
+        self.assertEqual(
+            [it.kind for it in header.children()], [NodeKind.HEADER_NAME, NodeKind.HEADER_VALUE]
+        )
         self.assertEqual([it.text for it in header.children(NodeKind.HEADER_VALUE)], ["Kyrie"])
         self.assertEqual(header.text, "name: Kyrie;")
         syllables = list(root.children(NodeKind.SYLLABLE))
@@ -52,13 +59,17 @@ class Nodes(unittest.TestCase):
         self.assertEqual(spelled(self.tree, NodeKind.NOTE), ["h", "g.", "h"])
         self.assertEqual(spelled(self.tree, NodeKind.CHARACTERS), ["K\u00fd", "ri"])
         file = self.tree.root
-        self.assertEqual(b"".join(self.tree.source[begin:end] for begin, end in file.own_spans()), file.own)
+        self.assertEqual(
+            b"".join(self.tree.source[begin:end] for begin, end in file.own_spans()), file.own
+        )
         self.assertEqual(sum(len(it.own) for it in self.tree), len(SCORE.encode()))
 
     def test_a_note_with_more_in_it(self) -> None:
         made = tree("%%\n(f&\ufeff.g)")
         note = first(made, NodeKind.NOTE)
-        self.assertEqual((note.text, note.kept, note.own, note.b >> 7 & 3), ("f&\ufeff.", "f.", b"f.", 1))
+        self.assertEqual(
+            (note.text, note.kept, note.own, note.b >> 7 & 3), ("f&\ufeff.", "f.", b"f.", 1)
+        )
         self.assertEqual([it.kind for it in note], [NodeKind.LEFT_OUT, NodeKind.SILENT])
 
     def test_places(self) -> None:
@@ -67,7 +78,10 @@ class Nodes(unittest.TestCase):
         left_out = first(self.tree, NodeKind.LEFT_OUT)
         self.assertEqual((left_out.line, left_out.column), (message.line, message.column))
         self.assertEqual(str(left_out), "3:10")
-        self.assertEqual((left_out.begin, left_out.place), (SCORE.encode().index(b"5"), Place(SCORE.index("5"), 3, 10)))
+        self.assertEqual(
+            (left_out.begin, left_out.place),
+            (SCORE.encode().index(b"5"), Place(SCORE.index("5"), 3, 10)),
+        )
         self.assertEqual(left_out.end_place, Place(SCORE.index("5") + 1, 3, 11))
         for node in self.tree:
             self.assertEqual(SCORE[node.place.offset : node.end_place.offset], node.text)
@@ -76,8 +90,14 @@ class Nodes(unittest.TestCase):
         made = tree(TWO_BY_TWO)
         found = [(it.line, it.column) for it in check(TWO_BY_TWO).messages if it.code == "E1"]
         self.assertEqual([(it.line, it.column) for it in made.of_kind(NodeKind.LEFT_OUT)], found)
-        self.assertEqual([(it.text, it.line, it.column) for it in made.of_kind(NodeKind.SILENT)], [("\n", 2, 1), ("\ufeff", 2, 1), ("\n", 3, 1)])
-        self.assertEqual([(it.kept, it.line) for it in made.of_kind(NodeKind.NOTE)], [("f", 2), ("g", 2), ("h", 3), ("i", 4)])
+        self.assertEqual(
+            [(it.text, it.line, it.column) for it in made.of_kind(NodeKind.SILENT)],
+            [("\n", 2, 1), ("\ufeff", 2, 1), ("\n", 3, 1)],
+        )
+        self.assertEqual(
+            [(it.kept, it.line) for it in made.of_kind(NodeKind.NOTE)],
+            [("f", 2), ("g", 2), ("h", 3), ("i", 4)],
+        )
         for node in made:
             self.assertEqual(TWO_BY_TWO[node.place.offset : node.end_place.offset], node.text)
 
@@ -112,18 +132,31 @@ class Nodes(unittest.TestCase):
 
 class Scores(unittest.TestCase):
     def test_kinds_of_scores(self) -> None:
-        """A `str` and bytes have the same tree, and what the caller changes afterwards changes no tree."""
+        """A `str` and bytes have the same tree, and what the caller changes afterwards changes no
+        tree."""
         data = bytearray(SCORE.encode())
         all_trees = [tree(SCORE), tree(bytes(data)), tree(memoryview(data)), tree(data)]
         data[:] = bytes(len(data))
-        self.assertEqual({tuple((it.kind, it.begin, it.end, it.values) for it in made) for made in all_trees[1:]},
-                         {tuple((it.kind, it.begin, it.end, it.values) for it in all_trees[0])})
+        self.assertEqual(
+            {
+                tuple((it.kind, it.begin, it.end, it.values) for it in made)
+                for made in all_trees[1:]
+            },
+            {tuple((it.kind, it.begin, it.end, it.values) for it in all_trees[0])},
+        )
         self.assertEqual({it.source for it in all_trees}, {SCORE.encode()})
         for wrong in (None, 3, ["%%"]):
             self.assertRaises(TypeError, tree, wrong)
 
     def test_scores_that_are_bad(self) -> None:
-        for score, fault in ((b"", 302), (b"\0", 302), (b"\xff", 301), (b"%%\n(f)a(\xff", 301), (b"name: a", 303), (b"%%\n(f", 306)):
+        for score, fault in (
+            (b"", 302),
+            (b"\0", 302),
+            (b"\xff", 301),
+            (b"%%\n(f)a(\xff", 301),
+            (b"name: a", 303),
+            (b"%%\n(f", 306),
+        ):
             made = tree(score)
             self.assertEqual([it.a for it in made.of_kind(NodeKind.UNREAD)], [fault], score)
             self.assertEqual(b"".join(own_parts(made)), score)
@@ -138,7 +171,9 @@ class Scores(unittest.TestCase):
         score = ("%%\n" + "Ky(f)ri(g) " * 40_000).encode()
         made = tree(score)
         again = tree(score.replace(b"f", b"g"))
-        self.assertEqual([len(list(it.of_kind(NodeKind.NOTE))) for it in (made, again)], [80_000] * 2)
+        self.assertEqual(
+            [len(list(it.of_kind(NodeKind.NOTE))) for it in (made, again)], [80_000] * 2
+        )
         self.assertEqual({it.a & 15 for it in made.of_kind(NodeKind.NOTE)}, {5, 6})
         self.assertEqual({it.a & 15 for it in again.of_kind(NodeKind.NOTE)}, {6})
 
@@ -169,13 +204,24 @@ class Scores(unittest.TestCase):
 
 class Objects(unittest.TestCase):
     def test_notes(self) -> None:
-        """The notes of the examples are those of `Score.parse`, at the same places, with the same spelling, degree and alteration."""
+        """The notes of the examples are those of `Score.parse`, at the same places, with the same
+        spelling, degree and alteration."""
         for path in sorted(EXAMPLES.glob("*.gabc")):
             with self.subTest(path=path.name):
                 data = path.read_bytes()
-                wanted = [(it.source.place, it.spelling, it.height, it.degree, it.alteration) for it in Score.parse(data).notes]
+                wanted = [
+                    (it.source.place, it.spelling, it.height, it.degree, it.alteration)
+                    for it in Score.parse(data).notes
+                ]
                 found = [
-                    (it.place, it.kept, it.a & 15, (*_DEGREES, None)[it.c & 7], _ALTERATIONS[it.c >> 3 & 3]) for it in tree(data).of_kind(NodeKind.NOTE)
+                    (
+                        it.place,
+                        it.kept,
+                        it.a & 15,
+                        (*_DEGREES, None)[it.c & 7],
+                        _ALTERATIONS[it.c >> 3 & 3],
+                    )
+                    for it in tree(data).of_kind(NodeKind.NOTE)
                 ]
                 self.assertEqual(found, wanted)
 
@@ -195,7 +241,9 @@ class Documents(unittest.TestCase):
                 depths.pop()
             name = "".join(it.capitalize() for it in node.kind.name.split("_"))
             numbers = " ".join(map(str, node.values))
-            lines.append(f"{'  ' * len(depths)}{name} {node.begin}:{node.end} {numbers} {node.own.decode()!r}")
+            lines.append(
+                f"{'  ' * len(depths)}{name} {node.begin}:{node.end} {numbers} {node.own.decode()!r}"
+            )
             depths.append(node.past)
         self.assertEqual("\n".join(lines) + "\n", block("docs/FORMATS.md", "test: tree, nodes"))
 
@@ -204,7 +252,15 @@ class Documents(unittest.TestCase):
         header = (ROOT / "c" / "gregorio.h").read_text(encoding="utf-8")
         struct = header[header.index("struct gregorio_node {") :].partition("}")[0]
         fields = [it.strip() for it in struct.partition("{")[2].split(";")]
-        self.assertEqual(fields[:-1], ["uint32_t begin", "uint32_t end", "uint32_t inner", *(f"uint16_t {it}" for it in ("kind", "a", "b", "c"))])
+        self.assertEqual(
+            fields[:-1],
+            [
+                "uint32_t begin",
+                "uint32_t end",
+                "uint32_t inner",
+                *(f"uint16_t {it}" for it in ("kind", "a", "b", "c")),
+            ],
+        )
 
 
 if __name__ == "__main__":

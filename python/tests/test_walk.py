@@ -33,25 +33,48 @@ class Walk(InFolder):
         ours, its = os.pipe()
         os.write(its, FAULTY.encode())
         os.close(its)
-        ran = command("check", "--output-format", "lines", "--quiet", f"/proc/{os.getpid()}/fd/{ours}")
+        ran = command(
+            "check", "--output-format", "lines", "--quiet", f"/proc/{os.getpid()}/fd/{ours}"
+        )
         os.close(ours)
         self.assertIn(b":3:10: error: E1", ran.stdout)
 
     @unittest.skipUnless(has("pathspec"), "there is no pathspec")
     def test_gitignore(self) -> None:
         os.makedirs(".git")
-        self.put(".gitignore", "# drafts\ndrafts/\n*.old.gabc\n!kept.old.gabc\n/top.gabc\nbuild/*\n!build/kept.gabc\n")
+        self.put(
+            ".gitignore",
+            "# drafts\ndrafts/\n*.old.gabc\n!kept.old.gabc\n/top.gabc\nbuild/*\n!build/kept.gabc\n",
+        )
         self.put("s/deep/.gitignore", "!*.old.gabc\nx.gabc\n")
         self.put_all(
-            "top.gabc", "a.gabc", "b.old.gabc", "kept.old.gabc", "drafts/c.gabc", "build/d.gabc", "build/kept.gabc", "s/top.gabc", "s/drafts/e.gabc",
-            "s/f.old.gabc", "s/deep/f.old.gabc", "s/deep/x.gabc", "s/deep/y.gabc", ".git/z.gabc",
+            "top.gabc",
+            "a.gabc",
+            "b.old.gabc",
+            "kept.old.gabc",
+            "drafts/c.gabc",
+            "build/d.gabc",
+            "build/kept.gabc",
+            "s/top.gabc",
+            "s/drafts/e.gabc",
+            "s/f.old.gabc",
+            "s/deep/f.old.gabc",
+            "s/deep/x.gabc",
+            "s/deep/y.gabc",
+            ".git/z.gabc",
         )
         kept = ["s/top.gabc", "s/deep/f.old.gabc", "s/deep/y.gabc"]
-        self.assertEqual(self.names("."), [f"./{it}" for it in ["a.gabc", "kept.old.gabc", "build/kept.gabc", *kept]])
+        self.assertEqual(
+            self.names("."),
+            [f"./{it}" for it in ["a.gabc", "kept.old.gabc", "build/kept.gabc", *kept]],
+        )
         self.assertEqual(self.names("s"), kept)
         self.assertEqual(self.names("s/deep"), kept[1:])
         self.assertEqual(self.names("drafts"), ["drafts/c.gabc"])
-        self.assertEqual(self.names("s/drafts", "b.old.gabc", "s/deep/x.gabc"), ["s/drafts/e.gabc", "b.old.gabc", "s/deep/x.gabc"])
+        self.assertEqual(
+            self.names("s/drafts", "b.old.gabc", "s/deep/x.gabc"),
+            ["s/drafts/e.gabc", "b.old.gabc", "s/deep/x.gabc"],
+        )
 
     @unittest.skipUnless(has("pathspec"), "there is no pathspec")
     def test_gitignore_above_no_repository(self) -> None:
@@ -64,7 +87,9 @@ class Walk(InFolder):
     def test_exclude(self) -> None:
         self.put_all("s/a.gabc", "s/b/c.gabc", "s/d/b/e.gabc", "s/d/f.gabc")
         self.assertEqual(self.names("s", "--exclude", "b/"), ["s/a.gabc", "s/d/f.gabc"])
-        self.assertEqual(self.names("s", "--exclude", "/b", "--exclude", "f.*"), ["s/a.gabc", "s/d/b/e.gabc"])
+        self.assertEqual(
+            self.names("s", "--exclude", "/b", "--exclude", "f.*"), ["s/a.gabc", "s/d/b/e.gabc"]
+        )
         self.assertEqual(self.names("--exclude=*.gabc", "s/a.gabc"), ["s/a.gabc"])
         ran = command("check", "s", "--exclude", "!")
         self.assertEqual((ran.returncode, ran.stdout), (3, b""))
@@ -76,20 +101,36 @@ class WithoutPackages(InFolder):
 
     def test_pathspec(self) -> None:
         self.put("s/a.gabc", FAULTY)
-        words, nothing = ("check", "--output-format", "lines", "--quiet", "s"), without(self.room, "pathspec")
+        words, nothing = ("check", "--output-format", "lines", "--quiet", "s"), without(
+            self.room, "pathspec"
+        )
         self.assertEqual(command(*words, environment=nothing).returncode, 1)
         self.put("s/.gitignore", "b\n")
-        for it in (words, ("format", "s"), ("format", "--check", "--exclude", "a", "s/a.gabc", "s")):
+        for it in (
+            words,
+            ("format", "s"),
+            ("format", "--check", "--exclude", "a", "s/a.gabc", "s"),
+        ):
             self.check_missing("pathspec", "python3-pathspec", *it)
 
     def test_rich(self) -> None:
         self.put("a.gabc", FAULTY)
         self.check_missing("rich", "python3-rich", "check", "a.gabc")
         for form in ("lines", "json", "github", "sarif"):
-            ran = command("check", "--quiet", "--output-format", form, "a.gabc", environment=without(self.room, "rich"))
+            ran = command(
+                "check",
+                "--quiet",
+                "--output-format",
+                form,
+                "a.gabc",
+                environment=without(self.room, "rich"),
+            )
             self.assertEqual((ran.returncode, ran.stderr), (1, b""))
 
     def check_missing(self, module: str, package: str, *words: str) -> None:
         ran = command(*words, environment=without(self.room, module))
         self.assertEqual((ran.returncode, ran.stdout), (3, b""))
-        self.assertRegex(ran.stderr.decode(), rf"^gregorio-chant: .* needs the package .*: apt install {package} in Debian, else pip install .*\n$")
+        self.assertRegex(
+            ran.stderr.decode(),
+            rf"^gregorio-chant: .* needs the package .*: apt install {package} in Debian, else pip install .*\n$",
+        )

@@ -1,4 +1,5 @@
-"""Tries `show --watch`: it writes again when what is shown changes, and not when anything else does."""
+"""Tries `show --watch`: it writes again when what is shown changes, and not when anything else
+does."""
 from __future__ import annotations
 
 import os
@@ -17,7 +18,11 @@ from support import FAULTY, SCORE, InFolder, command, has, without
 class Watching(InFolder):
     def watch(self, *words: str) -> None:
         """Starts the command, and waits until it has written."""
-        self.running = subprocess.Popen([sys.executable, "-m", "gregorio_chant", "show", "--watch", *words], stdout=subprocess.PIPE, stderr=subprocess.PIPE)
+        self.running = subprocess.Popen(
+            [sys.executable, "-m", "gregorio_chant", "show", "--watch", *words],
+            stdout=subprocess.PIPE,
+            stderr=subprocess.PIPE,
+        )
         self.addCleanup(self.stop)
         self.told: list[str] = []
         self.reader = threading.Thread(target=self._read)
@@ -26,7 +31,10 @@ class Watching(InFolder):
 
     def _read(self) -> None:
         assert self.running.stderr is not None
-        self.told += (line.decode().removeprefix("gregorio-chant: ").rstrip("\n") for line in iter(self.running.stderr.readline, b""))
+        self.told += (
+            line.decode().removeprefix("gregorio-chant: ").rstrip("\n")
+            for line in iter(self.running.stderr.readline, b"")
+        )
 
     def stop(self) -> None:
         """Ends it as Control-C does."""
@@ -118,15 +126,29 @@ class Words(InFolder):
     @unittest.skipUnless(has("watchdog"), "there is no watchdog")
     def test_refused(self) -> None:
         self.put("a.gabc", SCORE)
-        for words in (("a.gabc",), ("-o", "page.html", "-"), ("-o", "page.html"), ("-o", "a.gabc", "a.gabc")):
-            self.assertEqual(command("show", "--watch", *words, data=SCORE.encode()).returncode, 3, words)
+        for words in (
+            ("a.gabc",),
+            ("-o", "page.html", "-"),
+            ("-o", "page.html"),
+            ("-o", "a.gabc", "a.gabc"),
+        ):
+            self.assertEqual(
+                command("show", "--watch", *words, data=SCORE.encode()).returncode, 3, words
+            )
         self.assertEqual(command("show", "--watch", "-o", "page.html", "no/a.gabc").returncode, 4)
         self.assertEqual(Path("a.gabc").read_text(), SCORE)
 
     @unittest.skipUnless(has("watchdog"), "there is no watchdog")
     def test_missing(self) -> None:
         self.put("a.gabc", SCORE)
-        ran = command("show", "--watch", "-o", "page.html", "a.gabc", environment=without(self.room, "watchdog"))
+        ran = command(
+            "show",
+            "--watch",
+            "-o",
+            "page.html",
+            "a.gabc",
+            environment=without(self.room, "watchdog"),
+        )
         told = b"gregorio-chant: show --watch needs the package watchdog: apt install python3-watchdog in Debian, else pip install watchdog\n"
         self.assertEqual((ran.returncode, ran.stdout, ran.stderr), (3, b"", told))
 

@@ -1,4 +1,5 @@
-"""Bends trees by one record, and asks that what `test_tree_texts` looks at refuses each: a test that a wrong tree passes would show nothing."""
+"""Bends trees by one record, and asks that what `test_tree_texts` looks at refuses each: a test
+that a wrong tree passes would show nothing."""
 from __future__ import annotations
 
 import random
@@ -7,11 +8,12 @@ import unittest
 from collections.abc import Callable, Iterable
 from dataclasses import dataclass, replace
 
-from gregorio_chant import NodeKind, Tree, tree
-from gregorio_chant._native.nodes import RECORD
 from mutants import mutants
 from support import files_of_scores
 from test_tree_texts import check_tree
+
+from gregorio_chant import NodeKind, Tree, tree
+from gregorio_chant._native.nodes import RECORD
 
 _RECORD = struct.Struct("=3I4H")
 SEED = 5
@@ -44,7 +46,9 @@ def records_of(made: Tree) -> Records:
 
 def tree_of(source: bytes, records: Records) -> Tree:
     """Returns the tree of these records."""
-    packed = b"".join(_RECORD.pack(it.begin, it.end, it.inner, it.kind, it.a, it.b, it.c) for it in records)
+    packed = b"".join(
+        _RECORD.pack(it.begin, it.end, it.inner, it.kind, it.a, it.b, it.c) for it in records
+    )
     assert len(packed) == RECORD * len(records)
     return Tree(source, packed)
 
@@ -67,7 +71,9 @@ def is_gone(records: Records, at: int) -> None:
 def holds_one_more(records: Records, at: int) -> None:
     """The node holds the one after those that lie in it, up to its end."""
     past = at + 1 + records[at].inner
-    records[at] = replace(records[at], inner=records[at].inner + 1, end=records[past].end, c=records[at].c + 1)
+    records[at] = replace(
+        records[at], inner=records[at].inner + 1, end=records[past].end, c=records[at].c + 1
+    )
 
 
 def counts_short(records: Records, at: int) -> None:
@@ -121,7 +127,8 @@ def always(records: Records, at: int) -> bool:
 
 @dataclass(frozen=True)
 class Bend:
-    """An edit of records, and the nodes at which it is made: those of a kind for which something holds."""
+    """An edit of records, and the nodes at which it is made: those of a kind for which something
+    holds."""
 
     name: str
     kind: NodeKind
@@ -135,7 +142,12 @@ BENDS = (
     Bend("a comment ends a byte early", NodeKind.COMMENT, ends_early, has_two),
     Bend("what is silent is no node", NodeKind.SILENT, is_gone),
     Bend("a character that is left out is no node", NodeKind.LEFT_OUT, is_gone),
-    Bend("a character that is left out has another code", NodeKind.LEFT_OUT, other_a, lambda records, at: records[at].a <= 103),
+    Bend(
+        "a character that is left out has another code",
+        NodeKind.LEFT_OUT,
+        other_a,
+        lambda records, at: records[at].a <= 103,
+    ),
     Bend("a further blank is no node", NodeKind.FURTHER_BLANK, is_gone),
     Bend("a header's value ends a byte early", NodeKind.HEADER_VALUE, ends_early, is_some),
     Bend("a header's name begins a byte late", NodeKind.HEADER_NAME, begins_late, has_two),
@@ -156,11 +168,14 @@ BENDS = (
 )
 
 
-def places_of(bend: Bend, trees: Iterable[tuple[bytes, Records]]) -> list[tuple[bytes, Records, int]]:
+def places_of(
+    bend: Bend, trees: Iterable[tuple[bytes, Records]]
+) -> list[tuple[bytes, Records, int]]:
     """Returns the nodes at which an edit may be made."""
     return [
         (source, records, at)
-        for source, records in trees for at, it in enumerate(records)
+        for source, records in trees
+        for at, it in enumerate(records)
         if it.kind == bend.kind and bend.where(records, at)
     ]
 
@@ -182,7 +197,10 @@ class Wrong(unittest.TestCase):
                 for source, records, at in drawn.sample(places, min(TRIES, len(places))):
                     bent = list(records)
                     bend.edit(bent, at)
-                    with self.assertRaises((ValueError, IndexError, StopIteration), msg=f"{source!r}, node {at}: {records[at]}"):
+                    with self.assertRaises(
+                        (ValueError, IndexError, StopIteration),
+                        msg=f"{source!r}, node {at}: {records[at]}",
+                    ):
                         check_tree(tree_of(source, bent))
 
     def test_no_edit_is_none(self) -> None:

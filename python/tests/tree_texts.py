@@ -1,4 +1,5 @@
-"""The dump and the canonical text of a score, written from its tree alone: no character of the score is looked at to know what it means.
+"""The dump and the canonical text of a score, written from its tree alone: no character of the
+score is looked at to know what it means.
 
 Usage: python tree_texts.py FILE..     prints the nodes of each score
 """
@@ -9,21 +10,46 @@ import sys
 from collections.abc import Iterator
 from pathlib import Path
 
+from support import ROOT
+
 from gregorio_chant import tree
 from gregorio_chant._native.node_kinds import NodeKind
 from gregorio_chant._native.nodes import Node, Tree
-from support import ROOT
 
 _STYLES = ("b", "c", "e", "i", "sc", "tt", "ul")
 _SPECIAL = re.compile(r"[()\[\]{}<>%$]")
 _HEIGHTS = "abcdefghijklmnp"
 _SHAPES = (
-    "punctum", "inclinatum", "virga", "bivirga", "trivirga", "virga-reversa", "stropha", "distropha", "tristropha", "oriscus", "oriscus-scapus",
-    "quilisma", "quilisma-quadratum", "quadratum", "cavum", "lined", "linea",
+    "punctum",
+    "inclinatum",
+    "virga",
+    "bivirga",
+    "trivirga",
+    "virga-reversa",
+    "stropha",
+    "distropha",
+    "tristropha",
+    "oriscus",
+    "oriscus-scapus",
+    "quilisma",
+    "quilisma-quadratum",
+    "quadratum",
+    "cavum",
+    "lined",
+    "linea",
 )
 _BASES = (
-    "pes", "clivis", "torculus", "porrectus", "scandicus", "scandicus-flexus", "torculus-resupinus", "porrectus-flexus",
-    "torculus-resupinus-flexus", "climacus", "inclinata",
+    "pes",
+    "clivis",
+    "torculus",
+    "porrectus",
+    "scandicus",
+    "scandicus-flexus",
+    "torculus-resupinus",
+    "porrectus-flexus",
+    "torculus-resupinus-flexus",
+    "climacus",
+    "inclinata",
 )
 _ONE_NOTE = 16
 _CLIMACUS = 9
@@ -51,6 +77,7 @@ def _escaped(text: str) -> str:
 
 # ---- the headers
 
+
 def _has_score(tree: Tree) -> bool:
     return any(tree.root.children(NodeKind.SCORE_LINE))
 
@@ -59,7 +86,9 @@ def _book(tree: Tree) -> list[tuple[str, str]]:
     """Returns the headers that count, each at its first place with its last value."""
     book: list[tuple[str, str]] = []
     for header in tree.root.children(NodeKind.HEADER):
-        name, value = (it.kept for it in header.children(NodeKind.HEADER_NAME, NodeKind.HEADER_VALUE))
+        name, value = (
+            it.kept for it in header.children(NodeKind.HEADER_NAME, NodeKind.HEADER_VALUE)
+        )
         if header.a == _REPEATS:
             book[max(at for at, it in enumerate(book) if it[0] == name)] = (name, value)
         else:
@@ -75,6 +104,7 @@ def _header_line(name: str, value: str) -> str:
 
 # ---- the text of a syllable
 
+
 def _piece(node: Node) -> str | None:
     """Returns what is written of a node of a text, if it is a piece of it."""
     kind = node.kind
@@ -82,7 +112,11 @@ def _piece(node: Node) -> str | None:
         return _SPECIAL.sub(r"$\g<0>", node.kept)
     if kind == NodeKind.TEXT_BLANK:
         return " " if node.b else None
-    return node.kept if kind in (NodeKind.ESCAPE, NodeKind.RAW, NodeKind.TAG, NodeKind.SPAN_MARK) else None
+    return (
+        node.kept
+        if kind in (NodeKind.ESCAPE, NodeKind.RAW, NodeKind.TAG, NodeKind.SPAN_MARK)
+        else None
+    )
 
 
 def _styles(node: Node) -> list[str]:
@@ -90,8 +124,12 @@ def _styles(node: Node) -> list[str]:
 
 
 def _joint(was: list[str], now: list[str], marks: str) -> str:
-    """Returns what stands between two pieces in these styles: closing tags, the marks of the centre, opening tags."""
-    same = next((at for at, (one, other) in enumerate(zip(was, now)) if one != other), min(len(was), len(now)))
+    """Returns what stands between two pieces in these styles: closing tags, the marks of the
+    centre, opening tags."""
+    same = next(
+        (at for at, (one, other) in enumerate(zip(was, now)) if one != other),
+        min(len(was), len(now)),
+    )
     closed = "".join(f"</{it}>" for it in reversed(was[same:]))
     return closed + marks + "".join(f"<{it}>" for it in now[same:])
 
@@ -120,11 +158,17 @@ def _translation_of(syllable: Node) -> str | None:
 
 # ---- the canonical text
 
+
 def _canonical_syllable(syllable: Node) -> str:
     translation = _translation_of(syllable)
     notes = "|".join(it.kept for it in syllable.children(NodeKind.SNIPPET))
     begins_word = syllable.a in (0, 1)
-    return "\n" * begins_word + text_of(syllable) + (f"[{translation}]" if translation is not None else "") + f"({notes})"
+    return (
+        "\n" * begins_word
+        + text_of(syllable)
+        + (f"[{translation}]" if translation is not None else "")
+        + f"({notes})"
+    )
 
 
 def canonical_of(tree: Tree) -> str:
@@ -132,10 +176,16 @@ def canonical_of(tree: Tree) -> str:
     if not _has_score(tree):
         return ""
     headers = "".join(_header_line(*it) for it in _book(tree))
-    return headers + "%%" + "".join(map(_canonical_syllable, tree.root.children(NodeKind.SYLLABLE))) + "\n"
+    return (
+        headers
+        + "%%"
+        + "".join(map(_canonical_syllable, tree.root.children(NodeKind.SYLLABLE)))
+        + "\n"
+    )
 
 
 # ---- the dump
+
 
 def _glyph_line(glyph: Node) -> str:
     base = _SHAPES[glyph.a - _ONE_NOTE] if glyph.a >= _ONE_NOTE else _BASES[glyph.a]
@@ -153,7 +203,10 @@ def _descriptor_line(descriptor: Node, spelling: str) -> str:
 
 
 _SIMPLE = {
-    NodeKind.CLEF: "clef", NodeKind.LINE_BREAK: "break", NodeKind.FUSION: "fusion", NodeKind.NABC_SPACE: "space",
+    NodeKind.CLEF: "clef",
+    NodeKind.LINE_BREAK: "break",
+    NodeKind.FUSION: "fusion",
+    NodeKind.NABC_SPACE: "space",
 }
 
 
@@ -179,8 +232,18 @@ def _item_line(item: Node) -> str:
 
 
 _ITEMS = (
-    NodeKind.GLYPH, NodeKind.NOTE, NodeKind.ALTERATION, NodeKind.CLEF, NodeKind.BAR, NodeKind.SPACING, NodeKind.CUSTOS, NodeKind.LINE_BREAK,
-    NodeKind.ATTRIBUTE, NodeKind.FUSION, NodeKind.DESCRIPTOR, NodeKind.NABC_SPACE,
+    NodeKind.GLYPH,
+    NodeKind.NOTE,
+    NodeKind.ALTERATION,
+    NodeKind.CLEF,
+    NodeKind.BAR,
+    NodeKind.SPACING,
+    NodeKind.CUSTOS,
+    NodeKind.LINE_BREAK,
+    NodeKind.ATTRIBUTE,
+    NodeKind.FUSION,
+    NodeKind.DESCRIPTOR,
+    NodeKind.NABC_SPACE,
 )
 
 
@@ -233,7 +296,8 @@ def dump_of(tree: Tree) -> str:
 
 
 def outline_of(tree: Tree) -> Iterator[str]:
-    """Yields a line for each node: what it is, its bytes, its numbers and its own bytes, indented by what it lies in."""
+    """Yields a line for each node: what it is, its bytes, its numbers and its own bytes, indented
+    by what it lies in."""
     ends: list[int] = []
     for node in tree:
         while ends and ends[-1] <= node.number:

@@ -28,15 +28,28 @@ Values = tuple[int, int, int]
 
 # ---- notes
 
+
 def numbers_of(signs: NoteSigns) -> tuple[int, ...]:
     """Returns the numbers that say these signs."""
     over_staff = sum(1 << _OVER_STAFF.index(it) for it in set(signs.over_staff))
     orientation = {None: 0, False: 1, True: 2}[signs.points_up]
     sizes = [_SIZES.index(it.size) for it in signs.episemata if it.size != "whole"]
-    covered = [max((min(it.count, 7) for it in signs.episemata if it.side == side), default=0) for side in (AUTO, OVER, UNDER)]
+    covered = [
+        max((min(it.count, 7) for it in signs.episemata if it.side == side), default=0)
+        for side in (AUTO, OVER, UNDER)
+    ]
     return (
-        over_staff, int(signs.is_hollow), int(signs.is_lined), orientation, _LIQUESCENCES[signs.liquescence], min(signs.morae, 3), _SIDES[signs.ictus],
-        sizes[-1] if sizes else 0, int(any(not it.is_bridged for it in signs.episemata)), int(signs.is_initio_debilis), *covered,
+        over_staff,
+        int(signs.is_hollow),
+        int(signs.is_lined),
+        orientation,
+        _LIQUESCENCES[signs.liquescence],
+        min(signs.morae, 3),
+        _SIDES[signs.ictus],
+        sizes[-1] if sizes else 0,
+        int(any(not it.is_bridged for it in signs.episemata)),
+        int(signs.is_initio_debilis),
+        *covered,
     )
 
 
@@ -44,28 +57,51 @@ def numbers_in(note: Node) -> tuple[int, ...]:
     """Returns the same numbers as the node says them."""
     a, b, c = note.values
     return (
-        a >> 4 & 255, a >> 12 & 1, a >> 13 & 1, a >> 14, b >> 5 & 3, b >> 7 & 3, b >> 9 & 3, b >> 11 & 3, b >> 13, c >> 5 & 1,
-        c >> 7 & 7, c >> 10 & 7, c >> 13,
+        a >> 4 & 255,
+        a >> 12 & 1,
+        a >> 13 & 1,
+        a >> 14,
+        b >> 5 & 3,
+        b >> 7 & 3,
+        b >> 9 & 3,
+        b >> 11 & 3,
+        b >> 13,
+        c >> 5 & 1,
+        c >> 7 & 7,
+        c >> 10 & 7,
+        c >> 13,
     )
 
 
 # ---- other items of GABC
 
+
 def _alteration(spelling: str) -> Values:
     sign = spelling[1:]
     is_other = sign[:1].isupper() or sign.startswith("##")
-    return _HEIGHTS.index(spelling[0].lower()), "xy#".index(sign[0].lower()) + 1, int("?" in sign) + 2 * is_other
+    return (
+        _HEIGHTS.index(spelling[0].lower()),
+        "xy#".index(sign[0].lower()) + 1,
+        int("?" in sign) + 2 * is_other,
+    )
 
 
 def _clef(spelling: str) -> Values:
-    first, *second = ((int(letter == "f"), int(bool(flat)), int(line)) for letter, flat, line in _CLEF.findall(spelling))
+    first, *second = (
+        (int(letter == "f"), int(bool(flat)), int(line))
+        for letter, flat, line in _CLEF.findall(spelling)
+    )
     other = 1 + 2 * second[0][0] + 4 * second[0][1] + 8 * second[0][2] if second else 0
     return first[0] + 2 * first[1], first[2], other
 
 
 def _bar(spelling: str) -> Values:
     digit = _BAR.match(spelling)
-    return 5 if spelling.startswith("::") else "`^,;:".index(spelling[0]), 1 + int(digit[1]) if digit and digit[1] else 0, 0
+    return (
+        5 if spelling.startswith("::") else "`^,;:".index(spelling[0]),
+        1 + int(digit[1]) if digit and digit[1] else 0,
+        0,
+    )
 
 
 def _spacing(spelling: str) -> Values:
@@ -92,6 +128,7 @@ def _fusion(spelling: str) -> Values:
 
 # ---- NABC
 
+
 def _nabc_glyph(spelling: str) -> Values:
     height = _GLYPH_HEIGHT.match(spelling, 2)
     return ord(spelling[0]), ord(spelling[1]), 1 + _HEIGHTS.index(height[1]) if height else 0
@@ -111,6 +148,7 @@ def _nabc_letters(spelling: str) -> Values:
 
 # ---- texts, of which the styles are not looked at here
 
+
 def _raw(spelling: str) -> Values:
     return 0, ("v", "sp", "alt").index(spelling[1 : spelling.index(">")]), 0
 
@@ -128,10 +166,21 @@ def _brace(spelling: str) -> Values:
 
 
 _READERS: dict[NodeKind, Callable[[str], Values]] = {
-    NodeKind.ALTERATION: _alteration, NodeKind.CLEF: _clef, NodeKind.BAR: _bar, NodeKind.SPACING: _spacing, NodeKind.CUSTOS: _custos,
-    NodeKind.LINE_BREAK: _line_break, NodeKind.ATTRIBUTE: _attribute, NodeKind.FUSION: _fusion,
-    NodeKind.NABC_GLYPH: _nabc_glyph, NodeKind.NABC_POINTS: _nabc_points, NodeKind.NABC_LETTERS: _nabc_letters,
-    NodeKind.RAW: _raw, NodeKind.SPAN_MARK: _span_mark, NodeKind.STYLE_TAG: _style_tag, NodeKind.BRACE: _brace,
+    NodeKind.ALTERATION: _alteration,
+    NodeKind.CLEF: _clef,
+    NodeKind.BAR: _bar,
+    NodeKind.SPACING: _spacing,
+    NodeKind.CUSTOS: _custos,
+    NodeKind.LINE_BREAK: _line_break,
+    NodeKind.ATTRIBUTE: _attribute,
+    NodeKind.FUSION: _fusion,
+    NodeKind.NABC_GLYPH: _nabc_glyph,
+    NodeKind.NABC_POINTS: _nabc_points,
+    NodeKind.NABC_LETTERS: _nabc_letters,
+    NodeKind.RAW: _raw,
+    NodeKind.SPAN_MARK: _span_mark,
+    NodeKind.STYLE_TAG: _style_tag,
+    NodeKind.BRACE: _brace,
 }
 _OF_TEXTS = (NodeKind.RAW, NodeKind.SPAN_MARK, NodeKind.STYLE_TAG, NodeKind.BRACE)
 

@@ -1,11 +1,13 @@
-"""Bytes that cross to the library by their address, and rooms for it to write into: nothing is copied but what a call hands out."""
+"""Bytes that cross to the library by their address, and rooms for it to write into: nothing is
+copied but what a call hands out."""
 from __future__ import annotations
 
 import ctypes
 import mmap
 from types import TracebackType
 
-# A room of more bytes than this is not kept for the next call, and takes memory only where it is written into.
+# A room of more bytes than this is not kept for the next call, and takes memory only where it is
+# written into.
 _MOST_KEPT = 1 << 22
 
 
@@ -13,9 +15,17 @@ class _View(ctypes.Structure):
     """CPython's `Py_buffer`: where the bytes of an object stand, as long as it is held."""
 
     _fields_ = [
-        ("address", ctypes.c_void_p), ("owner", ctypes.c_void_p), ("length", ctypes.c_ssize_t), ("itemsize", ctypes.c_ssize_t),
-        ("readonly", ctypes.c_int), ("ndim", ctypes.c_int), ("format", ctypes.c_void_p), ("shape", ctypes.c_void_p),
-        ("strides", ctypes.c_void_p), ("suboffsets", ctypes.c_void_p), ("internal", ctypes.c_void_p),
+        ("address", ctypes.c_void_p),
+        ("owner", ctypes.c_void_p),
+        ("length", ctypes.c_ssize_t),
+        ("itemsize", ctypes.c_ssize_t),
+        ("readonly", ctypes.c_int),
+        ("ndim", ctypes.c_int),
+        ("format", ctypes.c_void_p),
+        ("shape", ctypes.c_void_p),
+        ("strides", ctypes.c_void_p),
+        ("suboffsets", ctypes.c_void_p),
+        ("internal", ctypes.c_void_p),
     ]
 
 
@@ -28,7 +38,8 @@ _PLAIN = 0
 
 
 def bytes_of(score: str | bytes | bytearray | memoryview) -> bytes | bytearray | memoryview:
-    """Returns the bytes of `score`, a `str` as its UTF-8, and bytes as they are. Raises `TypeError` for anything else."""
+    """Returns the bytes of `score`, a `str` as its UTF-8, and bytes as they are. Raises `TypeError`
+    for anything else."""
     if isinstance(score, str):
         return score.encode("utf-8", "surrogatepass")
     if isinstance(score, (bytes, bytearray, memoryview)):
@@ -37,7 +48,8 @@ def bytes_of(score: str | bytes | bytearray | memoryview) -> bytes | bytearray |
 
 
 class Borrowed:
-    """The bytes of an object, by their address. As long as they are borrowed, a `bytearray` keeps its length.
+    """The bytes of an object, by their address. As long as they are borrowed, a `bytearray` keeps
+    its length.
 
     A `memoryview` whose bytes do not stand in a row, as `view[::2]`, is copied.
     """
@@ -54,7 +66,12 @@ class Borrowed:
     def __enter__(self) -> Borrowed:
         return self
 
-    def __exit__(self, kind: type[BaseException] | None, error: BaseException | None, trace: TracebackType | None) -> None:
+    def __exit__(
+        self,
+        kind: type[BaseException] | None,
+        error: BaseException | None,
+        trace: TracebackType | None,
+    ) -> None:
         _let_go(self._view)
 
 
@@ -69,7 +86,8 @@ def _memory_of(length: int) -> bytearray | mmap.mmap:
 
 
 class Room:
-    """Bytes for the library to write into. A room is used again, so that no call fills it with zeros first, and is lent to one call at a time."""
+    """Bytes for the library to write into. A room is used again, so that no call fills it with
+    zeros first, and is lent to one call at a time."""
 
     _spare: list[Room] = []
 
@@ -97,7 +115,8 @@ class Room:
             self._spare.append(self)
 
     def address(self) -> int | None:
-        """Returns where the bytes stand, as long as the room keeps them. A `ctypes.cast` would hold them until garbage is collected."""
+        """Returns where the bytes stand, as long as the room keeps them. A `ctypes.cast` would hold
+        them until garbage is collected."""
         return ctypes.addressof(ctypes.c_char.from_buffer(self.content)) if self.content else None
 
     def text(self, length: int) -> str:
@@ -109,6 +128,7 @@ class Room:
         return bytes(memoryview(self.content)[:length])
 
     def lasting(self, length: int) -> memoryview:
-        """Returns the first `length` bytes, which no later call writes over: a copy if this room is kept for the next call."""
+        """Returns the first `length` bytes, which no later call writes over: a copy if this room is
+        kept for the next call."""
         head = memoryview(self.content)[:length]
         return memoryview(bytes(head)) if len(self.content) <= _MOST_KEPT else head

@@ -1,4 +1,5 @@
-"""What a node of a tree is. The numbers are those of the compiler, and stay as they are (docs/FORMATS.md, *The tree*)."""
+"""What a node of a tree is. The numbers are those of the compiler, and stay as they are
+(docs/FORMATS.md, *The tree*)."""
 from __future__ import annotations
 
 import enum
@@ -48,6 +49,12 @@ class NodeKind(enum.IntEnum):
 
 
 # What is not kept of a text or of notes.
-NOT_KEPT = frozenset({
-    NodeKind.HEADER_COMMENT, NodeKind.COMMENT, NodeKind.LEFT_OUT, NodeKind.FURTHER_BLANK, NodeKind.SILENT,
-})
+NOT_KEPT = frozenset(
+    {
+        NodeKind.HEADER_COMMENT,
+        NodeKind.COMMENT,
+        NodeKind.LEFT_OUT,
+        NodeKind.FURTHER_BLANK,
+        NodeKind.SILENT,
+    }
+)

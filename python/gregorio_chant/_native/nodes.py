@@ -1,12 +1,13 @@
-"""The tree of a score: its nodes, each with its place, as views of the compiler's records that are made when they are asked for."""
+"""The tree of a score: its nodes, each with its place, as views of the compiler's records that are
+made when they are asked for."""
 from __future__ import annotations
 
 import bisect
 from collections.abc import Iterator
 from functools import cached_property
 
-from gregorio_chant.text.byte_places import BytePlaces
 from gregorio_chant._native.node_kinds import NOT_KEPT, NodeKind
+from gregorio_chant.text.byte_places import BytePlaces
 from gregorio_chant.text.source import Place
 
 # A record: `begin`, `end` and `inner` of four bytes each, and `kind`, `a`, `b` and `c` of two each.
@@ -17,8 +18,9 @@ _KINDS = tuple(NodeKind)
 
 
 class Node:
-    """A node of a tree: what it is, its bytes, what its kind says of it in numbers, and the nodes that lie in it. Those of its bytes that lie in no node
-    inside it are its own. Two nodes are equal if they are the same one of the same tree."""
+    """A node of a tree: what it is, its bytes, what its kind says of it in numbers, and the nodes
+    that lie in it. Those of its bytes that lie in no node inside it are its own. Two nodes are
+    equal if they are the same one of the same tree."""
 
     __slots__ = ("number", "tree")
 
@@ -87,7 +89,8 @@ class Node:
         return (Node(self.tree, it) for it in range(self.number + 1, self.past))
 
     def children(self, *kinds: NodeKind) -> Iterator[Node]:
-        """Yields the nodes that lie directly in it, in order; if `kinds` are given, those of these kinds."""
+        """Yields the nodes that lie directly in it, in order; if `kinds` are given, those of these
+        kinds."""
         number, past = self.number + 1, self.past
         while number < past:
             node = Node(self.tree, number)
@@ -111,7 +114,8 @@ class Node:
         return b"".join(self.tree.source[begin:end] for begin, end in self.own_spans())
 
     def own_spans(self) -> Iterator[tuple[int, int]]:
-        """Yields where its own bytes stand: one span more than it has children, some of no bytes."""
+        """Yields where its own bytes stand: one span more than it has children, some of no
+        bytes."""
         return self._between(self.children())
 
     @property
@@ -120,7 +124,11 @@ class Node:
         if not len(self):
             return self.text.replace("\r", "\n")
         spans = self._between(self._not_kept())
-        return b"".join(self.tree.source[begin:end] for begin, end in spans).decode("utf-8", "replace").replace("\r", "\n")
+        return (
+            b"".join(self.tree.source[begin:end] for begin, end in spans)
+            .decode("utf-8", "replace")
+            .replace("\r", "\n")
+        )
 
     @property
     def place(self) -> Place:
@@ -161,8 +169,9 @@ class Node:
 
 
 class Tree:
-    """The tree of a score: a list of nodes, in the order of the file, each before those that lie in it. The first is the file, in which all others lie. Each
-    byte of the score belongs to the innermost node that holds it, so the own bytes of all nodes join to the score.
+    """The tree of a score: a list of nodes, in the order of the file, each before those that lie in
+    it. The first is the file, in which all others lie. Each byte of the score belongs to the
+    innermost node that holds it, so the own bytes of all nodes join to the score.
 
     `source` is the score, as bytes. `records` are the compiler's, in the machine's order of bytes.
     """
@@ -197,10 +206,15 @@ class Tree:
     def of_kind(self, *kinds: NodeKind) -> Iterator[Node]:
         """Yields the nodes of these kinds, in order."""
         wanted = frozenset(map(int, kinds))
-        return (Node(self, number) for number, kind in enumerate(self.narrow[_KIND::_NARROW].tolist()) if kind in wanted)
+        return (
+            Node(self, number)
+            for number, kind in enumerate(self.narrow[_KIND::_NARROW].tolist())
+            if kind in wanted
+        )
 
     def at(self, offset: int) -> Node:
-        """Returns the innermost node that holds the byte `offset`: that to which the byte belongs. Raises `IndexError` if the score has no such byte."""
+        """Returns the innermost node that holds the byte `offset`: that to which the byte belongs.
+        Raises `IndexError` if the score has no such byte."""
         if not 0 <= offset < len(self.source):
             raise IndexError(f"a score of {len(self.source)} bytes has no byte {offset}")
         number = bisect.bisect_right(self.wide[::_WIDE], offset) - 1
@@ -209,7 +223,8 @@ class Tree:
         return Node(self, number)
 
     def place(self, offset: int) -> Place:
-        """Returns the place of the byte `offset`: the characters before it, its line and its column, as in messages."""
+        """Returns the place of the byte `offset`: the characters before it, its line and its
+        column, as in messages."""
         return self._places.place(offset)
 
     @cached_property

@@ -25,13 +25,22 @@ class Origin:
 def origin() -> Origin:
     """Returns what the library says of itself, and what the file BUILD beside it says, which
     `tools/build_c` writes with it."""
-    version = ctypes.string_at(ctypes.addressof(ctypes.c_char.in_dll(library.LIBRARY, "gregorio_version")))
+    version = ctypes.string_at(
+        ctypes.addressof(ctypes.c_char.in_dll(library.LIBRARY, "gregorio_version"))
+    )
     lines = _lines_of(Path(__file__).parents[1] / "BUILD")
-    return Origin(__version__, version.decode(), lines.get("commit", _UNKNOWN), lines.get("kit", _UNKNOWN))
+    return Origin(
+        __version__, version.decode(), lines.get("commit", _UNKNOWN), lines.get("kit", _UNKNOWN)
+    )
 
 
 def _lines_of(file: Path) -> dict[str, str]:
     """Returns what stands after the first word of each line; nothing where there is no file."""
     if not file.exists():
         return {}
-    return {word: rest for word, _, rest in (it.partition(" ") for it in file.read_text(encoding="utf-8").splitlines())}
+    return {
+        word: rest
+        for word, _, rest in (
+            it.partition(" ") for it in file.read_text(encoding="utf-8").splitlines()
+        )
+    }

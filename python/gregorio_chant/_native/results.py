@@ -23,8 +23,8 @@ class Kind(enum.Enum):
 
 
 class Status(enum.IntEnum):
-    """The status of a score: read to its end without an error, read to its end with errors, read up to a fatal fault, or, by `Run.broken`, up to the
-    failure of its source."""
+    """The status of a score: read to its end without an error, read to its end with errors, read up
+    to a fatal fault, or, by `Run.broken`, up to the failure of its source."""
 
     WHOLE = 0
     ERRORS = 1
@@ -33,7 +33,8 @@ class Status(enum.IntEnum):
 
 
 class StateError(ValueError):
-    """Bytes that are no state of a run, or the state of a run with another format or other warnings."""
+    """Bytes that are no state of a run, or the state of a run with another format or other
+    warnings."""
 
 
 class RunOverError(RuntimeError):
@@ -55,7 +56,8 @@ _LINE = re.compile(r"<stdin>:(\d+):(\d+): (warning|error|fatal): (\w+): (.*)\n")
 
 
 def messages_of(text: str) -> tuple[Message, ...]:
-    """Returns the messages in the lines of `text`. Raises `ValueError` for a line that is no message."""
+    """Returns the messages in the lines of `text`. Raises `ValueError` for a line that is no
+    message."""
     messages = []
     start = 0
     while start < len(text):
@@ -69,7 +71,8 @@ def messages_of(text: str) -> tuple[Message, ...]:
 
 @dataclass(frozen=True)
 class Result:
-    """The result of `compile`. Iterating over it yields its messages, in the order of their places."""
+    """The result of `compile`. Iterating over it yields its messages, in the order of their
+    places."""
 
     output: str = field(repr=False)
     status: Status
@@ -102,8 +105,8 @@ class Result:
 
 @dataclass(frozen=True)
 class Step:
-    """The result of a step of a run. The status is `None` until the run ends. Iterating over it yields its messages, in the order of their
-    places."""
+    """The result of a step of a run. The status is `None` until the run ends. Iterating over it
+    yields its messages, in the order of their places."""
 
     output: str = field(repr=False)
     status: Status | None

@@ -3,10 +3,19 @@ from __future__ import annotations
 
 import argparse
 
-from gregorio_chant.linting import checking
 from gregorio_chant.commands.words import (
-    KNOWN, OUTSIDE, STATUSES, Parser, add_jobs, add_no_config, add_paths, examples, paths_of, settings_of,
+    KNOWN,
+    OUTSIDE,
+    STATUSES,
+    Parser,
+    add_jobs,
+    add_no_config,
+    add_paths,
+    examples,
+    paths_of,
+    settings_of,
 )
+from gregorio_chant.linting import checking
 from gregorio_chant.linting.fixing import fix_files
 from gregorio_chant.linting.selection import UnknownCode, codes_in
 from gregorio_chant.work.settings import Chosen
@@ -14,28 +23,62 @@ from gregorio_chant.work.streams import STDIN
 
 NAME = "check"
 _ABOUT = f"Checks scores, and says what to write instead of each mistake. It writes no file without --fix. {OUTSIDE}"
-_EXAMPLES = examples((
-    "gregorio-chant check scores",
-    "gregorio-chant check --select E,F --exclude drafts/ scores",
-    "gregorio-chant check --output-format sarif scores >scores.sarif",
-))
+_EXAMPLES = examples(
+    (
+        "gregorio-chant check scores",
+        "gregorio-chant check --select E,F --exclude drafts/ scores",
+        "gregorio-chant check --output-format sarif scores >scores.sarif",
+    )
+)
 
 
 def add(commands: argparse._SubParsersAction[Parser]) -> Parser:
     """Adds the arguments of `check`."""
-    it = commands.add_parser(NAME, help="check scores, and repair them", description=_ABOUT, epilog=f"{_EXAMPLES}\n\n{STATUSES}")
+    it = commands.add_parser(
+        NAME,
+        help="check scores, and repair them",
+        description=_ABOUT,
+        epilog=f"{_EXAMPLES}\n\n{STATUSES}",
+    )
     add_paths(it)
     it.add_argument(
-        "--output-format", choices=checking.FORMS, default="text", metavar="FORM",
+        "--output-format",
+        choices=checking.FORMS,
+        default="text",
+        metavar="FORM",
         help="text with the line of the score (default), lines for editors, json, github or sarif",
     )
-    it.add_argument("--select", metavar="CODES", help="report only these: codes with commas between them; E, W or F is a whole kind, rules are all rules")
-    it.add_argument("--ignore", metavar="CODES", help="do not report these; a fatal fault is always reported")
-    it.add_argument("--fail-on", metavar="CODES", help="end with status 1 if one of these is reported")
-    it.add_argument("--rules", action="store_true", help="also try the rules, for mistakes that the language allows; explain --all lists them")
-    it.add_argument("--fix", action="store_true", help="repair the files first, then report the rest; no note and no sung letter changes")
-    it.add_argument("--unsafe-fixes", action="store_true", help="with --fix: also guess, as where a bracket is missing; each guess says what it changes")
-    it.add_argument("--diff", action="store_true", help="with --fix: write no file, and show the changes as a diff")
+    it.add_argument(
+        "--select",
+        metavar="CODES",
+        help="report only these: codes with commas between them; E, W or F is a whole kind, rules are all rules",
+    )
+    it.add_argument(
+        "--ignore", metavar="CODES", help="do not report these; a fatal fault is always reported"
+    )
+    it.add_argument(
+        "--fail-on", metavar="CODES", help="end with status 1 if one of these is reported"
+    )
+    it.add_argument(
+        "--rules",
+        action="store_true",
+        help="also try the rules, for mistakes that the language allows; explain --all lists them",
+    )
+    it.add_argument(
+        "--fix",
+        action="store_true",
+        help="repair the files first, then report the rest; no note and no sung letter changes",
+    )
+    it.add_argument(
+        "--unsafe-fixes",
+        action="store_true",
+        help="with --fix: also guess, as where a bracket is missing; each guess says what it changes",
+    )
+    it.add_argument(
+        "--diff",
+        action="store_true",
+        help="with --fix: write no file, and show the changes as a diff",
+    )
     add_jobs(it)
     add_no_config(it)
     it.add_argument("--quiet", action="store_true", help="write no summary")
@@ -62,7 +105,15 @@ def run(words: argparse.Namespace) -> int:
     `SettingsError`."""
     chosen = Chosen(_codes(words.select), _codes(words.ignore), _codes(words.fail_on))
     options = checking.Options(
-        paths_of(words), chosen, words.output_format, words.rules, words.jobs, words.quiet, tuple(words.exclude), words.staged, settings_of(words)
+        paths_of(words),
+        chosen,
+        words.output_format,
+        words.rules,
+        words.jobs,
+        words.quiet,
+        tuple(words.exclude),
+        words.staged,
+        settings_of(words),
     )
     fixed = _fix(words, options)
     return fixed if words.diff else max(fixed, checking.check(options))

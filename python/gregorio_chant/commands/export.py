@@ -3,11 +3,21 @@ from __future__ import annotations
 
 import argparse
 
-from gregorio_chant.commands.words import OUTSIDE, STATUSES, Parser, add_files, add_no_config, examples, paths_of, positive, settings_of
-from gregorio_chant.export.exporting import Options, export
+from gregorio_chant.commands.words import (
+    OUTSIDE,
+    STATUSES,
+    Parser,
+    add_files,
+    add_no_config,
+    examples,
+    paths_of,
+    positive,
+    settings_of,
+)
 from gregorio_chant.export import Way, mei, musicxml, volpiano
-from gregorio_chant.work.needs import need
+from gregorio_chant.export.exporting import Options, export
 from gregorio_chant.linting.selection import UnknownCode
+from gregorio_chant.work.needs import need
 
 NAME = "export"
 _TEMPO = 140
@@ -15,19 +25,44 @@ _TEMPO = 140
 _WAYS = {it.name: it for it in (volpiano.WAY, musicxml.WAY, mei.WAY)}
 _ABOUT = f"""Writes scores in another format, into files with the same name and another ending: volpiano (.volpiano) for chant databases, musicxml (.musicxml) for
 editors of modern notation, mei (.mei) for scholars, midi (.mid) for listening. A line names each kind of sign that the format loses. {OUTSIDE}"""
-_EXAMPLES = examples((
-    "gregorio-chant export --to musicxml score.gabc", "gregorio-chant export --to volpiano - <score.gabc", "gregorio-chant export --to midi --force --tempo 120 scores",
-))
+_EXAMPLES = examples(
+    (
+        "gregorio-chant export --to musicxml score.gabc",
+        "gregorio-chant export --to volpiano - <score.gabc",
+        "gregorio-chant export --to midi --force --tempo 120 scores",
+    )
+)
 
 
 def add(commands: argparse._SubParsersAction[Parser]) -> Parser:
     """Adds the arguments of `export`."""
-    it = commands.add_parser(NAME, help="write scores as Volpiano, MusicXML, MEI or MIDI", description=_ABOUT, epilog=f"{_EXAMPLES}\n\n{STATUSES}")
-    it.add_argument("--to", choices=(*_WAYS, "midi"), required=True, metavar="FORMAT", help="volpiano, musicxml, mei or midi")
+    it = commands.add_parser(
+        NAME,
+        help="write scores as Volpiano, MusicXML, MEI or MIDI",
+        description=_ABOUT,
+        epilog=f"{_EXAMPLES}\n\n{STATUSES}",
+    )
+    it.add_argument(
+        "--to",
+        choices=(*_WAYS, "midi"),
+        required=True,
+        metavar="FORMAT",
+        help="volpiano, musicxml, mei or midi",
+    )
     add_files(it, ", which is written to standard output")
-    it.add_argument("--folder", metavar="DIR", help="write the files into this folder, and not beside the scores")
+    it.add_argument(
+        "--folder",
+        metavar="DIR",
+        help="write the files into this folder, and not beside the scores",
+    )
     it.add_argument("--force", action="store_true", help="replace files that are there already")
-    it.add_argument("--tempo", type=positive, default=_TEMPO, metavar="N", help="with midi: notes per minute (default %(default)s)")
+    it.add_argument(
+        "--tempo",
+        type=positive,
+        default=_TEMPO,
+        metavar="N",
+        help="with midi: notes per minute (default %(default)s)",
+    )
     add_no_config(it)
     it.add_argument("--quiet", action="store_true", help="write no summary")
     return it
@@ -36,13 +71,25 @@ def add(commands: argparse._SubParsersAction[Parser]) -> Parser:
 def _midi(notes_a_minute: int) -> Way:
     need("export --to midi", "mido")
     from gregorio_chant.export.midi import midi_of
+
     return Way("midi", ".mid", lambda score: midi_of(score, notes_a_minute), frozenset())
 
 
 def run(words: argparse.Namespace) -> int:
-    """Writes the files. Raises `UnknownCode`, `WriteError`, `MissingDependency` and `SettingsError`."""
+    """Writes the files. Raises `UnknownCode`, `WriteError`, `MissingDependency` and
+    `SettingsError`."""
     if words.tempo > 1_000:
         raise UnknownCode(f"--tempo {words.tempo}: at most 1,000 notes a minute")
     paths = paths_of(words)
     way = _WAYS[words.to] if words.to in _WAYS else _midi(words.tempo)
-    return export(Options(paths, way, words.folder, words.force, tuple(words.exclude), settings_of(words), words.quiet))
+    return export(
+        Options(
+            paths,
+            way,
+            words.folder,
+            words.force,
+            tuple(words.exclude),
+            settings_of(words),
+            words.quiet,
+        )
+    )

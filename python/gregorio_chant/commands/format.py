@@ -3,38 +3,71 @@ from __future__ import annotations
 
 import argparse
 
-from gregorio_chant.format import formatting
 from gregorio_chant.commands.words import (
-    OUTSIDE, STATUSES, Parser, add_jobs, add_no_config, add_paths, examples, paths_of, positive, settings_of,
+    OUTSIDE,
+    STATUSES,
+    Parser,
+    add_jobs,
+    add_no_config,
+    add_paths,
+    examples,
+    paths_of,
+    positive,
+    settings_of,
 )
+from gregorio_chant.format import formatting
 from gregorio_chant.format.losses import REASONS
-from gregorio_chant.text.nearest import did_you_mean
 from gregorio_chant.linting.selection import UnknownCode
+from gregorio_chant.text.nearest import did_you_mean
 
 NAME = "format"
 _ABOUT = f"""Writes headers and syllables in canonical spelling, and keeps lines, empty lines and comments. A part with a message keeps its
 spelling. A file is written only if the compiler gives the same canonical form, dump and messages for the new text. The new file is written beside the
 old one, and then replaces it. {OUTSIDE}"""
-_EXAMPLES = examples((
-    "gregorio-chant format scores",
-    "gregorio-chant format --check --exclude drafts/ scores",
-    "gregorio-chant format --diff --wrap 80 score.gabc",
-))
+_EXAMPLES = examples(
+    (
+        "gregorio-chant format scores",
+        "gregorio-chant format --check --exclude drafts/ scores",
+        "gregorio-chant format --diff --wrap 80 score.gabc",
+    )
+)
 
 
 def add(commands: argparse._SubParsersAction[Parser]) -> Parser:
     """Adds the arguments of `format`."""
     it = commands.add_parser(
-        NAME, help="write files in canonical spelling, with the lines and comments of their editor", description=_ABOUT,
+        NAME,
+        help="write files in canonical spelling, with the lines and comments of their editor",
+        description=_ABOUT,
         epilog=f"{_EXAMPLES}\n\n{STATUSES}",
     )
     add_paths(it, ", which is written to standard output", "with --check or --diff: ")
-    it.add_argument("--check", action="store_true", help="write nothing; end with status 1 if a file would change")
-    it.add_argument("--diff", action="store_true", help="write no file, and show the changes as a diff; end with status 1 if there are any")
-    it.add_argument("--wrap", type=positive, metavar="N", help="break lines of more than N characters between words")
-    it.add_argument("--canonical", action="store_true", help="write the canonical form, one word on each line and no comments, if only blanks change")
     it.add_argument(
-        "--allow", metavar="REASONS", default="", help=f"with --canonical: allow these losses, with commas between them: {', '.join(sorted(REASONS))}"
+        "--check",
+        action="store_true",
+        help="write nothing; end with status 1 if a file would change",
+    )
+    it.add_argument(
+        "--diff",
+        action="store_true",
+        help="write no file, and show the changes as a diff; end with status 1 if there are any",
+    )
+    it.add_argument(
+        "--wrap",
+        type=positive,
+        metavar="N",
+        help="break lines of more than N characters between words",
+    )
+    it.add_argument(
+        "--canonical",
+        action="store_true",
+        help="write the canonical form, one word on each line and no comments, if only blanks change",
+    )
+    it.add_argument(
+        "--allow",
+        metavar="REASONS",
+        default="",
+        help=f"with --canonical: allow these losses, with commas between them: {', '.join(sorted(REASONS))}",
     )
     add_jobs(it)
     add_no_config(it)
@@ -47,7 +80,9 @@ def _allowed(words: argparse.Namespace) -> frozenset[str]:
     do not go together."""
     allow = frozenset(it.strip() for it in words.allow.split(",") if it.strip())
     for word in sorted(allow - REASONS):
-        raise UnknownCode(f"--allow {word}: nothing goes for this; {did_you_mean(word, REASONS, '--help lists the reasons')}")
+        raise UnknownCode(
+            f"--allow {word}: nothing goes for this; {did_you_mean(word, REASONS, '--help lists the reasons')}"
+        )
     if words.canonical and words.wrap is not None:
         raise UnknownCode("--wrap is not for --canonical, which has a word on each line")
     if allow and not words.canonical:
@@ -63,5 +98,16 @@ def run(words: argparse.Namespace) -> int:
     allow = _allowed(words)
     style = formatting.Style(words.canonical, words.wrap)
     return formatting.format_files(
-        formatting.Options(paths_of(words), style, allow, words.check, words.diff, words.staged, words.jobs, words.quiet, tuple(words.exclude), settings_of(words))
+        formatting.Options(
+            paths_of(words),
+            style,
+            allow,
+            words.check,
+            words.diff,
+            words.staged,
+            words.jobs,
+            words.quiet,
+            tuple(words.exclude),
+            settings_of(words),
+        )
     )

@@ -10,23 +10,36 @@ from gregorio_chant.tables.tables import write_table
 NAME = "index"
 _ABOUT = f"""Writes a row for each score: its name, office part and mode, its first words and degrees, its last, lowest and highest degree, the steps between the
 lowest and the highest, and its beginning in Volpiano. {OUTSIDE}"""
-_EXAMPLES = examples((
-    "gregorio-chant index scores", "gregorio-chant index --header book,commentary --output-format csv scores >index.csv",
-    "gregorio-chant index --output-format json --quiet scores",
-))
+_EXAMPLES = examples(
+    (
+        "gregorio-chant index scores",
+        "gregorio-chant index --header book,commentary --output-format csv scores >index.csv",
+        "gregorio-chant index --output-format json --quiet scores",
+    )
+)
 
 
 def add(commands: argparse._SubParsersAction[Parser]) -> Parser:
     """Adds the arguments of `index`."""
-    it = commands.add_parser(NAME, help="write a row for each score, with its first words and degrees", description=_ABOUT, epilog=f"{_EXAMPLES}\n\n{STATUSES}")
+    it = commands.add_parser(
+        NAME,
+        help="write a row for each score, with its first words and degrees",
+        description=_ABOUT,
+        epilog=f"{_EXAMPLES}\n\n{STATUSES}",
+    )
     it.add_argument(
-        "--header", action="append", default=[], metavar="NAMES", help="add a column for each of these headers, with commas between them, as book,commentary"
+        "--header",
+        action="append",
+        default=[],
+        metavar="NAMES",
+        help="add a column for each of these headers, with commas between them, as book,commentary",
     )
     add_table(it)
     return it
 
 
 def run(words: argparse.Namespace) -> int:
-    """Writes the rows. Raises `UnknownCode`, `WriteError`, `MissingDependency` and `SettingsError`."""
+    """Writes the rows. Raises `UnknownCode`, `WriteError`, `MissingDependency` and
+    `SettingsError`."""
     make = Index.of(words.header)
     return write_table(table_of(words), make.columns, make)

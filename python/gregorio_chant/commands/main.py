@@ -4,11 +4,23 @@ from __future__ import annotations
 from collections.abc import Sequence
 
 from gregorio_chant import __version__
-from gregorio_chant.linting import checking
-from gregorio_chant.commands import check, explain, export, find, format, index, neumes, page, server, show, version
+from gregorio_chant.commands import (
+    check,
+    explain,
+    export,
+    find,
+    format,
+    index,
+    neumes,
+    page,
+    server,
+    show,
+    version,
+)
 from gregorio_chant.commands.words import REFUSED, STATUSES, Command, Parser, examples
-from gregorio_chant.work.needs import MissingDependency
+from gregorio_chant.linting import checking
 from gregorio_chant.linting.selection import UnknownCode
+from gregorio_chant.work.needs import MissingDependency
 from gregorio_chant.work.settings import SettingsError
 from gregorio_chant.work.staged import GitError
 from gregorio_chant.work.streams import CANNOT_READ_OR_WRITE, NAME, WriteError, tell
@@ -17,8 +29,26 @@ _ABOUT = """Checks, formats and explains chant scores in GABC.
 
 The messages E, W and F and the canonical form come from a compiler that is proved to follow its definition. The rest is outside that proof, and tested:
 reading and writing files, showing messages, the rules, the server."""
-_EXAMPLES = examples(("gregorio-chant check scores", "gregorio-chant format --diff score.gabc", "gregorio-chant explain E4"))
-COMMANDS: tuple[Command, ...] = (check, format, show, page, explain, export, find, index, neumes, server, version)
+_EXAMPLES = examples(
+    (
+        "gregorio-chant check scores",
+        "gregorio-chant format --diff score.gabc",
+        "gregorio-chant explain E4",
+    )
+)
+COMMANDS: tuple[Command, ...] = (
+    check,
+    format,
+    show,
+    page,
+    explain,
+    export,
+    find,
+    index,
+    neumes,
+    server,
+    version,
+)
 
 
 def parsers() -> tuple[Parser, dict[str, Parser]]:

@@ -10,20 +10,30 @@ from gregorio_chant.tables.totals import write_totals
 
 NAME = "neumes"
 _ABOUT = f"""Counts the neumes of scores. It writes a row for each kind, the most frequent first, with the place of the first one. {OUTSIDE}"""
-_EXAMPLES = examples((
-    "gregorio-chant neumes scores", "gregorio-chant neumes --each --output-format csv scores >neumes.csv", "gregorio-chant neumes --quiet scores",
-))
+_EXAMPLES = examples(
+    (
+        "gregorio-chant neumes scores",
+        "gregorio-chant neumes --each --output-format csv scores >neumes.csv",
+        "gregorio-chant neumes --quiet scores",
+    )
+)
 
 
 def add(commands: argparse._SubParsersAction[Parser]) -> Parser:
     """Adds the arguments of `neumes`."""
-    it = commands.add_parser(NAME, help="count the neumes of scores", description=_ABOUT, epilog=f"{_EXAMPLES}\n\n{STATUSES}")
+    it = commands.add_parser(
+        NAME,
+        help="count the neumes of scores",
+        description=_ABOUT,
+        epilog=f"{_EXAMPLES}\n\n{STATUSES}",
+    )
     it.add_argument("--each", action="store_true", help="write a row for each neume, in order")
     add_table(it)
     return it
 
 
 def run(words: argparse.Namespace) -> int:
-    """Writes the rows. Raises `UnknownCode`, `WriteError`, `MissingDependency` and `SettingsError`."""
+    """Writes the rows. Raises `UnknownCode`, `WriteError`, `MissingDependency` and
+    `SettingsError`."""
     options = table_of(words)
     return write_table(options, NEUME, each_neume) if words.each else write_totals(options)

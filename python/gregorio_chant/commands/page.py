@@ -3,7 +3,14 @@ from __future__ import annotations
 
 import argparse
 
-from gregorio_chant.commands.words import OUTSIDE, STATUSES, Parser, add_no_config, examples, settings_of
+from gregorio_chant.commands.words import (
+    OUTSIDE,
+    STATUSES,
+    Parser,
+    add_no_config,
+    examples,
+    settings_of,
+)
 from gregorio_chant.work.needs import need
 from gregorio_chant.work.streams import STDIN
 
@@ -11,7 +18,9 @@ NAME = "page"
 _MOST_PORT = 65_535
 _ABOUT = f"""Serves a page in which you write, paste or drop a score. While you type it shows the picture, the messages, the canonical form and the dump. The
 page is for this machine alone, and keeps no score. The first line of standard output is its address. Control-C ends it. {OUTSIDE}"""
-_EXAMPLES = examples(("gregorio-chant page", "gregorio-chant page --port 8080", "gregorio-chant page --rules"))
+_EXAMPLES = examples(
+    ("gregorio-chant page", "gregorio-chant page --port 8080", "gregorio-chant page --rules")
+)
 
 
 def port(word: str) -> int:
@@ -24,18 +33,31 @@ def port(word: str) -> int:
 
 def add(commands: argparse._SubParsersAction[Parser]) -> Parser:
     """Adds the arguments of `page`."""
-    it = commands.add_parser(NAME, help="serve a page to write a score in, with its picture", description=_ABOUT, epilog=f"{_EXAMPLES}\n\n{STATUSES}")
-    it.add_argument("--port", type=port, default=0, metavar="N", help="serve at this port (default 0: any free port)")
+    it = commands.add_parser(
+        NAME,
+        help="serve a page to write a score in, with its picture",
+        description=_ABOUT,
+        epilog=f"{_EXAMPLES}\n\n{STATUSES}",
+    )
+    it.add_argument(
+        "--port",
+        type=port,
+        default=0,
+        metavar="N",
+        help="serve at this port (default 0: any free port)",
+    )
     it.add_argument("--rules", action="store_true", help="also try the rules")
     add_no_config(it)
     return it
 
 
 def run(words: argparse.Namespace) -> int:
-    """Serves the page until it is ended. Raises `WriteError`, `MissingDependency` and `SettingsError`."""
+    """Serves the page until it is ended. Raises `WriteError`, `MissingDependency` and
+    `SettingsError`."""
     need(NAME, "starlette", "uvicorn")
     from gregorio_chant.web.answers import Answers
     from gregorio_chant.web.serving import serve
+
     settings = settings_of(words)
     settings.of(STDIN)
     return serve(words.port, Answers(words.rules, settings))

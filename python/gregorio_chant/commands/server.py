@@ -6,12 +6,16 @@ import argparse
 from gregorio_chant.commands.words import OUTSIDE, Parser, add_no_config, settings_of
 
 NAME = "server"
-_ABOUT = f"Serves an editor by the language server protocol over standard input and output. {OUTSIDE}"
+_ABOUT = (
+    f"Serves an editor by the language server protocol over standard input and output. {OUTSIDE}"
+)
 
 
 def add(commands: argparse._SubParsersAction[Parser]) -> Parser:
     """Adds the arguments of `server`."""
-    it = commands.add_parser(NAME, help="serve an editor by the language server protocol", description=_ABOUT)
+    it = commands.add_parser(
+        NAME, help="serve an editor by the language server protocol", description=_ABOUT
+    )
     it.add_argument("--rules", action="store_true", help="also try the rules")
     add_no_config(it)
     return it
@@ -20,4 +24,5 @@ def add(commands: argparse._SubParsersAction[Parser]) -> Parser:
 def run(words: argparse.Namespace) -> int:
     """Serves until the editor ends it."""
     from gregorio_chant.server.serving import serve
+
     return serve(words.rules, settings_of(words))

@@ -3,75 +3,166 @@ from __future__ import annotations
 
 import argparse
 
-from gregorio_chant.show import showing
-from gregorio_chant.commands.words import OUTSIDE, STATUSES, Parser, add_files, add_no_config, examples, paths_of, positive, settings_of
-from gregorio_chant.work.needs import need
+from gregorio_chant.commands.words import (
+    OUTSIDE,
+    STATUSES,
+    Parser,
+    add_files,
+    add_no_config,
+    examples,
+    paths_of,
+    positive,
+    settings_of,
+)
+from gregorio_chant.linting.selection import UnknownCode
 from gregorio_chant.picture import OWN, USUAL_WIDTH, Face, Look
 from gregorio_chant.picture.nabc import AUTO, NAMES
 from gregorio_chant.picture.symbols import square_face
-from gregorio_chant.linting.selection import UnknownCode
-from gregorio_chant.work.streams import CANNOT_READ_OR_WRITE, is_terminal, printable, reason_of, tell
+from gregorio_chant.show import showing
+from gregorio_chant.work.needs import need
+from gregorio_chant.work.streams import (
+    CANNOT_READ_OR_WRITE,
+    is_terminal,
+    printable,
+    reason_of,
+    tell,
+)
 
 NAME = "show"
 _ABOUT = f"""Writes a page with a picture of each score, its messages and its source. The page needs no script and no network. From folders only the scores
 with messages are shown, at most {showing.MOST} of them. With -o FOLDER/ each score has a page, and an index leads to them. The picture is a view of the
 score, and no typesetting. {OUTSIDE}"""
-_EXAMPLES = examples((
-    "gregorio-chant show -o page.html score.gabc",
-    "gregorio-chant show -o pages/ scores",
-    "gregorio-chant show --svg --no-messages score.gabc >score.svg",
-))
+_EXAMPLES = examples(
+    (
+        "gregorio-chant show -o page.html score.gabc",
+        "gregorio-chant show -o pages/ scores",
+        "gregorio-chant show --svg --no-messages score.gabc >score.svg",
+    )
+)
 
 
 def add(commands: argparse._SubParsersAction[Parser]) -> Parser:
     """Adds the arguments of `show`."""
-    it = commands.add_parser(NAME, help="write pictures of scores, with their messages, as a page", description=_ABOUT, epilog=f"{_EXAMPLES}\n\n{STATUSES}")
+    it = commands.add_parser(
+        NAME,
+        help="write pictures of scores, with their messages, as a page",
+        description=_ABOUT,
+        epilog=f"{_EXAMPLES}\n\n{STATUSES}",
+    )
     add_files(it)
     it.add_argument(
-        "-o", "--output", metavar="FILE", help="write the page into this file; into a folder, or a name that ends in /, write an index and a page for each score"
+        "-o",
+        "--output",
+        metavar="FILE",
+        help="write the page into this file; into a folder, or a name that ends in /, write an index and a page for each score",
     )
-    it.add_argument("--svg", action="store_true", help="write only the picture of one score, as SVG")
-    it.add_argument("--width", type=positive, default=int(USUAL_WIDTH), metavar="N", help="the width of a picture in pixels (default %(default)s)")
-    it.add_argument("--face", choices=("square", "plain"), default="square", help="draw square notes as chant books have them, or in plain shapes (default %(default)s)")
-    it.add_argument("--neumes", choices=NAMES, default=AUTO, metavar="HAND", help=f"the hand of NABC: {', '.join(NAMES)}; auto (default) chooses it by the score")
-    it.add_argument("--font", metavar="FILE", help="draw neumes with this font, which must have GregorioTeX's glyph names, as greciliae.ttf")
-    it.add_argument("--no-initial", action="store_true", help="leave the first letter in the text, whatever initial-style says")
-    it.add_argument("--no-messages", action="store_true", help="leave out the messages, and the line about signs that are not drawn")
-    it.add_argument("--play", action="store_true", help="let the page sing each score, with a script; a double click on a syllable begins there")
-    it.add_argument("--watch", action="store_true", help="write the page again when a score changes, until Control-C ends it")
+    it.add_argument(
+        "--svg", action="store_true", help="write only the picture of one score, as SVG"
+    )
+    it.add_argument(
+        "--width",
+        type=positive,
+        default=int(USUAL_WIDTH),
+        metavar="N",
+        help="the width of a picture in pixels (default %(default)s)",
+    )
+    it.add_argument(
+        "--face",
+        choices=("square", "plain"),
+        default="square",
+        help="draw square notes as chant books have them, or in plain shapes (default %(default)s)",
+    )
+    it.add_argument(
+        "--neumes",
+        choices=NAMES,
+        default=AUTO,
+        metavar="HAND",
+        help=f"the hand of NABC: {', '.join(NAMES)}; auto (default) chooses it by the score",
+    )
+    it.add_argument(
+        "--font",
+        metavar="FILE",
+        help="draw neumes with this font, which must have GregorioTeX's glyph names, as greciliae.ttf",
+    )
+    it.add_argument(
+        "--no-initial",
+        action="store_true",
+        help="leave the first letter in the text, whatever initial-style says",
+    )
+    it.add_argument(
+        "--no-messages",
+        action="store_true",
+        help="leave out the messages, and the line about signs that are not drawn",
+    )
+    it.add_argument(
+        "--play",
+        action="store_true",
+        help="let the page sing each score, with a script; a double click on a syllable begins there",
+    )
+    it.add_argument(
+        "--watch",
+        action="store_true",
+        help="write the page again when a score changes, until Control-C ends it",
+    )
     it.add_argument("--rules", action="store_true", help="also try the rules")
     add_no_config(it)
     return it
 
 
 def run(words: argparse.Namespace) -> int:
-    """Writes the page. Raises `UnknownCode`, also if a page would go to a terminal, `WriteError`, `MissingDependency` and `SettingsError`."""
+    """Writes the page. Raises `UnknownCode`, also if a page would go to a terminal, `WriteError`,
+    `MissingDependency` and `SettingsError`."""
     if words.output is None and is_terminal():
-        raise UnknownCode("a page is not for a terminal: write it into a file, as with -o page.html")
+        raise UnknownCode(
+            "a page is not for a terminal: write it into a file, as with -o page.html"
+        )
     try:
-        face = _face_of(words.font) if words.font is not None else OWN if words.face == "plain" else square_face()
+        face = (
+            _face_of(words.font)
+            if words.font is not None
+            else OWN
+            if words.face == "plain"
+            else square_face()
+        )
     except OSError as error:
         tell(f"cannot read {printable(words.font)}: {reason_of(error)}")
         return CANNOT_READ_OR_WRITE
 
     def options() -> showing.Options:
-        look = Look(float(words.width), face, words.neumes, has_initial=not words.no_initial, has_notes=not words.no_messages)
+        look = Look(
+            float(words.width),
+            face,
+            words.neumes,
+            has_initial=not words.no_initial,
+            has_notes=not words.no_messages,
+        )
         return showing.Options(
-            paths_of(words), words.output, words.svg, look, with_messages=not words.no_messages, sings=words.play,
-            with_rules=words.rules, exclude=tuple(words.exclude), settings=settings_of(words),
+            paths_of(words),
+            words.output,
+            words.svg,
+            look,
+            with_messages=not words.no_messages,
+            sings=words.play,
+            with_rules=words.rules,
+            exclude=tuple(words.exclude),
+            settings=settings_of(words),
         )
 
     if not words.watch:
         return showing.show(options())
     need("show --watch", "watchdog")
     from gregorio_chant.show.watching import watch
+
     return watch(options)
 
 
 def _face_of(font: str) -> Face:
     need("show --font", "fonttools")
     from gregorio_chant.picture.font import NoFace, face_of
+
     try:
         return face_of(font)
     except NoFace:
-        raise UnknownCode(f"--font {printable(font)}: it is no font with the glyph names of GregorioTeX, as greciliae.ttf") from None
+        raise UnknownCode(
+            f"--font {printable(font)}: it is no font with the glyph names of GregorioTeX, as greciliae.ttf"
+        ) from None

@@ -3,8 +3,8 @@ from __future__ import annotations
 
 import argparse
 
-from gregorio_chant.commands.words import Parser
 from gregorio_chant._native.origin import origin
+from gregorio_chant.commands.words import Parser
 from gregorio_chant.work.streams import NAME as COMMAND
 from gregorio_chant.work.streams import write
 
@@ -14,7 +14,9 @@ _ABOUT = "Writes the versions of the command and of its library, and the commit 
 
 def add(commands: argparse._SubParsersAction[Parser]) -> Parser:
     """Adds the sub-command `version`, which has no arguments."""
-    return commands.add_parser(NAME, help="write the versions of the command and of its library", description=_ABOUT)
+    return commands.add_parser(
+        NAME, help="write the versions of the command and of its library", description=_ABOUT
+    )
 
 
 def run(words: argparse.Namespace) -> int:

@@ -9,13 +9,13 @@ from collections.abc import Iterable, Sequence
 from typing import Any, NoReturn, Protocol
 
 from gregorio_chant.linting.codes import CODES
-from gregorio_chant.text.nearest import did_you_mean
 from gregorio_chant.linting.rules import RULES
 from gregorio_chant.linting.selection import UnknownCode
+from gregorio_chant.tables.tables import FORMS, Options
+from gregorio_chant.text.nearest import did_you_mean
 from gregorio_chant.work.settings import NAME as SETTINGS
 from gregorio_chant.work.settings import Finder, NoSettings
 from gregorio_chant.work.streams import STDIN, tell, write
-from gregorio_chant.tables.tables import FORMS, Options
 
 REFUSED = 3
 # All codes and rules.
@@ -34,7 +34,9 @@ class Help(argparse.HelpFormatter):
     def _fill_text(self, text: str, width: int, indent: str) -> str:
         lines: list[str] = []
         for stays, block in itertools.groupby(text.split("\n"), lambda it: it[:1] in ("", " ")):
-            lines += block if stays else textwrap.wrap(" ".join(block), width, break_on_hyphens=False)
+            lines += (
+                block if stays else textwrap.wrap(" ".join(block), width, break_on_hyphens=False)
+            )
         return "\n".join(f"{indent}{it}".rstrip() for it in lines)
 
 
@@ -57,8 +59,15 @@ class Parser(argparse.ArgumentParser):
     def _check_value(self, action: argparse.Action, value: object) -> None:
         if action.choices is not None and value not in action.choices:
             known = [str(it) for it in action.choices]
-            what = f"{action.option_strings[-1]} {value}" if action.option_strings else f"{value} is no {str(action.metavar).lower()}"
-            raise argparse.ArgumentError(None, f"{what}: {did_you_mean(str(value), known, 'it is one of ' + ', '.join(known))}")
+            what = (
+                f"{action.option_strings[-1]} {value}"
+                if action.option_strings
+                else f"{value} is no {str(action.metavar).lower()}"
+            )
+            raise argparse.ArgumentError(
+                None,
+                f"{what}: {did_you_mean(str(value), known, 'it is one of ' + ', '.join(known))}",
+            )
 
     def _print_message(self, message: str, file: object = None) -> None:
         write(message)
@@ -85,7 +94,10 @@ def add_files(parser: Parser, more: str = "") -> None:
     """Adds the arguments for files and folders."""
     parser.add_argument("paths", nargs="*", metavar="PATH", help=f"{_PATHS}{more}")
     parser.add_argument(
-        "--exclude", action="append", default=[], metavar="PATTERN",
+        "--exclude",
+        action="append",
+        default=[],
+        metavar="PATTERN",
         help="leave these files out of folders, as a line of .gitignore would; may be given several times",
     )
 
@@ -99,7 +111,11 @@ def add_paths(parser: Parser, more: str = "", with_staged: str = "") -> None:
 def add_jobs(parser: Parser) -> None:
     """Adds `--jobs`."""
     parser.add_argument(
-        "--jobs", type=positive, metavar="N", default=len(os.sched_getaffinity(0)), help="number of parallel jobs (default %(default)s)"
+        "--jobs",
+        type=positive,
+        metavar="N",
+        default=len(os.sched_getaffinity(0)),
+        help="number of parallel jobs (default %(default)s)",
     )
 
 
@@ -117,15 +133,27 @@ def paths_of(words: argparse.Namespace) -> tuple[str, ...]:
     """Returns the files and folders that are named. Raises `UnknownCode` if there are none and
     `--staged` is not given."""
     if not words.paths and not getattr(words, "staged", False):
-        raise UnknownCode("a PATH is needed, or --staged" if "staged" in words else "a PATH is needed")
+        raise UnknownCode(
+            "a PATH is needed, or --staged" if "staged" in words else "a PATH is needed"
+        )
     return tuple(words.paths)
 
 
 def add_table(parser: Parser) -> None:
     """Adds the arguments of a table over files."""
     add_files(parser)
-    parser.add_argument("--output-format", choices=FORMS, default="text", metavar="FORM", help="text (default), csv or json")
-    parser.add_argument("--bom", action="store_true", help="with csv: begin with a byte order mark, as some spreadsheets need it for accents")
+    parser.add_argument(
+        "--output-format",
+        choices=FORMS,
+        default="text",
+        metavar="FORM",
+        help="text (default), csv or json",
+    )
+    parser.add_argument(
+        "--bom",
+        action="store_true",
+        help="with csv: begin with a byte order mark, as some spreadsheets need it for accents",
+    )
     add_jobs(parser)
     add_no_config(parser)
     parser.add_argument("--quiet", action="store_true", help="write no summary")
@@ -136,7 +164,15 @@ def table_of(words: argparse.Namespace) -> Options:
     without CSV."""
     if words.bom and words.output_format != "csv":
         raise UnknownCode("--bom is for --output-format csv")
-    return Options(paths_of(words), words.output_format, words.jobs, tuple(words.exclude), settings_of(words), words.quiet, words.bom)
+    return Options(
+        paths_of(words),
+        words.output_format,
+        words.jobs,
+        tuple(words.exclude),
+        settings_of(words),
+        words.quiet,
+        words.bom,
+    )
 
 
 def positive(word: str) -> int:

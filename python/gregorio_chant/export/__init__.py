@@ -1,4 +1,5 @@
-"""Scores in the formats of others: Volpiano, MusicXML and MEI, and MIDI for listening. Each says what it cannot say of a score."""
+"""Scores in the formats of others: Volpiano, MusicXML and MEI, and MIDI for listening. Each says
+what it cannot say of a score."""
 from __future__ import annotations
 
 from collections.abc import Callable
@@ -18,7 +19,8 @@ class NoHeight(ValueError):
 
 @dataclass(frozen=True)
 class Way:
-    """A format: its name, the ending of its files, how a score is written, and which kinds of things it says nothing of (`losses`)."""
+    """A format: its name, the ending of its files, how a score is written, and which kinds of
+    things it says nothing of (`losses`)."""
 
     name: str
     ending: str

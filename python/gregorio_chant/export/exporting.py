@@ -4,12 +4,12 @@ from __future__ import annotations
 from dataclasses import dataclass
 from pathlib import Path
 
-from gregorio_chant.objects.dump import Score, ScoreError
-from gregorio_chant.work.files import Reader, write
+from gregorio_chant._native.results import Kind
 from gregorio_chant.export import Way
 from gregorio_chant.export.losses import losses
+from gregorio_chant.objects.dump import Score, ScoreError
 from gregorio_chant.report.reports import counted
-from gregorio_chant._native.results import Kind
+from gregorio_chant.work.files import Reader, write
 from gregorio_chant.work.settings import Finder
 from gregorio_chant.work.streams import CANNOT_READ_OR_WRITE, STDIN, reason_of, tell, write_bytes
 from gregorio_chant.work.walk import find_scores
@@ -20,8 +20,8 @@ _FATAL = 2
 
 @dataclass(frozen=True)
 class Options:
-    """The options of `export`: `way` is the format of the new files, `folder` their folder, if it is
-    not that of their scores."""
+    """The options of `export`: `way` is the format of the new files, `folder` their folder, if it
+    is not that of their scores."""
 
     paths: tuple[str, ...]
     way: Way
@@ -38,7 +38,8 @@ def _target(name: str, options: Options) -> Path:
 
 
 class _Told:
-    """What the format says nothing of: each kind is told once, at its first place in the first score that has it."""
+    """What the format says nothing of: each kind is told once, at its first place in the first
+    score that has it."""
 
     def __init__(self, way: Way) -> None:
         self._way = way
@@ -58,7 +59,10 @@ def _export(name: str, reader: Reader, options: Options, lost: _Told) -> tuple[i
         return _FATAL, f"{name}:{error}; it is not written"
     fault = next((it for it in score.messages if it.kind is Kind.FATAL), None)
     if fault is not None:
-        return _FATAL, f"{name}:{fault.line}:{fault.column}: {fault.code}: {fault.text}; it is not written"
+        return (
+            _FATAL,
+            f"{name}:{fault.line}:{fault.column}: {fault.code}: {fault.text}; it is not written",
+        )
     try:
         data = options.way.write(score)
     except ValueError as error:
@@ -79,11 +83,17 @@ def export(options: Options) -> int:
     def fail(name: str, error: OSError) -> None:
         nonlocal status
         status = max(status, CANNOT_READ_OR_WRITE)
-        reason = "there is a file of this name already; --force writes over it" if isinstance(error, FileExistsError) else reason_of(error)
+        reason = (
+            "there is a file of this name already; --force writes over it"
+            if isinstance(error, FileExistsError)
+            else reason_of(error)
+        )
         tell(f"cannot export {name}: {reason}")
 
     reader, lost = Reader.of(options.paths), _Told(options.way)
-    for name in options.settings.kept(find_scores(options.paths, fail, options.exclude), options.paths):
+    for name in options.settings.kept(
+        find_scores(options.paths, fail, options.exclude), options.paths
+    ):
         try:
             its, told = _export(name, reader, options, lost)
         except OSError as error:

@@ -3,11 +3,34 @@ from __future__ import annotations
 
 from collections.abc import Iterator
 
-from gregorio_chant.objects.dump import Attribute, Bar, Break, Custos, Item, NabcSnippet, Note, Score, Syllable
+from gregorio_chant.objects.dump import (
+    Attribute,
+    Bar,
+    Break,
+    Custos,
+    Item,
+    NabcSnippet,
+    Note,
+    Score,
+    Syllable,
+)
 from gregorio_chant.text.source import Source
 
-NABC, STYLES, TRANSLATIONS, ATTRIBUTES, BREAKS, CUSTODES = "NABC", "styles of the text", "translations", "attributes", "line ends", "custodes"
-SHAPES, MORAE, EPISEMATA, ICTUS, LIQUESCENCE = "shapes of notes", "morae", "episemata", "ictus", "liquescence"
+NABC, STYLES, TRANSLATIONS, ATTRIBUTES, BREAKS, CUSTODES = (
+    "NABC",
+    "styles of the text",
+    "translations",
+    "attributes",
+    "line ends",
+    "custodes",
+)
+SHAPES, MORAE, EPISEMATA, ICTUS, LIQUESCENCE = (
+    "shapes of notes",
+    "morae",
+    "episemata",
+    "ictus",
+    "liquescence",
+)
 VIRGULAE = "virgulae"
 # The shapes that are no more than a note.
 _PLAIN = ("punctum", "quadratum", "virga", "virga-reversa", "inclinatum")
@@ -32,7 +55,11 @@ def _of_item(item: Item) -> Iterator[str]:
     elif isinstance(item, Bar) and item.name in ("virgula", "minimis"):
         yield VIRGULAE
     else:
-        yield from (kind for it, kind in ((Attribute, ATTRIBUTES), (Break, BREAKS), (Custos, CUSTODES)) if isinstance(item, it))
+        yield from (
+            kind
+            for it, kind in ((Attribute, ATTRIBUTES), (Break, BREAKS), (Custos, CUSTODES))
+            if isinstance(item, it)
+        )
 
 
 def _of_syllable(syllable: Syllable) -> Iterator[tuple[str, Source]]:

@@ -1,11 +1,24 @@
-"""A score in MEI 5, by its module of neumes: syllables, neumes and their components with pitches, clefs, bars, alterations, custodes and line ends."""
+"""A score in MEI 5, by its module of neumes: syllables, neumes and their components with pitches,
+clefs, bars, alterations, custodes and line ends."""
 from __future__ import annotations
 
 from xml.etree import ElementTree
 
-from gregorio_chant.objects.dump import Alteration, Bar, Break, Clef, Custos, Glyph, Item, Note, NoteSnippet, Score, Syllable
 from gregorio_chant.export import NoHeight, Way
 from gregorio_chant.export.losses import ATTRIBUTES, MORAE, NABC, STYLES, TRANSLATIONS
+from gregorio_chant.objects.dump import (
+    Alteration,
+    Bar,
+    Break,
+    Clef,
+    Custos,
+    Glyph,
+    Item,
+    Note,
+    NoteSnippet,
+    Score,
+    Syllable,
+)
 from gregorio_chant.objects.items import PITCHES
 
 _MEI = "http://www.music-encoding.org/ns/mei"
@@ -13,19 +26,36 @@ _PITCHES = "cdefgab"
 # The octave of step 0.
 _OCTAVE = 3
 # The bars by the names of the Vatican edition.
-_BARS = {"virgula": "virgula", "minimis": "virgula", "minima": "minima", "minor": "maior", "maior": "maxima", "finalis": "finalis"}
+_BARS = {
+    "virgula": "virgula",
+    "minimis": "virgula",
+    "minima": "minima",
+    "minor": "maior",
+    "maior": "maxima",
+    "finalis": "finalis",
+}
 _ACCIDENTALS = {"flat": "f", "natural": "n", "sharp": "s"}
 _WORD = {"one": "s", "beginning": "i", "middle": "m", "end": "t"}
 # The child of a component of these shapes, or how it tilts.
 _CHILDREN = {
-    "quilisma": "quilisma", "quilisma-quadratum": "quilisma", "oriscus": "oriscus", "oriscus-scapus": "oriscus",
-    "stropha": "strophicus", "stropha-aucta": "strophicus", "distropha": "strophicus", "tristropha": "strophicus",
+    "quilisma": "quilisma",
+    "quilisma-quadratum": "quilisma",
+    "oriscus": "oriscus",
+    "oriscus-scapus": "oriscus",
+    "stropha": "strophicus",
+    "stropha-aucta": "strophicus",
+    "distropha": "strophicus",
+    "tristropha": "strophicus",
 }
 _TILTS = {"virga": "s", "virga-reversa": "n", "bivirga": "s", "trivirga": "s", "inclinatum": "se"}
 
 
-def _child(parent: ElementTree.Element, name: str, text: str | None = None, **attributes: str) -> ElementTree.Element:
-    made = ElementTree.SubElement(parent, f"{{{_MEI}}}{name}", {key.replace("_", "."): it for key, it in attributes.items()})
+def _child(
+    parent: ElementTree.Element, name: str, text: str | None = None, **attributes: str
+) -> ElementTree.Element:
+    made = ElementTree.SubElement(
+        parent, f"{{{_MEI}}}{name}", {key.replace("_", "."): it for key, it in attributes.items()}
+    )
     made.text = text
     return made
 
@@ -82,7 +112,9 @@ class _Layer:
     def add(self, syllable: Syllable) -> None:
         """Adds a syllable. Raises `NoHeight`."""
         made: ElementTree.Element | None = None
-        of_glyphs: dict[int, Glyph] = {note.place.offset: glyph for glyph in syllable.glyphs for note in glyph.notes}
+        of_glyphs: dict[int, Glyph] = {
+            note.place.offset: glyph for glyph in syllable.glyphs for note in glyph.notes
+        }
         last: Glyph | None = None
         neume: ElementTree.Element | None = None
         text = syllable.plain.strip()
@@ -94,13 +126,19 @@ class _Layer:
                     made = self._begin(syllable, text) if made is None else made
                     glyph = of_glyphs.get(item.place.offset)
                     if neume is None or glyph is not last:
-                        neume = _child(made, "neume", **({"type": glyph.kind} if glyph is not None else {}))
+                        neume = _child(
+                            made, "neume", **({"type": glyph.kind} if glyph is not None else {})
+                        )
                     last = glyph
                     _add_component(neume, item)
                     continue
                 if isinstance(item, Clef):
                     self._clef = item
-                _add_other(self._layer if made is None or isinstance(item, (Bar, Break, Clef)) else made, item, self._clef)
+                _add_other(
+                    self._layer if made is None or isinstance(item, (Bar, Break, Clef)) else made,
+                    item,
+                    self._clef,
+                )
 
     def _begin(self, syllable: Syllable, text: str) -> ElementTree.Element:
         made = _child(self._layer, "syllable")
@@ -117,7 +155,13 @@ def mei_of(score: Score) -> bytes:
     _child(described, "pubStmt")
     held = _child(_child(_child(_child(root, "music"), "body"), "mdiv"), "score")
     lines = score.header("staff-lines") or "4"
-    _child(_child(_child(held, "scoreDef"), "staffGrp"), "staffDef", n="1", lines=lines if lines in "2345" else "4", notationtype="neume")
+    _child(
+        _child(_child(held, "scoreDef"), "staffGrp"),
+        "staffDef",
+        n="1",
+        lines=lines if lines in "2345" else "4",
+        notationtype="neume",
+    )
     layer = _Layer(_child(_child(_child(held, "section"), "staff", n="1"), "layer", n="1"))
     for syllable in score.syllables:
         layer.add(syllable)

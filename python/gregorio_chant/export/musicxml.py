@@ -1,16 +1,35 @@
-"""A score as MusicXML 4.0, for editors of modern notation: notes without stems, slurs over neumes, the text as lyrics, bars as in chant."""
+"""A score as MusicXML 4.0, for editors of modern notation: notes without stems, slurs over neumes,
+the text as lyrics, bars as in chant."""
 from __future__ import annotations
 
 from xml.etree import ElementTree
 
-from gregorio_chant.objects.dump import Bar, Note, NoteSnippet, Score, Syllable
 from gregorio_chant.export import NoHeight, Way
-from gregorio_chant.export.losses import ATTRIBUTES, BREAKS, CUSTODES, EPISEMATA, ICTUS, LIQUESCENCE, NABC, SHAPES, STYLES, TRANSLATIONS
+from gregorio_chant.export.losses import (
+    ATTRIBUTES,
+    BREAKS,
+    CUSTODES,
+    EPISEMATA,
+    ICTUS,
+    LIQUESCENCE,
+    NABC,
+    SHAPES,
+    STYLES,
+    TRANSLATIONS,
+)
+from gregorio_chant.objects.dump import Bar, Note, NoteSnippet, Score, Syllable
 from gregorio_chant.rhythm import morae_of
 
 _STEPS = "CDEFGAB"
 _ALTERED = {"flat": -1, "sharp": 1}
-_BARS = {"virgula": "tick", "minimis": "tick", "minima": "short", "minor": "dashed", "maior": "regular", "finalis": "light-light"}
+_BARS = {
+    "virgula": "tick",
+    "minimis": "tick",
+    "minima": "short",
+    "minor": "dashed",
+    "maior": "regular",
+    "finalis": "light-light",
+}
 _SYLLABIC = {"one": "single", "beginning": "begin", "middle": "middle", "end": "end"}
 # The octave of step 0: the ut of a c clef is the c in the middle.
 _OCTAVE = 3
@@ -20,8 +39,12 @@ _HEAD = """<?xml version="1.0" encoding="UTF-8"?>
 """
 
 
-def _child(parent: ElementTree.Element, name: str, text: str | None = None, **attributes: str) -> ElementTree.Element:
-    made = ElementTree.SubElement(parent, name, {key.replace("_", "-"): it for key, it in attributes.items()})
+def _child(
+    parent: ElementTree.Element, name: str, text: str | None = None, **attributes: str
+) -> ElementTree.Element:
+    made = ElementTree.SubElement(
+        parent, name, {key.replace("_", "-"): it for key, it in attributes.items()}
+    )
     made.text = text
     return made
 
@@ -55,8 +78,11 @@ class _Part:
         _child(_child(self._measure, "barline", location="right"), "bar-style", _BARS[bar.name])
         self._measure = self._begun()
 
-    def add_note(self, note: Note, is_long: bool, slurs: list[str], lyric: tuple[str, str] | None) -> None:
-        """Adds a note with its slurs and its lyric: how the syllable stands in its word, and its text. Raises `NoHeight`."""
+    def add_note(
+        self, note: Note, is_long: bool, slurs: list[str], lyric: tuple[str, str] | None
+    ) -> None:
+        """Adds a note with its slurs and its lyric: how the syllable stands in its word, and its
+        text. Raises `NoHeight`."""
         if note.step is None:
             raise NoHeight(note)
         made = _child(self._measure, "note")
@@ -91,7 +117,9 @@ def _lyric_of(syllable: Syllable) -> tuple[str, str] | None:
 def _slurs_of(syllable: Syllable, note: Note) -> list[str]:
     """Returns where slurs over neumes begin and end at a note."""
     ends = [(glyph.notes[0], glyph.notes[-1]) for glyph in syllable.glyphs if len(glyph.notes) > 1]
-    return ["stop" for _, last in ends if last is note] + ["start" for first, _ in ends if first is note]
+    return ["stop" for _, last in ends if last is note] + [
+        "start" for first, _ in ends if first is note
+    ]
 
 
 def _add_syllable(part: _Part, syllable: Syllable) -> None:
@@ -106,7 +134,12 @@ def _add_syllable(part: _Part, syllable: Syllable) -> None:
             is_long, slurs = next(lengths) > 0, _slurs_of(syllable, item)
             for at in range(item.times):
                 is_first, is_last = at == 0, at == item.times - 1
-                part.add_note(item, is_long, [it for it in slurs if (is_first if it == "start" else is_last)], lyric)
+                part.add_note(
+                    item,
+                    is_long,
+                    [it for it in slurs if (is_first if it == "start" else is_last)],
+                    lyric,
+                )
                 lyric = None
 
 
@@ -125,6 +158,21 @@ def musicxml_of(score: Score) -> bytes:
 
 
 WAY = Way(
-    "musicxml", ".musicxml", musicxml_of,
-    frozenset((NABC, STYLES, TRANSLATIONS, ATTRIBUTES, BREAKS, CUSTODES, SHAPES, EPISEMATA, ICTUS, LIQUESCENCE)),
+    "musicxml",
+    ".musicxml",
+    musicxml_of,
+    frozenset(
+        (
+            NABC,
+            STYLES,
+            TRANSLATIONS,
+            ATTRIBUTES,
+            BREAKS,
+            CUSTODES,
+            SHAPES,
+            EPISEMATA,
+            ICTUS,
+            LIQUESCENCE,
+        )
+    ),
 )

@@ -1,13 +1,27 @@
-"""A score in Volpiano, the letters in which chant databases keep melodies: `1` is the clef, `---` parts words, `--` syllables, `-` neumes."""
+"""A score in Volpiano, the letters in which chant databases keep melodies: `1` is the clef, `---`
+parts words, `--` syllables, `-` neumes."""
 from __future__ import annotations
 
 from collections.abc import Iterable, Iterator
 
-from gregorio_chant.objects.dump import Bar, Note, Syllable
 from gregorio_chant.export import NoHeight, Way
-from gregorio_chant.export.losses import ATTRIBUTES, BREAKS, CUSTODES, EPISEMATA, ICTUS, MORAE, NABC, SHAPES, STYLES, TRANSLATIONS, VIRGULAE
+from gregorio_chant.export.losses import (
+    ATTRIBUTES,
+    BREAKS,
+    CUSTODES,
+    EPISEMATA,
+    ICTUS,
+    MORAE,
+    NABC,
+    SHAPES,
+    STYLES,
+    TRANSLATIONS,
+    VIRGULAE,
+)
+from gregorio_chant.objects.dump import Bar, Note, Syllable
 
-# The letters from the f below the staff on. The one at `_UT` is that of step 0, the c in which a melody of the first mode has its lowest c.
+# The letters from the f below the staff on. The one at `_UT` is that of step 0, the c in which a
+# melody of the first mode has its lowest c.
 LETTERS, _UT = "89abcdefghjklmnopqrs", 4
 # Letters of liquescent notes, in the same order.
 _LIQUESCENT = "()ABCDEFGHJKLMNOPQRS"
@@ -20,7 +34,9 @@ class OutOfRange(ValueError):
     """A note that Volpiano has no letter for."""
 
     def __init__(self, note: Note) -> None:
-        super().__init__(f"{note.source}: Volpiano has no letter for a note so high or so low, or so altered")
+        super().__init__(
+            f"{note.source}: Volpiano has no letter for a note so high or so low, or so altered"
+        )
 
 
 class _Altered:
@@ -60,7 +76,11 @@ def _parts(syllables: Iterable[Syllable]) -> Iterator[tuple[str, str]]:
         hyphens = "---" if syllable.begins_word else "--"
         if syllable.begins_word:
             altered.begin_word()
-        of_glyphs = {note.place.offset: at for at, glyph in enumerate(syllable.glyphs) for note in glyph.notes}
+        of_glyphs = {
+            note.place.offset: at
+            for at, glyph in enumerate(syllable.glyphs)
+            for note in glyph.notes
+        }
         last = None
         for item in syllable.items:
             if isinstance(item, Bar) and item.name in _BARS:
@@ -84,6 +104,22 @@ def letter_of(note: Note) -> str | None:
 
 
 WAY = Way(
-    "volpiano", ".volpiano", lambda score: f"{volpiano_of(score.syllables)}\n".encode(),
-    frozenset((NABC, STYLES, TRANSLATIONS, ATTRIBUTES, BREAKS, CUSTODES, SHAPES, MORAE, EPISEMATA, ICTUS, VIRGULAE)),
+    "volpiano",
+    ".volpiano",
+    lambda score: f"{volpiano_of(score.syllables)}\n".encode(),
+    frozenset(
+        (
+            NABC,
+            STYLES,
+            TRANSLATIONS,
+            ATTRIBUTES,
+            BREAKS,
+            CUSTODES,
+            SHAPES,
+            MORAE,
+            EPISEMATA,
+            ICTUS,
+            VIRGULAE,
+        )
+    ),
 )

@@ -1,4 +1,5 @@
-"""The command `format`: writes each score as its editor laid it out, in canonical spelling; or in canonical form, where nothing but blanks would change."""
+"""The command `format`: writes each score as its editor laid it out, in canonical spelling; or in
+canonical form, where nothing but blanks would change."""
 from __future__ import annotations
 
 import difflib
@@ -8,19 +9,26 @@ from contextlib import contextmanager, nullcontext
 from dataclasses import dataclass
 from functools import partial
 
-from gregorio_chant.objects.compiled import Compiled
-from gregorio_chant.work.files import Content, FileChanged, Reader, replace
+from gregorio_chant._native.results import Status
 from gregorio_chant.format.judge import Reading, objection
 from gregorio_chant.format.layout import laid_out
 from gregorio_chant.format.losses import Loss
-from gregorio_chant.work.processes import by_processes
-from gregorio_chant.work.progress import Shown, bar
+from gregorio_chant.objects.compiled import Compiled
 from gregorio_chant.report.reports import counted
 from gregorio_chant.text.scan import without_blanks
-from gregorio_chant._native.results import Status
+from gregorio_chant.work.files import Content, FileChanged, Reader, replace
+from gregorio_chant.work.processes import by_processes
+from gregorio_chant.work.progress import Shown, bar
 from gregorio_chant.work.settings import Finder, NoSettings, Settings
 from gregorio_chant.work.staged import StagedFiles
-from gregorio_chant.work.streams import CANNOT_READ_OR_WRITE, STDIN, printable, reason_of, tell, write_data
+from gregorio_chant.work.streams import (
+    CANNOT_READ_OR_WRITE,
+    STDIN,
+    printable,
+    reason_of,
+    tell,
+    write_data,
+)
 from gregorio_chant.work.walk import find_scores
 
 NO_MEMORY = 5
@@ -28,7 +36,8 @@ NO_MEMORY = 5
 
 @dataclass(frozen=True)
 class Style:
-    """How a score is written: in canonical form, or as it is laid out, with at most `width` characters on a line where one is given."""
+    """How a score is written: in canonical form, or as it is laid out, with at most `width`
+    characters on a line where one is given."""
 
     is_canonical: bool = False
     width: int | None = None
@@ -59,7 +68,8 @@ class Options:
         return not self.checks and not self.shows_diff
 
     def style_of(self, name: str) -> Style:
-        """Returns how a file is written: by the words of the command, where they say something, else by the settings."""
+        """Returns how a file is written: by the words of the command, where they say something,
+        else by the settings."""
         return self.style if self.style != Style() else style_by(self.settings.of(name))
 
 
@@ -75,7 +85,8 @@ class Outcome(enum.Enum):
 
 @dataclass(frozen=True)
 class Formatted:
-    """What a score is formatted to. Where it has to stay as it is, the others say why: what it would lose, its fault, or the judge's objection."""
+    """What a score is formatted to. Where it has to stay as it is, the others say why: what it
+    would lose, its fault, or the judge's objection."""
 
     data: bytes = b""
     losses: tuple[Loss, ...] = ()
@@ -83,13 +94,20 @@ class Formatted:
     objection: str | None = None
 
     def reasons(self) -> list[str]:
-        """Returns why the score stays as it is, in a line and further ones with their places; nothing where it may be written."""
+        """Returns why the score stays as it is, in a line and further ones with their places;
+        nothing where it may be written."""
         if self.fault is not None:
             return ["it is not whole", self.fault]
         if self.objection is not None:
             return [f"{self.objection}, which is a defect of gregorio-chant"]
         if self.losses:
-            return ["more than its blanks would change", *(f"{it.place.line}:{it.place.column}: {it.reason}: {it.text}" for it in self.losses)]
+            return [
+                "more than its blanks would change",
+                *(
+                    f"{it.place.line}:{it.place.column}: {it.reason}: {it.text}"
+                    for it in self.losses
+                ),
+            ]
         return []
 
 
@@ -112,7 +130,11 @@ def formatted(data: bytes, style: Style, allow: frozenset[str] = frozenset()) ->
 
 def _canonical(score: Compiled, allow: frozenset[str]) -> Formatted:
     data = score.canonical.encode("utf-8")
-    losses = [] if without_blanks(score.data.decode("utf-8")) == without_blanks(score.canonical) else score.comparison.losses()
+    losses = (
+        []
+        if without_blanks(score.data.decode("utf-8")) == without_blanks(score.canonical)
+        else score.comparison.losses()
+    )
     return Formatted(data, tuple(it for it in losses if it.reason not in allow))
 
 
@@ -136,15 +158,23 @@ def _format(name: str, options: Options, read: _Read) -> _Done:
         content = read(name)
         made = formatted(content.data, options.style_of(name), options.allow)
     except OSError as error:
-        return _Done(Outcome.FAILED, CANNOT_READ_OR_WRITE, (f"cannot read {shown}: {reason_of(error)}",))
+        return _Done(
+            Outcome.FAILED, CANNOT_READ_OR_WRITE, (f"cannot read {shown}: {reason_of(error)}",)
+        )
     except MemoryError:
-        return _Done(Outcome.FAILED, NO_MEMORY, (f"cannot read {shown}: there is no memory for it",))
+        return _Done(
+            Outcome.FAILED, NO_MEMORY, (f"cannot read {shown}: there is no memory for it",)
+        )
     reasons = made.reasons()
     if reasons and not (made.losses and options.shows_diff):
         first, *others = reasons
         status = int(Status.FATAL) if made.fault is not None else 1
         stays = "would stay" if options.checks and made.fault is None else "stays"
-        return _Done(Outcome.REFUSED, status, (f"{shown} {stays} as it is: {first}", *(f"{shown}:{it}" for it in others)))
+        return _Done(
+            Outcome.REFUSED,
+            status,
+            (f"{shown} {stays} as it is: {first}", *(f"{shown}:{it}" for it in others)),
+        )
     return _finish(name, shown, content, made.data, options)
 
 
@@ -152,7 +182,9 @@ def _finish(name: str, shown: str, content: Content, data: bytes, options: Optio
     text = ""
     if options.shows_diff:
         kind = "canonical" if options.style_of(name).is_canonical else "formatted"
-        text = difference(shown, f"{shown} ({kind})", content.data.decode("utf-8"), data.decode("utf-8"))
+        text = difference(
+            shown, f"{shown} ({kind})", content.data.decode("utf-8"), data.decode("utf-8")
+        )
     elif name == STDIN and options.writes:
         text = data.decode("utf-8")
     if data == content.data:
@@ -164,14 +196,20 @@ def _finish(name: str, shown: str, content: Content, data: bytes, options: Optio
             replace(name, content, data)
         except (OSError, FileChanged) as error:
             reason = reason_of(error) if isinstance(error, OSError) else str(error)
-            return _Done(Outcome.FAILED, CANNOT_READ_OR_WRITE, (f"cannot write {shown}: {reason}; it stays as it was",))
+            return _Done(
+                Outcome.FAILED,
+                CANNOT_READ_OR_WRITE,
+                (f"cannot write {shown}: {reason}; it stays as it was",),
+            )
     return _Done(Outcome.WRITTEN, text=text)
 
 
 def difference(name: str, new_name: str, before: str, after: str) -> str:
     """Returns a unified diff of two texts, as they are."""
     lines = []
-    for line in difflib.unified_diff(_lines(before), _lines(after), printable(name), printable(new_name)):
+    for line in difflib.unified_diff(
+        _lines(before), _lines(after), printable(name), printable(new_name)
+    ):
         lines.append(line if line.endswith("\n") else f"{line}\n\\ No newline at end of file\n")
     return "".join(lines)
 
@@ -193,7 +231,9 @@ class _Run:
         self.shown: Shown | None = None
 
     def add(self, done: _Done) -> None:
-        with self.shown.aside(told=bool(done.lines)) if self.shown and (done.text or done.lines) else nullcontext():
+        with self.shown.aside(told=bool(done.lines)) if self.shown and (
+            done.text or done.lines
+        ) else nullcontext():
             self._tell(done)
 
     def _tell(self, done: _Done) -> None:
@@ -204,7 +244,11 @@ class _Run:
             tell(it)
 
     def cannot_read(self, name: str, error: OSError) -> None:
-        self.add(_Done(Outcome.FAILED, CANNOT_READ_OR_WRITE, (f"cannot read {name}: {reason_of(error)}",)))
+        self.add(
+            _Done(
+                Outcome.FAILED, CANNOT_READ_OR_WRITE, (f"cannot read {name}: {reason_of(error)}",)
+            )
+        )
 
     def summary(self) -> str:
         told = [f"{number:,} {it.value}" for it, number in self.outcomes.items() if number]
@@ -213,21 +257,29 @@ class _Run:
 
 @contextmanager
 def _all_formatted(options: Options, run: _Run) -> Iterator[tuple[int, Iterator[_Done]]]:
-    """Gives how many files there are, and what becomes of each, in order; many of them are formatted by `options.jobs` processes."""
+    """Gives how many files there are, and what becomes of each, in order; many of them are
+    formatted by `options.jobs` processes."""
     if options.staged:
         staged = StagedFiles(options.paths)
         names = options.settings.kept(staged.names, options.paths)
         yield len(names), (_format(it, options, staged.read) for it in names)
         return
-    names = options.settings.kept(find_scores(options.paths, run.cannot_read, options.exclude), options.paths)
-    with by_processes(partial(_format, options=options, read=Reader.of(options.paths).read), names, options.jobs) as all_done:
+    names = options.settings.kept(
+        find_scores(options.paths, run.cannot_read, options.exclude), options.paths
+    )
+    with by_processes(
+        partial(_format, options=options, read=Reader.of(options.paths).read), names, options.jobs
+    ) as all_done:
         yield len(names), all_done
 
 
 def format_files(options: Options) -> int:
-    """Formats the files, and returns the worst status. Raises `WriteError`, and before any score is read `GitError`, `SettingsError` or `MissingDependency`."""
+    """Formats the files, and returns the worst status. Raises `WriteError`, and before any score is
+    read `GitError`, `SettingsError` or `MissingDependency`."""
     run = _Run()
-    with _all_formatted(options, run) as (files_named, all_done), bar("formatting", files_named) as run.shown:
+    with _all_formatted(options, run) as (files_named, all_done), bar(
+        "formatting", files_named
+    ) as run.shown:
         for it in all_done:
             run.add(it)
             run.shown.advance()

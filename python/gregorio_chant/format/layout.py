@@ -1,8 +1,10 @@
-"""Lays a score out: each header and syllable in its canonical spelling, and all between them as the editor put it.
+"""Lays a score out: each header and syllable in its canonical spelling, and all between them as the
+editor put it.
 
-A part stays as it is spelled where something is found in it, where it holds a comment, and where its canonical spelling has other letters or line ends, or has the
-blank before it that stands inside. Line ends, comments and a byte order mark stay, and so does which words share a line; of empty lines in a row one stays, and
-of blanks one.
+A part stays as it is spelled where something is found in it, where it holds a comment, and where
+its canonical spelling has other letters or line ends, or has the blank before it that stands
+inside. Line ends, comments and a byte order mark stay, and so does which words share a line; of
+empty lines in a row one stays, and of blanks one.
 """
 from __future__ import annotations
 
@@ -13,8 +15,8 @@ from collections.abc import Iterator
 from dataclasses import dataclass
 from itertools import islice, zip_longest
 
-from gregorio_chant.objects.compiled import Compiled
 from gregorio_chant.format.losses import Comparison
+from gregorio_chant.objects.compiled import Compiled
 from gregorio_chant.text.scan import HeaderSpan, Span, letters_of
 
 _MARK = "\ufeff"
@@ -34,7 +36,8 @@ class _Part:
 
 @dataclass(slots=True)
 class _Word:
-    """Parts that are written without a blank between them, and what stands before them: blanks, line ends and comments."""
+    """Parts that are written without a blank between them, and what stands before them: blanks,
+    line ends and comments."""
 
     lead: str
     parts: list[str]
@@ -45,10 +48,12 @@ class _Word:
 
 
 class _Source:
-    """The text of a score, its marks U+FEFF included, by the offsets that the compiler counts without them."""
+    """The text of a score, its marks U+FEFF included, by the offsets that the compiler counts
+    without them."""
 
     def __init__(self, data: bytes, plain: str) -> None:
-        """Takes a score, and its text without marks and with LF for each line end: where that says all, there is no second text."""
+        """Takes a score, and its text without marks and with LF for each line end: where that says
+        all, there is no second text."""
         self.line_end, self._text = "\n", plain
         if b"\r" in data or _MARK.encode() in data:
             text = data.decode("utf-8")
@@ -72,7 +77,8 @@ class _Source:
 
 
 def laid_out(score: Compiled, width: int | None = None) -> bytes:
-    """Returns the score as it is laid out. With a `width` a line longer than this many characters is broken where words begin."""
+    """Returns the score as it is laid out. With a `width` a line longer than this many characters
+    is broken where words begin."""
     source = _Source(score.data, score.comparison.lines.text)
     words = _words(source, score.comparison)
     if width is not None:
@@ -90,24 +96,37 @@ def laid_out(score: Compiled, width: int | None = None) -> bytes:
 def _parts(comparison: Comparison) -> Iterator[_Part]:
     source = comparison.source
     told = sorted(comparison.lines.offset(it.line, it.column) for it in comparison.messages)
-    headers = {it.source: it.written for it in comparison.header_pairs if isinstance(it.source, HeaderSpan)}
+    headers = {
+        it.source: it.written for it in comparison.header_pairs if isinstance(it.source, HeaderSpan)
+    }
     for header in source.headers:
         end = header.begin + len(source.text[header.begin : header.end].rstrip(_BLANKS))
         yield _part(comparison, header, Span(header.begin, end), headers[header], told)
     line_end = source.text.find("\n", source.score)
     first_line = source.text[source.score : len(source.text) if line_end < 0 else line_end]
     yield _Part(source.score, source.score + len(first_line.rstrip(_BLANKS)))
-    for syllable, written in zip_longest(source.syllables, islice(comparison.written.syllables, len(source.syllables))):
-        yield _part(comparison, syllable, Span(after_lead(source.text, syllable), syllable.end), written, told)
+    for syllable, written in zip_longest(
+        source.syllables, islice(comparison.written.syllables, len(source.syllables))
+    ):
+        yield _part(
+            comparison,
+            syllable,
+            Span(after_lead(source.text, syllable), syllable.end),
+            written,
+            told,
+        )
 
 
 def after_lead(text: str, span: Span) -> int:
-    """Returns where the first character of `span` stands that is no blank and lies in no comment; the end where there is none."""
+    """Returns where the first character of `span` stands that is no blank and lies in no comment;
+    the end where there is none."""
     lead = _LEAD.match(text, span.begin, span.end)
     return lead.end() if lead else span.begin
 
 
-def _part(comparison: Comparison, whole: Span, body: Span, written: Span | None, told: list[int]) -> _Part:
+def _part(
+    comparison: Comparison, whole: Span, body: Span, written: Span | None, told: list[int]
+) -> _Part:
     """Returns a part with its canonical spelling, if it may have that."""
     stays = _Part(body.begin, body.end)
     if written is None:
@@ -116,12 +135,19 @@ def _part(comparison: Comparison, whole: Span, body: Span, written: Span | None,
     before, after = comparison.source.text[body.begin : body.end], spelling.removeprefix("\n")
     first = bisect.bisect_left(told, body.begin)
     is_last = whole.end == len(comparison.source.text)
-    if before == after or first < len(told) and (told[first] < whole.end or is_last) or _holds_comment(comparison, body):
+    if (
+        before == after
+        or first < len(told)
+        and (told[first] < whole.end or is_last)
+        or _holds_comment(comparison, body)
+    ):
         return stays
     if isinstance(whole, HeaderSpan):
         may_change = letters_of(before).replace(";", "") == letters_of(after).replace(";", "")
     else:
-        keeps_blanks = before.count("\n") == after.count("\n") and (spelling == after or body.begin > whole.begin)
+        keeps_blanks = before.count("\n") == after.count("\n") and (
+            spelling == after or body.begin > whole.begin
+        )
         may_change = keeps_blanks and letters_of(before) == letters_of(after)
     return _Part(body.begin, body.end, after) if may_change else stays
 
@@ -154,13 +180,17 @@ def _words(source: _Source, comparison: Comparison) -> Iterator[_Word]:
     if word:
         yield word
     text = comparison.source.text
-    yield _Word(_end_of_file(source.between(at, len(text)), text.rstrip(_BLANKS).endswith("\n")), [])
+    yield _Word(
+        _end_of_file(source.between(at, len(text)), text.rstrip(_BLANKS).endswith("\n")), []
+    )
 
 
 def _spaced(lead: str) -> str:
-    """Returns blanks, line ends and comments in one spelling: a blank, or each line by itself and at most one empty line in a row.
+    """Returns blanks, line ends and comments in one spelling: a blank, or each line by itself and
+    at most one empty line in a row.
 
-    A comment `%%` keeps a blank before it, since without one it would be the line that ends the headers.
+    A comment `%%` keeps a blank before it, since without one it would be the line that ends the
+    headers.
     """
     if lead in ("", " ", "\n") or _MARK in lead:
         return lead
@@ -172,7 +202,9 @@ def _spaced(lead: str) -> str:
     for line in lines[:-1]:
         comment = line.strip(_BLANKS)
         if comment or len(kept) == 1 or kept[-1]:
-            kept.append(f" {comment}" if comment.startswith("%%") and line[0] in _BLANKS else comment)
+            kept.append(
+                f" {comment}" if comment.startswith("%%") and line[0] in _BLANKS else comment
+            )
     return "\n".join([*kept, ""])
 
 
@@ -187,7 +219,8 @@ def _end_of_file(lead: str, ends_line: bool) -> str:
 
 
 def _wrapped(words: Iterator[_Word], width: int) -> Iterator[_Word]:
-    """Yields the words, and breaks each line longer than `width` characters where one begins on it."""
+    """Yields the words, and breaks each line longer than `width` characters where one begins on
+    it."""
     column = 0
     for word in words:
         if word.lead == " " and column + 1 + len(word.text.partition("\n")[0]) > width:

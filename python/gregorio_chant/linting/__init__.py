@@ -1,1 +1,2 @@
-"""What is found in scores beside the compiler's messages: the table of codes, rules, helps, repairs."""
+"""What is found in scores beside the compiler's messages: the table of codes, rules, helps,
+repairs."""

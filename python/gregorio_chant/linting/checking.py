@@ -10,18 +10,18 @@ from functools import partial
 
 from gregorio_chant import __version__
 from gregorio_chant._native import library
-from gregorio_chant.work.files import Content, Reader
+from gregorio_chant._native.results import Kind, Message
 from gregorio_chant.linting.helps import helps_for
+from gregorio_chant.linting.rules import messages_with_rules, unsilenced
+from gregorio_chant.linting.selection import Selection
+from gregorio_chant.report.reports import Annotations, Checked, Json, Lines, Reporter, summary_of
+from gregorio_chant.report.sarif import Sarif
+from gregorio_chant.text.source import text_of
+from gregorio_chant.work.files import Content, Reader
 from gregorio_chant.work.needs import MissingDependency
 from gregorio_chant.work.processes import by_processes
 from gregorio_chant.work.progress import bar
-from gregorio_chant.report.reports import Annotations, Checked, Json, Lines, Reporter, summary_of
-from gregorio_chant._native.results import Kind, Message
-from gregorio_chant.linting.rules import messages_with_rules, unsilenced
-from gregorio_chant.report.sarif import Sarif
-from gregorio_chant.linting.selection import Selection
 from gregorio_chant.work.settings import Chosen, Finder, NoSettings
-from gregorio_chant.text.source import text_of
 from gregorio_chant.work.staged import StagedFiles
 from gregorio_chant.work.streams import CANNOT_READ_OR_WRITE, reason_of, tell, write
 from gregorio_chant.work.walk import find_scores
@@ -55,8 +55,8 @@ def check_data(data: bytes, with_rules: bool) -> tuple[Message, ...]:
 
 @dataclass(frozen=True)
 class Told:
-    """What is reported of a score: `messages`, each with its help or nothing, of all that is `found`
-    in its `text`. The text is empty if nothing is reported."""
+    """What is reported of a score: `messages`, each with its help or nothing, of all that is
+    `found` in its `text`. The text is empty if nothing is reported."""
 
     found: tuple[Message, ...]
     messages: tuple[Message, ...] = ()
@@ -87,7 +87,13 @@ def check_file(name: str, options: Options, read_it: _Read) -> Checked:
         return Checked(name, failure=reason_of(error), status=CANNOT_READ_OR_WRITE)
     except MemoryError:
         return Checked(name, failure="there is no memory for it", status=NO_MEMORY)
-    return Checked(name, told.messages, told.text, status=int(selection.status_of(told.messages)), helps=told.helps)
+    return Checked(
+        name,
+        told.messages,
+        told.text,
+        status=int(selection.status_of(told.messages)),
+        helps=told.helps,
+    )
 
 
 @contextmanager
@@ -112,7 +118,10 @@ def _all_checked(names: list[str], options: Options, read_it: _Read) -> Iterator
 
 def _reporter_of(form: str) -> Reporter:
     plain: dict[str, Callable[[], Reporter]] = {
-        "lines": Lines, "json": Json, "github": Annotations, "sarif": lambda: Sarif(__version__),
+        "lines": Lines,
+        "json": Json,
+        "github": Annotations,
+        "sarif": lambda: Sarif(__version__),
     }
     if form in plain:
         return plain[form]()
@@ -153,13 +162,16 @@ def _named(options: Options, count: _Count) -> tuple[list[str], _Read]:
     if options.staged:
         staged = StagedFiles(options.paths)
         return options.settings.kept(staged.names, options.paths), staged.read
-    names = find_scores(options.paths, lambda name, error: count.fail(name, reason_of(error)), options.exclude)
+    names = find_scores(
+        options.paths, lambda name, error: count.fail(name, reason_of(error)), options.exclude
+    )
     return options.settings.kept(names, options.paths), Reader.of(options.paths).read
 
 
 def check(options: Options) -> int:
     """Checks the files, reports what is found, and returns the worst status. Raises
-    `WriteError`, and `MissingDependency`, `GitError` or `SettingsError` before any score is read."""
+    `WriteError`, and `MissingDependency`, `GitError` or `SettingsError` before any score is read.
+    """
     reporter = _reporter_of(options.form)
     count = _Count()
     names, read_it = _named(options, count)

@@ -4,12 +4,12 @@ from __future__ import annotations
 import textwrap
 from collections.abc import Iterable
 
-from gregorio_chant.linting.codes import CODES, shown
-from gregorio_chant.text.nearest import did_you_mean
-from gregorio_chant.linting.repairs import REPAIRS, Repair
 from gregorio_chant._native.results import Kind
+from gregorio_chant.linting.codes import CODES, shown
+from gregorio_chant.linting.repairs import REPAIRS, Repair
 from gregorio_chant.linting.rules import RULES
 from gregorio_chant.linting.selection import LISTED, UnknownCode
+from gregorio_chant.text.nearest import did_you_mean
 
 _WIDTH = 80
 # Where Debian's package has the documentation, which has no public place.
@@ -17,15 +17,23 @@ PAGES = "file:///usr/share/doc/gregorio-canonical/docs"
 
 
 def page_of(name: str) -> str:
-    """Returns the page of a code, in whichever case it is given, or of a rule. Raises `UnknownCode`."""
+    """Returns the page of a code, in whichever case it is given, or of a rule. Raises
+    `UnknownCode`."""
     code, rule = CODES.get(name.upper()), RULES.get(name.lower())
     if code is not None:
         title, it = f"{code.name}: {code.kind.value}: {code.text}", code
         return _page(title, it.meaning, it.wrong, it.right) + _repairs_of(code.name)
     if rule is not None:
-        page = _page(f"{rule.name}: {rule.kind.value}, by check --rules alone", rule.meaning, rule.wrong, rule.right)
+        page = _page(
+            f"{rule.name}: {rule.kind.value}, by check --rules alone",
+            rule.meaning,
+            rule.wrong,
+            rule.right,
+        )
         return page + _silence(rule.name) + _repairs_of(rule.name)
-    raise UnknownCode(f"{name} is no code and no rule: {did_you_mean(name, [*CODES, *RULES], LISTED)}")
+    raise UnknownCode(
+        f"{name} is no code and no rule: {did_you_mean(name, [*CODES, *RULES], LISTED)}"
+    )
 
 
 def page_uri(name: str) -> str:
@@ -43,7 +51,11 @@ def example_of(name: str) -> tuple[str, str]:
 
 
 def _page(title: str, meaning: str, wrong: str, right: str) -> str:
-    parts = [title, "", textwrap.fill(meaning, _WIDTH, break_long_words=False, break_on_hyphens=False)]
+    parts = [
+        title,
+        "",
+        textwrap.fill(meaning, _WIDTH, break_long_words=False, break_on_hyphens=False),
+    ]
     for head, lines in (("Wrong:", wrong), ("Right:", right)):
         parts += ["", head, *(f"    {shown(it)}" for it in lines.split("\n"))]
     return "\n".join(parts) + "\n"
@@ -56,7 +68,9 @@ def _silence(name: str) -> str:
 
 def _repair_of(repair: Repair) -> str:
     words = "check --fix" if repair.is_safe else "check --fix --unsafe-fixes"
-    told = f"Repair {repair.name}, by {words}: {repair.meaning}" + ("" if repair.is_safe else f" A guess: {repair.changes}.")
+    told = f"Repair {repair.name}, by {words}: {repair.meaning}" + (
+        "" if repair.is_safe else f" A guess: {repair.changes}."
+    )
     lines = ["", textwrap.fill(told, _WIDTH, break_long_words=False, break_on_hyphens=False)]
     for head, line in (("Before:", repair.wrong), ("After:", repair.right)):
         lines += ["", head, *(f"    {shown(it)}" for it in line.split("\n"))]
@@ -68,6 +82,7 @@ def _repairs_of(code: str) -> str:
 
 
 def explain(names: Iterable[str]) -> str:
-    """Returns the pages of these codes and rules; of all where there is none. Raises `UnknownCode`."""
+    """Returns the pages of these codes and rules; of all where there is none. Raises
+    `UnknownCode`."""
     wanted = list(names) or [*CODES, *RULES]
     return "\n".join(page_of(it) for it in wanted)

@@ -1,6 +1,8 @@
-"""A line of help for each message: which thing it is about, what probably was meant, and what to write instead. One function for each code.
+"""A line of help for each message: which thing it is about, what probably was meant, and what to
+write instead. One function for each code.
 
-All is read off the text of the score, so a help may be wrong where the text is far from what was meant.
+All is read off the text of the score, so a help may be wrong where the text is far from what was
+meant.
 """
 from __future__ import annotations
 
@@ -8,13 +10,24 @@ import re
 import unicodedata
 from collections.abc import Callable, Iterable
 
-from gregorio_chant.linting.guesses import Bracket
-from gregorio_chant.text.nearest import nearest
 from gregorio_chant._native.results import Kind, Message
+from gregorio_chant.linting.guesses import Bracket
 from gregorio_chant.linting.slips import (
-    APOSTROPHES, NOTES, Meant, Subject, bars_for, clef_for, closing_bracket, meant_header, open_styles, opening_bracket, readings, struck_for_mark,
+    APOSTROPHES,
+    NOTES,
+    Meant,
+    Subject,
+    bars_for,
+    clef_for,
+    closing_bracket,
+    meant_header,
+    open_styles,
+    opening_bracket,
+    readings,
+    struck_for_mark,
     unread_score_line,
 )
+from gregorio_chant.text.nearest import nearest
 from gregorio_chant.text.vocabulary import HTML_TAGS, NABC_CODES, TAGS
 
 _TAG = re.compile(r"<(/?)([^>]*)>")
@@ -26,7 +39,8 @@ _LONGEST = 40
 
 
 def named(text: str) -> str:
-    """Returns a part of a score as a help names it: between quotes, or by its number where it is a character that cannot be seen."""
+    """Returns a part of a score as a help names it: between quotes, or by its number where it is a
+    character that cannot be seen."""
     if len(text) == 1 and (text.isspace() or not text.isprintable() or unicodedata.combining(text)):
         return f"the character U+{ord(text):04X}"
     shown = "".join(it if it.isprintable() else " " for it in text)
@@ -119,10 +133,18 @@ def _header_without_name(subject: Subject, at: int) -> str:
     if of_file is not None:
         return of_file
     if not colon:
-        told = f"write {named(meant)}" if meant else "a header is name: value;, and the notes follow a line %%"
+        told = (
+            f"write {named(meant)}"
+            if meant
+            else "a header is name: value;, and the notes follow a line %%"
+        )
         return f"{named(line)} has no colon: {told}"
     length = len(name.strip(" \t").encode("utf-8", "replace"))
-    return f"the name has {length} bytes; the limit is 64" if length else "there is no name before the colon: write one"
+    return (
+        f"the name has {length} bytes; the limit is 64"
+        if length
+        else "there is no name before the colon: write one"
+    )
 
 
 def _number_of_nabc_lines(subject: Subject, at: int) -> str:
@@ -147,7 +169,11 @@ def _no_name(subject: Subject, at: int) -> str:
 
 def _given_again(subject: Subject, at: int) -> str:
     header = subject.header_at(at)
-    names = [it for it in subject.scan.headers if header is not None and it.name == header.name and it.begin < at]
+    names = [
+        it
+        for it in subject.scan.headers
+        if header is not None and it.name == header.name and it.begin < at
+    ]
     if header is None or not names:
         return "its last value counts: remove the others"
     return f"{named(header.name or '')} is already in line {subject.lines.place(names[-1].begin).line}: remove one of them"
@@ -158,7 +184,9 @@ def _style(subject: Subject, at: int) -> str:
     if tag is None:
         it = subject.syllable_at(at)
         styles = open_styles(subject.text[it.begin : it.notes]) if it else []
-        opened, closed = "".join(f"<{it}>" for it in styles), "".join(f"</{it}>" for it in reversed(styles))
+        opened, closed = "".join(f"<{it}>" for it in styles), "".join(
+            f"</{it}>" for it in reversed(styles)
+        )
         return f"{opened or 'a style'} ends with the text of its syllable: write {closed or 'its end'} here, and {opened or 'it'} again in the next text"
     if tag[1]:
         return f"{tag[0]} closes no style that is open in this syllable: open it here with <{tag[2]}>, or remove it"
@@ -169,7 +197,11 @@ def _centre(subject: Subject, at: int) -> str:
     it = subject.text[at : at + 1]
     if it == "{":
         return "there is already a centre: keep one pair of { and } in a syllable"
-    return "'}' closes no {" if it == "}" else "the { of this syllable is not closed: write } after its vowel"
+    return (
+        "'}' closes no {"
+        if it == "}"
+        else "the { of this syllable is not closed: write } after its vowel"
+    )
 
 
 def _second_translation(subject: Subject, at: int) -> str:
@@ -189,9 +221,13 @@ def _unknown_tag(subject: Subject, at: int) -> str:
         return f"{tag[0]} closes nothing, since no <{tag[2]}> is open: remove it"
     if word in HTML_TAGS:
         like = HTML_TAGS[word]
-        return f"{named(tag[0])} is a tag of HTML: " + (f"write <{tag[1]}{like}>" if like else "remove it")
+        return f"{named(tag[0])} is a tag of HTML: " + (
+            f"write <{tag[1]}{like}>" if like else "remove it"
+        )
     near = nearest(tag[2], TAGS)
-    return f"there is no tag {named(tag[0])}" + (f": did you mean <{tag[1]}{near}>?" if near and near != tag[2] else "; it is kept")
+    return f"there is no tag {named(tag[0])}" + (
+        f": did you mean <{tag[1]}{near}>?" if near and near != tag[2] else "; it is kept"
+    )
 
 
 def _unknown_code(subject: Subject, at: int) -> str:
@@ -200,7 +236,9 @@ def _unknown_code(subject: Subject, at: int) -> str:
         return unclosed
     code = subject.text[max(at - 1, 0) : at + 1]
     turned = code[::-1]
-    return f"{named(code)} is no code of the manual" + (f": did you mean {turned}?" if turned in NABC_CODES else "; it is kept")
+    return f"{named(code)} is no code of the manual" + (
+        f": did you mean {turned}?" if turned in NABC_CODES else "; it is kept"
+    )
 
 
 def _macro(subject: Subject, at: int) -> str:
@@ -216,7 +254,11 @@ def _no_notes(subject: Subject, at: int) -> str:
 def _fusion(subject: Subject, at: int) -> str:
     if subject.text[at : at + 1] == "]":
         return "this ] has no @[ before it"
-    return "this @[ is not closed: write ] after its last note" if subject.text[at : at + 1] == "[" else "an @[ before this place is not closed: write ]"
+    return (
+        "this @[ is not closed: write ] after its last note"
+        if subject.text[at : at + 1] == "["
+        else "an @[ before this place is not closed: write ]"
+    )
 
 
 def _open_span(subject: Subject, at: int) -> str:
@@ -224,8 +266,14 @@ def _open_span(subject: Subject, at: int) -> str:
     for it in subject.scan.syllables:
         for tag in re.finditer(r"<(/?)(eu|nlba)>", subject.text[it.begin : it.notes]):
             found[tag[2]] = None if tag[1] else it.begin + tag.start()
-    told = [f"<{name}> at {subject.place(begin)}" for name, begin in found.items() if begin is not None]
-    return f"the {' and the '.join(told)} is not closed: write </..> after its last syllable" if told else "a span is not closed"
+    told = [
+        f"<{name}> at {subject.place(begin)}" for name, begin in found.items() if begin is not None
+    ]
+    return (
+        f"the {' and the '.join(told)} is not closed: write </..> after its last syllable"
+        if told
+        else "a span is not closed"
+    )
 
 
 def _no_clef(subject: Subject, at: int) -> str:
@@ -253,7 +301,9 @@ def _value_not_ended(subject: Subject, at: int) -> str:
         return f"line {place.line} has notes: write a line %% before the first line of the score"
     struck = struck_for_mark(line)
     if struck:
-        return f"line {place.line} ends with {struck} and not with ; : write {named(line[:-1] + ';')}"
+        return (
+            f"line {place.line} ends with {struck} and not with ; : write {named(line[:-1] + ';')}"
+        )
     return f"line {place.line} lacks its ; : write {named(line + ';')}, or ;; after the last line of a value of several lines"
 
 
@@ -279,22 +329,46 @@ def _input_too_long(subject: Subject, at: int) -> str:
 
 
 _HELPS: dict[str, _Help] = {
-    "E1": _left_out_of_notes, "E2": _left_out_of_text, "E3": _left_out_of_nabc, "E4": _header_without_name, "E5": _number_of_nabc_lines, "E6": _unfinished,
-    "W1": _no_name, "W2": _given_again, "W3": _style, "W4": _centre, "W5": _second_translation, "W6": _unknown_tag, "W7": _unknown_code, "W8": _macro,
-    "W9": _no_notes, "W10": _fusion, "W11": _open_span, "W12": _no_clef,
-    "F1": _not_utf8, "F2": _no_score, "F3": _value_not_ended, "F4": _headers_too_long, "F5": _syllable_too_long, "F6": _cut, "F7": _input_too_long,
+    "E1": _left_out_of_notes,
+    "E2": _left_out_of_text,
+    "E3": _left_out_of_nabc,
+    "E4": _header_without_name,
+    "E5": _number_of_nabc_lines,
+    "E6": _unfinished,
+    "W1": _no_name,
+    "W2": _given_again,
+    "W3": _style,
+    "W4": _centre,
+    "W5": _second_translation,
+    "W6": _unknown_tag,
+    "W7": _unknown_code,
+    "W8": _macro,
+    "W9": _no_notes,
+    "W10": _fusion,
+    "W11": _open_span,
+    "W12": _no_clef,
+    "F1": _not_utf8,
+    "F2": _no_score,
+    "F3": _value_not_ended,
+    "F4": _headers_too_long,
+    "F5": _syllable_too_long,
+    "F6": _cut,
+    "F7": _input_too_long,
 }
 
 
 def help_for(subject: Subject, message: Message) -> str | None:
-    """Returns the help for a message of the compiler; a message of a rule says by itself what it is about."""
+    """Returns the help for a message of the compiler; a message of a rule says by itself what it is
+    about."""
     find = _HELPS.get(message.code)
     return None if find is None else find(subject, subject.offset(message))
 
 
-def helps_for(text: str, found: Iterable[Message], told: Iterable[Message]) -> tuple[str | None, ...]:
-    """Returns the help for each message that is reported, of all that are found in this text. Where several messages have one slip, as a lost bracket, all but
-    the first say so."""
+def helps_for(
+    text: str, found: Iterable[Message], told: Iterable[Message]
+) -> tuple[str | None, ...]:
+    """Returns the help for each message that is reported, of all that are found in this text. Where
+    several messages have one slip, as a lost bracket, all but the first say so."""
     subject = Subject(text, found)
     first: dict[str, str] = {}
     helps: list[str | None] = []

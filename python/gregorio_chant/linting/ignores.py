@@ -1,4 +1,5 @@
-"""Comments that silence messages: `% gregorio: ignore W6, E2` on their line, `% gregorio: ignore-file W6` in the score."""
+"""Comments that silence messages: `% gregorio: ignore W6, E2` on their line, `% gregorio:
+ignore-file W6` in the score."""
 from __future__ import annotations
 
 import re
@@ -7,8 +8,8 @@ from dataclasses import dataclass
 from typing import Optional
 
 from gregorio_chant._native.results import Kind, Message
-from gregorio_chant.text.scan import scan
 from gregorio_chant.linting.selection import KINDS, RULES, group_of
+from gregorio_chant.text.scan import scan
 from gregorio_chant.text.source import Lines, Place, text_of
 
 _WORD = b"gregorio:"
@@ -17,13 +18,15 @@ _CODE = re.compile(r"[^\s,]+")
 _LEFT_OUT = frozenset(("E1", "E2", "E3"))
 
 
-# Where something is silenced, on a line or in the whole score, and what: a code, its kind, or the rules.
+# Where something is silenced, on a line or in the whole score, and what: a code, its kind, or the
+# rules.
 _Key = tuple[Optional[int], Optional[str]]
 
 
 @dataclass(frozen=True)
 class _Ignore:
-    """A code to be silenced, at the place where it is named; without a code the comment names none."""
+    """A code to be silenced, at the place where it is named; without a code the comment names
+    none."""
 
     place: Place
     code: str | None
@@ -48,7 +51,11 @@ def _keys_of(message: Message) -> set[_Key]:
     """Returns what silences this message. A fatal fault cannot be silenced."""
     if message.kind is Kind.FATAL:
         return set()
-    return {(line, code) for line in (None, message.line) for code in (message.code, group_of(message.code))}
+    return {
+        (line, code)
+        for line in (None, message.line)
+        for code in (message.code, group_of(message.code))
+    }
 
 
 @dataclass(frozen=True)
@@ -71,8 +78,11 @@ def _ignores_in(data: bytes, messages: Iterable[Message]) -> Iterator[_Ignore]:
                 yield _Ignore(lines.place(found.start()), None, in_file)
 
 
-def silenced(data: bytes, messages: tuple[Message, ...], known: Collection[str]) -> tuple[tuple[Message, ...], tuple[Unused, ...]]:
-    """Returns the messages that are not silenced by comments of the score, and the ignores that silence nothing. `known` has all codes."""
+def silenced(
+    data: bytes, messages: tuple[Message, ...], known: Collection[str]
+) -> tuple[tuple[Message, ...], tuple[Unused, ...]]:
+    """Returns the messages that are not silenced by comments of the score, and the ignores that
+    silence nothing. `known` has all codes."""
     if _WORD not in data:
         return messages, ()
     ignores = list(_ignores_in(data, messages))
@@ -84,4 +94,6 @@ def silenced(data: bytes, messages: tuple[Message, ...], known: Collection[str])
         used |= keys
         if not keys:
             kept.append(message)
-    return tuple(kept), tuple(Unused(it.place, it.fault(known)) for it in ignores if it.key not in used)
+    return tuple(kept), tuple(
+        Unused(it.place, it.fault(known)) for it in ignores if it.key not in used
+    )

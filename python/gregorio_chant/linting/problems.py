@@ -1,4 +1,5 @@
-"""What is found in a score, as plain data: a message with its place, its help, and the repair that would mend it."""
+"""What is found in a score, as plain data: a message with its place, its help, and the repair that
+would mend it."""
 from __future__ import annotations
 
 from collections.abc import Iterable, Iterator, Mapping
@@ -47,10 +48,24 @@ class Problem:
 
 
 def problems_of(
-    text: str, messages: Iterable[Message], helps: Iterable[str | None], repairs: Mapping[Message, ProblemRepair] | None = None,
+    text: str,
+    messages: Iterable[Message],
+    helps: Iterable[str | None],
+    repairs: Mapping[Message, ProblemRepair] | None = None,
 ) -> Iterator[Problem]:
-    """Yields the problems that these messages tell of a text, each with its help and its repair, if it has one."""
+    """Yields the problems that these messages tell of a text, each with its help and its repair, if
+    it has one."""
     lines = Lines(text)
     for it, help in zip_longest(messages, helps):
         end = lines.column_after(it.line, it.column)
-        yield Problem(it.line, it.column, it.line, end, it.kind.value, it.code, it.text, help, (repairs or {}).get(it))
+        yield Problem(
+            it.line,
+            it.column,
+            it.line,
+            end,
+            it.kind.value,
+            it.code,
+            it.text,
+            help,
+            (repairs or {}).get(it),
+        )

@@ -1,8 +1,9 @@
 """Makes repairs of a score, and judges them.
 
-A repair is made only if the new text has its message no more and no other message comes, if the canonical form differs in the repaired headers and
-syllables alone, and if all comments stay; a safe one only if notes and sung letters stay as they are too. What the compiler answers of the new text is
-proved; the rest of the judge is only tested.
+A repair is made only if the new text has its message no more and no other message comes, if the
+canonical form differs in the repaired headers and syllables alone, and if all comments stay; a safe
+one only if notes and sung letters stay as they are too. What the compiler answers of the new text
+is proved; the rest of the judge is only tested.
 """
 from __future__ import annotations
 
@@ -13,20 +14,21 @@ from collections.abc import Callable, Iterable, Iterator, Sequence
 from dataclasses import dataclass
 from itertools import accumulate
 
+from gregorio_chant._native.results import Kind, Message
 from gregorio_chant.linting.codes import CODES
-from gregorio_chant.objects.compiled import Compiled
-from gregorio_chant.objects.dump import Pause, go_on, plain_text
 from gregorio_chant.linting.helps import named
 from gregorio_chant.linting.problems import Change, ProblemRepair
 from gregorio_chant.linting.repairs import REPAIRS, Edit, Edits, Repair
-from gregorio_chant._native.results import Kind, Message
 from gregorio_chant.linting.rules import RULES, messages_with_rules, unsilenced
-from gregorio_chant.text.scan import Scan, Span, SyllableSpan
 from gregorio_chant.linting.selection import Selection
 from gregorio_chant.linting.slips import Subject, readings
+from gregorio_chant.objects.compiled import Compiled
+from gregorio_chant.objects.dump import Pause, go_on, plain_text
+from gregorio_chant.text.scan import Scan, Span, SyllableSpan
 from gregorio_chant.text.source import raw_offsets, text_of
 
-# How many bytes of scores are compiled for one score at most, so that its repairs take seconds; with rules a byte takes so many times longer.
+# How many bytes of scores are compiled for one score at most, so that its repairs take seconds;
+# with rules a byte takes so many times longer.
 _MOST_COMPILED = 6_000_000
 _RULES_TAKE = 12
 _NO_LETTERS = re.compile(r"[\W_]+")
@@ -53,9 +55,14 @@ class Proposal:
     edits: Edits
 
     def line(self, text: str) -> str:
-        """Returns what it does to `text`, with how that reads now and then; of a guess also what it changes."""
+        """Returns what it does to `text`, with how that reads now and then; of a guess also what it
+        changes."""
         before, after = readings(text, ((it.offset, it.old, it.new) for it in self.edits))
-        told = f"{named(before)} becomes {named(after)}" if before.strip() else f"{named(after.strip())} is written"
+        told = (
+            f"{named(before)} becomes {named(after)}"
+            if before.strip()
+            else f"{named(after.strip())} is written"
+        )
         return told if self.repair.is_safe else f"a guess: {told}; {self.repair.changes}"
 
 
@@ -71,7 +78,8 @@ class _Moved:
         self._begins = [it.offset + grown for it, grown in zip(edits, self._grown)]
 
     def before(self, offset: int) -> int:
-        """Returns the offset in the old text; of what was written in place of another, where that began."""
+        """Returns the offset in the old text; of what was written in place of another, where that
+        began."""
         number = bisect.bisect_right(self._begins, offset)
         if number and offset < self._begins[number - 1] + len(self._edits[number - 1].new):
             return self._edits[number - 1].offset
@@ -85,9 +93,13 @@ def _found(score: Compiled, with_rules: bool) -> tuple[Message, ...]:
 _Placed = Counter[tuple[str, int]]
 
 
-def _messages_at(score: Compiled, found: Iterable[Message], place: Callable[[int], int] = lambda offset: offset) -> _Placed:
+def _messages_at(
+    score: Compiled, found: Iterable[Message], place: Callable[[int], int] = lambda offset: offset
+) -> _Placed:
     lines = score.comparison.lines
-    return Counter((it.code, place(lines.offset(it.line, it.column))) for it in {*found, *score.messages})
+    return Counter(
+        (it.code, place(lines.offset(it.line, it.column))) for it in {*found, *score.messages}
+    )
 
 
 def _comments(score: Compiled) -> list[str]:
@@ -102,7 +114,9 @@ def _is_touched(span: Span, places: Sequence[int]) -> bool:
 
 def _alike(olds: Sequence[str], news: Sequence[str]) -> int:
     """Returns how many of the first ones are the same."""
-    return next((at for at, (a, b) in enumerate(zip(olds, news)) if a != b), min(len(olds), len(news)))
+    return next(
+        (at for at, (a, b) in enumerate(zip(olds, news)) if a != b), min(len(olds), len(news))
+    )
 
 
 def _headers(written: Scan) -> list[str]:
@@ -110,7 +124,8 @@ def _headers(written: Scan) -> list[str]:
 
 
 def _differs_there_alone(old: Compiled, new: Compiled, places: Sequence[int]) -> bool:
-    """Returns whether the canonical forms differ in headers and syllables alone that hold one of the `places` of the old text."""
+    """Returns whether the canonical forms differ in headers and syllables alone that hold one of
+    the `places` of the old text."""
     source, before, after = old.comparison.source, old.comparison.written, new.comparison.written
     if _headers(before) != _headers(after) and not any(it <= source.score for it in places):
         return False
@@ -125,11 +140,17 @@ def _differs_there_alone(old: Compiled, new: Compiled, places: Sequence[int]) ->
 
 
 def _sings_the_same(old: Compiled, new: Compiled) -> bool:
-    """Returns whether the canonical forms have the same headers, notes and NABC, and the letters that are sung are the same."""
+    """Returns whether the canonical forms have the same headers, notes and NABC, and the letters
+    that are sung are the same."""
     before, after = old.comparison.written, new.comparison.written
-    return len(before.syllables) == len(after.syllables) and _headers(before) == _headers(after) and all(
-        before.text[a.notes : a.end] == after.text[b.notes : b.end] and _sung(before, a) == _sung(after, b)
-        for a, b in zip(before.syllables, after.syllables)
+    return (
+        len(before.syllables) == len(after.syllables)
+        and _headers(before) == _headers(after)
+        and all(
+            before.text[a.notes : a.end] == after.text[b.notes : b.end]
+            and _sung(before, a) == _sung(after, b)
+            for a, b in zip(before.syllables, after.syllables)
+        )
     )
 
 
@@ -152,10 +173,15 @@ class _Draft:
     def changes(self, edits: Iterable[Edit]) -> Iterator[Change]:
         """Yields what these edits change in the score as it is written, with its own line ends."""
         for it in edits:
-            yield Change(self._offsets[it.offset], self._offsets[it.end], it.new.replace("\n", self._line_end))
+            yield Change(
+                self._offsets[it.offset],
+                self._offsets[it.end],
+                it.new.replace("\n", self._line_end),
+            )
 
     def with_edits(self, edits: Iterable[Edit]) -> bytes:
-        """Returns the score with these edits, of which none begins before the one before it ends."""
+        """Returns the score with these edits, of which none begins before the one before it
+        ends."""
         parts, at = [], 0
         for it in self.changes(edits):
             parts += [self._raw[at : it.begin], it.new]
@@ -167,14 +193,19 @@ class _Draft:
         edits = [edit for it in proposals for edit in it.edits]
         old, new = self.score, Compiled(self.with_edits(edits))
         if old.fault is not None:
-            is_later = new.fault is None or (new.fault.line, new.fault.column) > (old.fault.line, old.fault.column)
+            is_later = new.fault is None or (new.fault.line, new.fault.column) > (
+                old.fault.line,
+                old.fault.column,
+            )
             return is_later and all(not it.old or _LITTLE.fullmatch(it.old) for it in edits)
         if new.fault is not None:
             return False
         before = _messages_at(old, self._found)
         after = _messages_at(new, _found(new, self.with_rules), _Moved(edits).before)
         lines = old.comparison.lines
-        wanted = {(it.message.code, lines.offset(it.message.line, it.message.column)) for it in proposals}
+        wanted = {
+            (it.message.code, lines.offset(it.message.line, it.message.column)) for it in proposals
+        }
         if after - before or any(it in after for it in wanted):
             return False
         places = sorted([*(offset for _, offset in before - after), *(it.offset for it in edits)])
@@ -202,7 +233,8 @@ class _Judge:
 
 
 def is_text(data: bytes) -> bool:
-    """Returns whether all of a score is UTF-8, also what stands after a fatal fault: no other one can be repaired."""
+    """Returns whether all of a score is UTF-8, also what stands after a fatal fault: no other one
+    can be repaired."""
     try:
         data.decode("utf-8")
     except UnicodeDecodeError:
@@ -211,13 +243,19 @@ def is_text(data: bytes) -> bool:
 
 
 def with_edits(data: bytes, edits: Iterable[Edit]) -> bytes:
-    """Returns a score of UTF-8 with these edits, of which none begins before the one before it ends."""
+    """Returns a score of UTF-8 with these edits, of which none begins before the one before it
+    ends."""
     return _Draft(Compiled(data), (), False).with_edits(edits)
 
 
-def _proposals(subject: Subject, messages: Iterable[Message], is_wanted: Callable[[Repair], bool]) -> Iterator[list[Proposal]]:
+def _proposals(
+    subject: Subject, messages: Iterable[Message], is_wanted: Callable[[Repair], bool]
+) -> Iterator[list[Proposal]]:
     """Yields the proposals for each message, the likeliest first; no edits are proposed twice."""
-    wanted = {code: [it for it in REPAIRS.values() if code in it.codes and is_wanted(it)] for code in (*CODES, *RULES)}
+    wanted = {
+        code: [it for it in REPAIRS.values() if code in it.codes and is_wanted(it)]
+        for code in (*CODES, *RULES)
+    }
     known: set[Edits] = set()
     for message in messages:
         found = []
@@ -230,8 +268,11 @@ def _proposals(subject: Subject, messages: Iterable[Message], is_wanted: Callabl
             yield found
 
 
-def proposals_for(score: Compiled, messages: Iterable[Message], with_rules: bool, pause: Pause = go_on) -> Iterator[Proposal]:
-    """Yields each repair of these messages that may be made by itself, unsafe ones too. Messages of rules are looked at only `with_rules`."""
+def proposals_for(
+    score: Compiled, messages: Iterable[Message], with_rules: bool, pause: Pause = go_on
+) -> Iterator[Proposal]:
+    """Yields each repair of these messages that may be made by itself, unsafe ones too. Messages of
+    rules are looked at only `with_rules`."""
     if not is_text(score.data):
         return
     draft = _Draft(score, _found(score, with_rules), with_rules)
@@ -242,9 +283,13 @@ def proposals_for(score: Compiled, messages: Iterable[Message], with_rules: bool
                 yield it
 
 
-def repair_of_each(score: Compiled, found: Iterable[Message], messages: Iterable[Message], with_rules: bool) -> dict[Message, ProblemRepair]:
-    """Returns for each of these messages, of all that are `found`, the likeliest repair that may be made by itself; of a fatal fault alone, if there is
-    one. Messages for which no time is left have none, and a message that shares its repair with one before it."""
+def repair_of_each(
+    score: Compiled, found: Iterable[Message], messages: Iterable[Message], with_rules: bool
+) -> dict[Message, ProblemRepair]:
+    """Returns for each of these messages, of all that are `found`, the likeliest repair that may be
+    made by itself; of a fatal fault alone, if there is one. Messages for which no time is left have
+    none, and a message that shares its repair with one before it.
+    """
     if not is_text(score.data):
         return {}
     draft, judge = _Draft(score, found, with_rules), _Judge()
@@ -254,7 +299,12 @@ def repair_of_each(score: Compiled, found: Iterable[Message], messages: Iterable
     for them in _proposals(subject, told, lambda _: True):
         it = next((it for it in them if judge.takes(draft, [it])), None)
         if it is not None:
-            repairs[it.message] = ProblemRepair(it.repair.name, it.repair.is_safe, it.line(subject.text), tuple(draft.changes(it.edits)))
+            repairs[it.message] = ProblemRepair(
+                it.repair.name,
+                it.repair.is_safe,
+                it.line(subject.text),
+                tuple(draft.changes(it.edits)),
+            )
     return repairs
 
 
@@ -265,7 +315,8 @@ def has_safe_repair(subject: Subject, messages: Iterable[Message]) -> bool:
 
 @dataclass(frozen=True)
 class Guess:
-    """A guess that was made: its place in the score before it, the name of its repair, and what it changes."""
+    """A guess that was made: its place in the score before it, the name of its repair, and what it
+    changes."""
 
     line: int
     column: int
@@ -285,7 +336,8 @@ class Repaired:
 
 
 class _Repairing:
-    """Repairs one score. What touches nothing of each other is tried together, and halved if it is refused."""
+    """Repairs one score. What touches nothing of each other is tried together, and halved if it is
+    refused."""
 
     def __init__(self, how: How, pause: Pause) -> None:
         self._how, self._pause = how, pause
@@ -305,12 +357,21 @@ class _Repairing:
             made = self._taken(draft, batch)
             if made:
                 if not is_safe:
-                    self.guesses += [Guess(it.message.line, it.message.column, it.repair.name, it.line(subject.text)) for it in made]
+                    self.guesses += [
+                        Guess(
+                            it.message.line,
+                            it.message.column,
+                            it.repair.name,
+                            it.line(subject.text),
+                        )
+                        for it in made
+                    ]
                 return draft.with_edits(edit for it in made for edit in it.edits)
         return data
 
     def _taken(self, draft: _Draft, proposals: Sequence[Proposal]) -> list[Proposal]:
-        """Returns those of these repairs, of which none touches another, that can be made together."""
+        """Returns those of these repairs, of which none touches another, that can be made
+        together."""
         if self._is_taken(draft, proposals):
             return list(proposals)
         if len(proposals) < 2:
@@ -328,7 +389,8 @@ class _Repairing:
 
 
 def _apart(waiting: Iterable[list[Proposal]]) -> tuple[list[Proposal], list[list[Proposal]]]:
-    """Returns the likeliest proposal of as many messages as touch nothing of each other, and all that is left."""
+    """Returns the likeliest proposal of as many messages as touch nothing of each other, and all
+    that is left."""
     batch: list[Proposal] = []
     left: list[list[Proposal]] = []
     end = -1
@@ -344,8 +406,9 @@ def _apart(waiting: Iterable[list[Proposal]]) -> tuple[list[Proposal], list[list
 
 
 def repair(data: bytes, how: How, pause: Pause = go_on) -> Repaired:
-    """Returns the score with all repairs that can be made of messages that are reported: the safe ones first. A score that a fatal fault still stops
-    afterwards stays as it is. There is a pause before each try."""
+    """Returns the score with all repairs that can be made of messages that are reported: the safe
+    ones first. A score that a fatal fault still stops afterwards stays as it is. There is a pause
+    before each try."""
     if not is_text(data):
         return Repaired(data)
     repairing = _Repairing(how, pause)

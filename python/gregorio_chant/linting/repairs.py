@@ -1,6 +1,8 @@
-"""The repairs of a score: each a small function that finds what to write for a message. `repairing` judges and makes them.
+"""The repairs of a score: each a small function that finds what to write for a message. `repairing`
+judges and makes them.
 
-A safe repair changes no header, note, other sign or sung letter. All others guess: `changes` says what they change, and an editor is shown both readings.
+A safe repair changes no header, note, other sign or sung letter. All others guess: `changes` says
+what they change, and an editor is shown both readings.
 """
 from __future__ import annotations
 
@@ -10,11 +12,22 @@ from collections.abc import Callable
 from dataclasses import dataclass
 
 from gregorio_chant.format.layout import after_lead
-from gregorio_chant.text.nearest import nearest
 from gregorio_chant.linting.slips import (
-    APOSTROPHES, ENTITY, MODES, NOTES, Subject, bars_for, clef_for, closing_bracket, meant_header, open_styles, opening_bracket, struck_for_mark,
+    APOSTROPHES,
+    ENTITY,
+    MODES,
+    NOTES,
+    Subject,
+    bars_for,
+    clef_for,
+    closing_bracket,
+    meant_header,
+    open_styles,
+    opening_bracket,
+    struck_for_mark,
     unread_score_line,
 )
+from gregorio_chant.text.nearest import nearest
 from gregorio_chant.text.vocabulary import HEADERS, HTML_TAGS, TAGS
 
 _SCORE = "name: Kyrie;\n%%\n(c4) "
@@ -82,7 +95,11 @@ class Repair:
 def _escape(subject: Subject, at: int) -> Edits:
     """Writes `$` before a `>`, but not before one that may end a tag whose `<` is lost, or stand in
     notes whose `(` is lost. A `)` and a `]` are never made text: their `(` or `[` is lost."""
-    if not subject.text.startswith(">", at) or _may_end_tag(subject, at) or _may_be_note(subject, at):
+    if (
+        not subject.text.startswith(">", at)
+        or _may_end_tag(subject, at)
+        or _may_be_note(subject, at)
+    ):
         return ()
     return (Edit(at, "", "$"),)
 
@@ -94,7 +111,8 @@ def _may_be_note(subject: Subject, at: int) -> bool:
 
 
 def _may_end_tag(subject: Subject, at: int) -> bool:
-    """Returns whether the name of a tag stands before this `>`, and its end or its begin in the same text."""
+    """Returns whether the name of a tag stands before this `>`, and its end or its begin in the
+    same text."""
     name = _NAME_AT_END.search(subject.text, max(0, at - 10), at)
     if name is None or name[1]:
         return name is not None
@@ -140,7 +158,8 @@ def _close_tag(subject: Subject, at: int) -> Edits:
 
 
 def _html_tag(subject: Subject, at: int) -> Edits:
-    """Removes a tag of HTML, or writes the one of GABC that is like it. Removes the end of a raw part that none begins."""
+    """Removes a tag of HTML, or writes the one of GABC that is like it. Removes the end of a raw
+    part that none begins."""
     found = _TAG.match(subject.text, at)
     if found is None or found[0] not in _RAW_ENDS and found[2].lower() not in HTML_TAGS:
         return ()
@@ -183,12 +202,20 @@ def _close_at_end(subject: Subject, at: int) -> Edits:
 
 def _notes_in_brackets(subject: Subject, at: int) -> Edits:
     end = subject.text.find("]", at)
-    return (Edit(at, "[", "("), Edit(end, "]", ")")) if subject.text.startswith("[", at) and end > at else ()
+    return (
+        (Edit(at, "[", "("), Edit(end, "]", ")"))
+        if subject.text.startswith("[", at) and end > at
+        else ()
+    )
 
 
 def _clef(subject: Subject, at: int) -> Edits:
     found = clef_for(subject, at)
-    return (Edit(found.begin, found.spelling, found.meant),) if found is not None and found.meant else ()
+    return (
+        (Edit(found.begin, found.spelling, found.meant),)
+        if found is not None and found.meant
+        else ()
+    )
 
 
 def _bars(subject: Subject, at: int) -> Edits:
@@ -204,16 +231,27 @@ def _apostrophe(subject: Subject, at: int) -> Edits:
 def _sign_before_attribute(subject: Subject, at: int) -> Edits:
     found = _ATTRIBUTES.search(subject.text, max(0, at - 200), at)
     it = subject.text[at : at + 1]
-    return () if found is None or not it else (Edit(at - len(found[0]), found[0] + it, it + found[0]),)
+    return (
+        () if found is None or not it else (Edit(at - len(found[0]), found[0] + it, it + found[0]),)
+    )
 
 
 def _nabc_header(subject: Subject, at: int) -> Edits:
-    """Writes the header, if at least a third of the syllables with notes hold a `|`: a single one is a slip of the key."""
-    if subject.text[at : at + 1] != "|" or bars_for(subject, at) or any(it.name == "nabc-lines" for it in subject.scan.headers):
+    """Writes the header, if at least a third of the syllables with notes hold a `|`: a single one
+    is a slip of the key."""
+    if (
+        subject.text[at : at + 1] != "|"
+        or bars_for(subject, at)
+        or any(it.name == "nabc-lines" for it in subject.scan.headers)
+    ):
         return ()
     notes = [subject.text[it.notes : it.end] for it in subject.scan.syllables]
     with_notes = sum(_HAS_NOTE.search(it) is not None for it in notes)
-    return (Edit(subject.scan.score, "", "nabc-lines: 1;\n"),) if 3 * sum("|" in it for it in notes) >= with_notes else ()
+    return (
+        (Edit(subject.scan.score, "", "nabc-lines: 1;\n"),)
+        if 3 * sum("|" in it for it in notes) >= with_notes
+        else ()
+    )
 
 
 def _leave_out_of_nabc(subject: Subject, at: int) -> Edits:
@@ -225,7 +263,8 @@ def _leave_out_of_nabc(subject: Subject, at: int) -> Edits:
 
 
 def _end_header(subject: Subject, at: int) -> Edits:
-    """Writes the `;` of a value: not at the end of a line that holds notes, and in place of a `,` or a `:` at its end."""
+    """Writes the `;` of a value: not at the end of a line that holds notes, and in place of a `,`
+    or a `:` at its end."""
     line = subject.text[at:].partition("\n")[0].partition("%")[0].rstrip(" \t")
     if ":" not in line or NOTES.search(line) or unread_score_line(subject) is not None:
         return ()
@@ -235,7 +274,9 @@ def _end_header(subject: Subject, at: int) -> Edits:
 
 def _score_line(subject: Subject, at: int) -> Edits:
     found = unread_score_line(subject)
-    return () if found is None else (Edit(found.begin, subject.text[found.begin : found.end - 2], ""),)
+    return (
+        () if found is None else (Edit(found.begin, subject.text[found.begin : found.end - 2], ""),)
+    )
 
 
 def _header_colon(subject: Subject, at: int) -> Edits:
@@ -267,85 +308,225 @@ _NABC = "name: Kyrie;\nnabc-lines: 1;\n%%\n(c4) "
 REPAIRS: dict[str, Repair] = {
     it.name: it
     for it in (
-        Repair("escape", _codes("E2"), "Write $ before a > that is part of the text.", "", _escape, "Ky>(f)ri(g)", "Ky$>(f)ri(g)"),
         Repair(
-            "style-in-each-syllable", _codes("W3"), "Close a style over several syllables in each of them, and open it again in the next.", "",
-            _style_in_each_syllable, "<i>Ky(f)ri(g)e</i>(h)", "<i>Ky</i>(f)<i>ri</i>(g)<i>e</i>(h)",
+            "escape",
+            _codes("E2"),
+            "Write $ before a > that is part of the text.",
+            "",
+            _escape,
+            "Ky>(f)ri(g)",
+            "Ky$>(f)ri(g)",
         ),
         Repair(
-            "open-notes", _codes("E2"), "Write the missing ( before notes.", _TEXT_TO_NOTES,
-            _open_notes, "Ky(f)rigfg)e(h)", "Ky(f)ri(gfg)e(h)",
+            "style-in-each-syllable",
+            _codes("W3"),
+            "Close a style over several syllables in each of them, and open it again in the next.",
+            "",
+            _style_in_each_syllable,
+            "<i>Ky(f)ri(g)e</i>(h)",
+            "<i>Ky</i>(f)<i>ri</i>(g)<i>e</i>(h)",
         ),
         Repair(
-            "remove-opener", _codes("E1", "E3"), "Remove one of two (.", "no note changes",
-            _remove_opener, "Ky((f)ri(g)", "Ky(f)ri(g)",
+            "open-notes",
+            _codes("E2"),
+            "Write the missing ( before notes.",
+            _TEXT_TO_NOTES,
+            _open_notes,
+            "Ky(f)rigfg)e(h)",
+            "Ky(f)ri(gfg)e(h)",
         ),
         Repair(
-            "close-notes", _codes("E1", "E3"), "Write the missing ) after notes.", _NOTES_TO_TEXT,
-            _close_notes, "Ky(f ri(gfg)", "Ky(f) ri(gfg)",
+            "remove-opener",
+            _codes("E1", "E3"),
+            "Remove one of two (.",
+            "no note changes",
+            _remove_opener,
+            "Ky((f)ri(g)",
+            "Ky(f)ri(g)",
         ),
         Repair(
-            "close-at-end", _codes("F6"), "Write the missing ) at the end.", "the last notes are read",
-            _close_at_end, "Ky(f)ri(gfg", "Ky(f)ri(gfg)",
+            "close-notes",
+            _codes("E1", "E3"),
+            "Write the missing ) after notes.",
+            _NOTES_TO_TEXT,
+            _close_notes,
+            "Ky(f ri(gfg)",
+            "Ky(f) ri(gfg)",
         ),
         Repair(
-            "notes-in-brackets", _codes("notes-in-translation"), "Write ( and ) in place of [ and ].", "a translation becomes notes",
-            _notes_in_brackets, "Ky[fg]ri(h)", "Ky(fg)ri(h)",
+            "close-at-end",
+            _codes("F6"),
+            "Write the missing ) at the end.",
+            "the last notes are read",
+            _close_at_end,
+            "Ky(f)ri(gfg",
+            "Ky(f)ri(gfg)",
         ),
         Repair(
-            "clef", _codes("E1", "W12", "lone-capital"), "Write a clef as c or f and its line.", "notes become a clef",
-            _clef, "(4c) Ky(f)", "(c4) Ky(f)", "name: Kyrie;\n%%\n",
-        ),
-        Repair("double-bar", _codes("E1"), "Write a double bar as ::.", "a bar is added", _bars, "Ky(f) (||)", "Ky(f) (::)"),
-        Repair("apostrophe", _codes("E1"), "Write the typewriter's apostrophe.", "a note gets an ictus", _apostrophe, "Ky(f’)ri(g)", "Ky(f')ri(g)"),
-        Repair(
-            "sign-before-attribute", _codes("E1"), "Move a letter or sign of a note before the attribute.", "a sign is added",
-            _sign_before_attribute, "Ky(f[ll:1]v)", "Ky(fv[ll:1])",
-        ),
-        Repair(
-            "nabc-header", _codes("E1", "nabc-without-header"), "Write the missing header nabc-lines, since the notes have a |.",
-            "the text after each | becomes neumes", _nabc_header, "%%\n(c4) Ky(f|pu)", "nabc-lines: 1;\n%%\n(c4) Ky(f|pu)", _BEGUN,
+            "notes-in-brackets",
+            _codes("notes-in-translation"),
+            "Write ( and ) in place of [ and ].",
+            "a translation becomes notes",
+            _notes_in_brackets,
+            "Ky[fg]ri(h)",
+            "Ky(fg)ri(h)",
         ),
         Repair(
-            "leave-out-of-nabc", _codes("E3"), "Remove a number or letter that NABC does not take.", "no neume changes",
-            _leave_out_of_nabc, "Ky(f|un1)", "Ky(f|un)", _NABC,
-        ),
-        Repair("close-tag", _codes("W6"), "Write the missing > after the name of a tag.", _TEXT_TO_NOTES, _close_tag, "<iKy</i>(f)", "<i>Ky</i>(f)"),
-        Repair(
-            "escape-less", _codes("W6"), "Write $ before a < that takes notes for its tag.", _TEXT_TO_NOTES,
-            _escape_less, "Ky<(f)ri(g>)", "Ky$<(f)ri(g>)",
-        ),
-        Repair(
-            "html-tag", _codes("W6"), "Remove a tag of HTML, or the end of a tag that is not open; or write the tag of GABC for it.", "a tag goes",
-            _html_tag, "Ky<br>(f)", "Ky(f)",
+            "clef",
+            _codes("E1", "W12", "lone-capital"),
+            "Write a clef as c or f and its line.",
+            "notes become a clef",
+            _clef,
+            "(4c) Ky(f)",
+            "(c4) Ky(f)",
+            "name: Kyrie;\n%%\n",
         ),
         Repair(
-            "barred-letter", _codes("unknown-special"), "Write A/, R/ or V/ between <sp> and </sp> for the barred letter.", "a sign is added",
-            _special, "<sp>Rx</sp>(::)", "<sp>R/</sp>(::)",
+            "double-bar",
+            _codes("E1"),
+            "Write a double bar as ::.",
+            "a bar is added",
+            _bars,
+            "Ky(f) (||)",
+            "Ky(f) (::)",
         ),
         Repair(
-            "html-entity", _codes("html-entity"), "Write the character itself in place of its name in HTML.", "letters change",
-            _character, "D&oacute;(f)", "D\u00f3(f)",
+            "apostrophe",
+            _codes("E1"),
+            "Write the typewriter's apostrophe.",
+            "a note gets an ictus",
+            _apostrophe,
+            "Ky(f’)ri(g)",
+            "Ky(f')ri(g)",
         ),
         Repair(
-            "score-line", _codes("F2", "F3"), "Remove the blanks before %%.", "the lines below become the score",
-            _score_line, " %%", "%%", _BEGUN, "\n(c4) Ky(f)\n",
+            "sign-before-attribute",
+            _codes("E1"),
+            "Move a letter or sign of a note before the attribute.",
+            "a sign is added",
+            _sign_before_attribute,
+            "Ky(f[ll:1]v)",
+            "Ky(fv[ll:1])",
         ),
         Repair(
-            "end-header", _codes("F3"), "Write the missing ; after the value of a header.", "the lines below are read", _end_header, "mode: 1", "mode: 1;",
-            _BEGUN, _BODY,
+            "nabc-header",
+            _codes("E1", "nabc-without-header"),
+            "Write the missing header nabc-lines, since the notes have a |.",
+            "the text after each | becomes neumes",
+            _nabc_header,
+            "%%\n(c4) Ky(f|pu)",
+            "nabc-lines: 1;\n%%\n(c4) Ky(f|pu)",
+            _BEGUN,
         ),
         Repair(
-            "header-colon", _codes("E4"), "Write name: value; for a header without its colon.", "a header is added",
-            _header_colon, "mode - 1;", "mode: 1;", _BEGUN, _BODY,
+            "leave-out-of-nabc",
+            _codes("E3"),
+            "Remove a number or letter that NABC does not take.",
+            "no neume changes",
+            _leave_out_of_nabc,
+            "Ky(f|un1)",
+            "Ky(f|un)",
+            _NABC,
         ),
         Repair(
-            "header-name", _codes("misspelled-header"), "Write the name of a header as GregorioTeX does.", "a header gets another name",
-            _header_name, "moed: 1;", "mode: 1;", _BEGUN, _BODY,
+            "close-tag",
+            _codes("W6"),
+            "Write the missing > after the name of a tag.",
+            _TEXT_TO_NOTES,
+            _close_tag,
+            "<iKy</i>(f)",
+            "<i>Ky</i>(f)",
         ),
         Repair(
-            "mode-number", _codes("mode-without-number"), "Write the mode as a number.", "the mode becomes a number",
-            _mode, "mode: VII;", "mode: 7;", _BEGUN, _BODY,
+            "escape-less",
+            _codes("W6"),
+            "Write $ before a < that takes notes for its tag.",
+            _TEXT_TO_NOTES,
+            _escape_less,
+            "Ky<(f)ri(g>)",
+            "Ky$<(f)ri(g>)",
+        ),
+        Repair(
+            "html-tag",
+            _codes("W6"),
+            "Remove a tag of HTML, or the end of a tag that is not open; or write the tag of GABC for it.",
+            "a tag goes",
+            _html_tag,
+            "Ky<br>(f)",
+            "Ky(f)",
+        ),
+        Repair(
+            "barred-letter",
+            _codes("unknown-special"),
+            "Write A/, R/ or V/ between <sp> and </sp> for the barred letter.",
+            "a sign is added",
+            _special,
+            "<sp>Rx</sp>(::)",
+            "<sp>R/</sp>(::)",
+        ),
+        Repair(
+            "html-entity",
+            _codes("html-entity"),
+            "Write the character itself in place of its name in HTML.",
+            "letters change",
+            _character,
+            "D&oacute;(f)",
+            "D\u00f3(f)",
+        ),
+        Repair(
+            "score-line",
+            _codes("F2", "F3"),
+            "Remove the blanks before %%.",
+            "the lines below become the score",
+            _score_line,
+            " %%",
+            "%%",
+            _BEGUN,
+            "\n(c4) Ky(f)\n",
+        ),
+        Repair(
+            "end-header",
+            _codes("F3"),
+            "Write the missing ; after the value of a header.",
+            "the lines below are read",
+            _end_header,
+            "mode: 1",
+            "mode: 1;",
+            _BEGUN,
+            _BODY,
+        ),
+        Repair(
+            "header-colon",
+            _codes("E4"),
+            "Write name: value; for a header without its colon.",
+            "a header is added",
+            _header_colon,
+            "mode - 1;",
+            "mode: 1;",
+            _BEGUN,
+            _BODY,
+        ),
+        Repair(
+            "header-name",
+            _codes("misspelled-header"),
+            "Write the name of a header as GregorioTeX does.",
+            "a header gets another name",
+            _header_name,
+            "moed: 1;",
+            "mode: 1;",
+            _BEGUN,
+            _BODY,
+        ),
+        Repair(
+            "mode-number",
+            _codes("mode-without-number"),
+            "Write the mode as a number.",
+            "the mode becomes a number",
+            _mode,
+            "mode: VII;",
+            "mode: 7;",
+            _BEGUN,
+            _BODY,
         ),
     )
 }

@@ -4,9 +4,9 @@ from __future__ import annotations
 from collections.abc import Callable, Iterator
 from dataclasses import dataclass
 
-from gregorio_chant.objects.dump import Item, Score
-from gregorio_chant.format.losses import Comparison
 from gregorio_chant._native.results import Kind, Message
+from gregorio_chant.format.losses import Comparison
+from gregorio_chant.objects.dump import Item, Score
 
 _SCORE = "name: Kyrie;\n%%\n(c4) "
 
@@ -34,7 +34,8 @@ class Subject:
 
 @dataclass(frozen=True)
 class Rule:
-    """A rule. `wrong` is a line that breaks it, and `right` one that does not, where `before` stands before and `after` after it."""
+    """A rule. `wrong` is a line that breaks it, and `right` one that does not, where `before`
+    stands before and `after` after it."""
 
     name: str
     meaning: str

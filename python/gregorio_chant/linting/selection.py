@@ -4,8 +4,8 @@ from __future__ import annotations
 from collections.abc import Collection, Iterable
 from dataclasses import dataclass
 
-from gregorio_chant.text.nearest import did_you_mean
 from gregorio_chant._native.results import Kind, Message, Status
+from gregorio_chant.text.nearest import did_you_mean
 
 KINDS = ("E", "W", "F")
 RULES = "rules"
@@ -19,7 +19,8 @@ class UnknownCode(ValueError):
 
 
 def codes_in(words: str, known: Collection[str]) -> frozenset[str]:
-    """Returns the codes in `words`, which stand between commas: one of those `known`, or E, W, F or rules for all of a kind. Raises `UnknownCode`."""
+    """Returns the codes in `words`, which stand between commas: one of those `known`, or E, W, F or
+    rules for all of a kind. Raises `UnknownCode`."""
     found = frozenset(it.strip() for it in words.split(",") if it.strip())
     for word in sorted(found):
         if word not in known and word not in KINDS and word != RULES:
@@ -39,8 +40,8 @@ def names(codes: frozenset[str], code: str) -> bool:
 
 @dataclass(frozen=True)
 class Selection:
-    """What of the messages is told. A fatal fault always is, since after it nothing was read. What only the canonical form loses is told if `is_canonical`,
-    or if it is selected by its name."""
+    """What of the messages is told. A fatal fault always is, since after it nothing was read. What
+    only the canonical form loses is told if `is_canonical`, or if it is selected by its name."""
 
     select: frozenset[str] | None = None
     ignore: frozenset[str] = frozenset()
@@ -57,7 +58,8 @@ class Selection:
         return (self.select is None or names(self.select, code)) and not names(self.ignore, code)
 
     def status_of(self, messages: Iterable[Message]) -> Status:
-        """Returns the status that messages make which are told: 2 for a fatal fault, 1 for an error or a code to fail on."""
+        """Returns the status that messages make which are told: 2 for a fatal fault, 1 for an error
+        or a code to fail on."""
         status = Status.WHOLE
         for it in messages:
             if it.kind is Kind.FATAL:

@@ -7,9 +7,9 @@ from collections.abc import Iterable
 from dataclasses import dataclass
 from functools import cached_property
 
+from gregorio_chant._native.results import Message
 from gregorio_chant.linting.guesses import Bracket, lost_closer, lost_opener
 from gregorio_chant.text.nearest import nearest
-from gregorio_chant._native.results import Message
 from gregorio_chant.text.scan import HeaderSpan, Scan, Span, SyllableSpan, scan
 from gregorio_chant.text.source import Lines
 from gregorio_chant.text.vocabulary import HEADERS
@@ -19,14 +19,19 @@ STYLES = ("b", "c", "e", "i", "sc", "tt", "ul")
 # What is typed, or put by a program of texts, for the apostrophe of an ictus.
 APOSTROPHES = ("’", "‘", "ʼ", "´")
 ENTITY = re.compile(r"&(?:#[0-9]+|#x[0-9A-Fa-f]+|[A-Za-z][A-Za-z0-9]*);")
-MODES = {it: str(number) for number, it in enumerate(("I", "II", "III", "IV", "V", "VI", "VII", "VIII"), 1)}
+MODES = {
+    it: str(number)
+    for number, it in enumerate(("I", "II", "III", "IV", "V", "VI", "VII", "VIII"), 1)
+}
 # Notes in a line that is read as a header.
 NOTES = re.compile(r"\([^()\n]*\)")
 # How many characters on each side of a slip a reading shows.
 _AROUND = 16
 _SHORT_LINE = 40
 _STYLE_TAG = re.compile(r"\$.|<(/?)(b|c|e|i|sc|tt|ul)>", re.DOTALL)
-_CLEF = re.compile(r"(?P<turned>[1-5])(?P<kind>[cfCF]b?)|(?P<letter>[cfCF]b?)[lI]?(?P<line>[1-5])|[A-Za-z]b?[lI]?[0-9]")
+_CLEF = re.compile(
+    r"(?P<turned>[1-5])(?P<kind>[cfCF]b?)|(?P<letter>[cfCF]b?)[lI]?(?P<line>[1-5])|[A-Za-z]b?[lI]?[0-9]"
+)
 _BARS = re.compile(r"[ \t]*\|(?:[ \t]*\|)*[ \t]*")
 _UNREAD_SCORE_LINE = re.compile(r"^[ \t]+%%", re.MULTILINE)
 _WITHOUT_COLON = re.compile(r"([\w-]+)(?:[ \t]*[-=.,;\u2013][ \t]*|[ \t]+)(\S[^;]*?)[;,. \t]*")
@@ -65,14 +70,16 @@ class Subject:
         return self.scan.headers[number] if number >= 0 else None
 
     def unclosed(self, offset: int) -> int | None:
-        """Returns where the `(` stands that probably lacks its `)`, if `offset` lies in notes that hold another `(` after it."""
+        """Returns where the `(` stands that probably lacks its `)`, if `offset` lies in notes that
+        hold another `(` after it."""
         it = self.syllable_at(offset)
         if it is None or offset <= it.notes:
             return None
         return it.notes if self.inner(it) is not None else None
 
     def inner(self, syllable: SyllableSpan) -> int | None:
-        """Returns where the first `(` stands that was left out of the notes of a syllable; one in an attribute is none."""
+        """Returns where the first `(` stands that was left out of the notes of a syllable; one in
+        an attribute is none."""
         at = self.text.find("(", syllable.notes + 1, syllable.end)
         while at >= 0 and at not in self.left_out:
             at = self.text.find("(", at + 1, syllable.end)
@@ -112,10 +119,15 @@ def opening_bracket(subject: Subject, at: int) -> Bracket | None:
 
 
 def closing_bracket(subject: Subject, at: int) -> Bracket | None:
-    """Returns where the `)` probably is missing of the notes that hold this offset and another `(`."""
+    """Returns where the `)` probably is missing of the notes that hold this offset and another
+    `(`."""
     it = subject.syllable_at(at)
     inner = subject.inner(it) if it is not None and at > it.notes else None
-    return None if it is None or inner is None or inner == it.notes + 1 else lost_closer(subject.text, it.notes, inner)
+    return (
+        None
+        if it is None or inner is None or inner == it.notes + 1
+        else lost_closer(subject.text, it.notes, inner)
+    )
 
 
 # ---- notes
@@ -123,7 +135,8 @@ def closing_bracket(subject: Subject, at: int) -> Bracket | None:
 
 @dataclass(frozen=True)
 class Meant:
-    """A part of a score that begins at the offset `begin`, and what was meant by it; nothing if that is not known."""
+    """A part of a score that begins at the offset `begin`, and what was meant by it; nothing if
+    that is not known."""
 
     begin: int
     spelling: str
@@ -131,8 +144,8 @@ class Meant:
 
 
 def clef_for(subject: Subject, at: int) -> Meant | None:
-    """Returns the notes at this offset if they look like a clef that is written wrongly: they have no
-    text, and are a letter and a digit."""
+    """Returns the notes at this offset if they look like a clef that is written wrongly: they have
+    no text, and are a letter and a digit."""
     it = subject.syllable_at(at)
     if it is None or at < it.notes or any(c.isalpha() for c in subject.text[it.begin : it.notes]):
         return None
@@ -147,12 +160,17 @@ def clef_for(subject: Subject, at: int) -> Meant | None:
 
 
 def bars_for(subject: Subject, at: int) -> Meant | None:
-    """Returns the notes at this offset if they are two `|` and nothing else: a double bar is meant."""
+    """Returns the notes at this offset if they are two `|` and nothing else: a double bar is
+    meant."""
     it = subject.syllable_at(at)
     if it is None or at <= it.notes:
         return None
     notes = subject.text[it.notes + 1 : it.end].removesuffix(")")
-    return Meant(it.notes + 1, notes, "::") if notes.count("|") == 2 and _BARS.fullmatch(notes) else None
+    return (
+        Meant(it.notes + 1, notes, "::")
+        if notes.count("|") == 2 and _BARS.fullmatch(notes)
+        else None
+    )
 
 
 # ---- headers
@@ -165,13 +183,15 @@ def unread_score_line(subject: Subject) -> Span | None:
 
 
 def struck_for_mark(line: str) -> str:
-    """Returns the `,` or `:` that ends the value of a header in place of its `;`; nothing if none does."""
+    """Returns the `,` or `:` that ends the value of a header in place of its `;`; nothing if none
+    does."""
     value = line.partition(":")[2].strip(" \t")
     return value[-1] if value.endswith((",", ":")) else ""
 
 
 def meant_header(line: str) -> str | None:
-    """Returns the header that a line without a colon was meant to be, if its first word is nearly the name of one."""
+    """Returns the header that a line without a colon was meant to be, if its first word is nearly
+    the name of one."""
     found = _WITHOUT_COLON.fullmatch(line)
     if found is None:
         return None
@@ -183,7 +203,8 @@ def meant_header(line: str) -> str | None:
 
 
 def open_styles(text: str) -> list[str]:
-    """Returns the styles that are open at the end of the text of a syllable, the first one first."""
+    """Returns the styles that are open at the end of the text of a syllable, the first one
+    first."""
     found: list[str] = []
     for tag in _STYLE_TAG.finditer(text):
         if tag[2] is None:

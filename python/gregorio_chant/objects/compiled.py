@@ -5,22 +5,24 @@ from collections.abc import Iterator
 from functools import cached_property
 
 from gregorio_chant._native import library
-from gregorio_chant.format.losses import Comparison
 from gregorio_chant._native.results import Format, Message, Status
 from gregorio_chant._native.runs import Run
-
+from gregorio_chant.format.losses import Comparison
 
 # The size of a piece that is compiled to a dump at once, in bytes.
 _PIECE = 1 << 17
 
 
 def dump_in_pieces(data: bytes) -> Iterator[str]:
-    """Yields the dump of a score, of a large one piece by piece: no more of it is held than a piece brings."""
+    """Yields the dump of a score, of a large one piece by piece: no more of it is held than a piece
+    brings."""
     if len(data) <= _PIECE:
         yield library.compile(data, Format.DUMP).output
         return
     whole = memoryview(data)
-    for step in Run(Format.DUMP).steps(whole[at : at + _PIECE] for at in range(0, len(data), _PIECE)):
+    for step in Run(Format.DUMP).steps(
+        whole[at : at + _PIECE] for at in range(0, len(data), _PIECE)
+    ):
         yield step.output
 
 

@@ -16,28 +16,87 @@ import re
 from collections.abc import Callable, Iterator
 from dataclasses import dataclass, field
 
+from gregorio_chant._native.library import compile
+from gregorio_chant._native.memory import bytes_of
+from gregorio_chant._native.results import Format, Message, Result
+from gregorio_chant._native.runs import Limits, Run
 from gregorio_chant.objects.edits import Edited, EditError
 from gregorio_chant.objects.heights import Interval, Range, interval, intervals, range_of
 from gregorio_chant.objects.items import (
-    PITCHES, Alteration, Attribute, Bar, Break, Clef, Custos, Descriptor, Element, Fusion, Glyph, Header, Item, NabcGlyph, NabcLetters, NabcPart,
-    NabcPoints, NabcSnippet, Note, NoteSnippet, Snippet, Space, Syllable, header_spelling, plain_text,
+    PITCHES,
+    Alteration,
+    Attribute,
+    Bar,
+    Break,
+    Clef,
+    Custos,
+    Descriptor,
+    Element,
+    Fusion,
+    Glyph,
+    Header,
+    Item,
+    NabcGlyph,
+    NabcLetters,
+    NabcPart,
+    NabcPoints,
+    NabcSnippet,
+    Note,
+    NoteSnippet,
+    Snippet,
+    Space,
+    Syllable,
+    header_spelling,
+    plain_text,
 )
-from gregorio_chant._native.library import compile
-from gregorio_chant._native.memory import bytes_of
 from gregorio_chant.objects.passages import FINALIS, Phrase, Word, phrases_of, words_of
-from gregorio_chant._native.results import Format, Message, Result
-from gregorio_chant._native.runs import Limits, Run
-from gregorio_chant.text.source import Place, Source
 from gregorio_chant.objects.sources import FileSources, LeftOut
+from gregorio_chant.text.source import Place, Source
 
 __all__ = [
-    "Alteration", "Attribute", "Bar", "Break", "Clef", "Custos", "Descriptor", "DumpError", "EditError", "Edited", "Element", "Fusion", "Glyph", "Header", "Interval", "Item",
-    "LeftOut", "Limits", "NabcGlyph", "NabcLetters", "NabcPart", "NabcPoints", "NabcSnippet", "Note", "NoteSnippet", "Phrase", "Place", "Range",
-    "Score", "ScoreError", "Snippet", "Source", "Space", "Syllable", "Word", "interval", "intervals", "plain_text",
+    "Alteration",
+    "Attribute",
+    "Bar",
+    "Break",
+    "Clef",
+    "Custos",
+    "Descriptor",
+    "DumpError",
+    "EditError",
+    "Edited",
+    "Element",
+    "Fusion",
+    "Glyph",
+    "Header",
+    "Interval",
+    "Item",
+    "LeftOut",
+    "Limits",
+    "NabcGlyph",
+    "NabcLetters",
+    "NabcPart",
+    "NabcPoints",
+    "NabcSnippet",
+    "Note",
+    "NoteSnippet",
+    "Phrase",
+    "Place",
+    "Range",
+    "Score",
+    "ScoreError",
+    "Snippet",
+    "Source",
+    "Space",
+    "Syllable",
+    "Word",
+    "interval",
+    "intervals",
+    "plain_text",
 ]
 
 _VERSION = "2"
-# How many characters of a dump are cut into lines at a time, at least: all lines of a large one would take many times its room.
+# How many characters of a dump are cut into lines at a time, at least: all lines of a large one
+# would take many times its room.
 _AT_ONCE = 1 << 16
 _PITCHES = frozenset(PITCHES)
 _DEGREES = frozenset(("ut", "re", "mi", "fa", "sol", "la", "si", "-"))
@@ -61,7 +120,8 @@ class DumpError(ValueError):
 
 
 class ScoreError(ValueError):
-    """The headers of a score are not whole, so nothing of it was written. `message` is the fault."""
+    """The headers of a score are not whole, so nothing of it was written. `message` is the
+    fault."""
 
     def __init__(self, message: Message) -> None:
         super().__init__(f"{message.line}:{message.column}: {message.code}: {message.text}")
@@ -120,8 +180,8 @@ class Score:
         return self.notes[-1] if self.notes else None
 
     def edited(self) -> Edited:
-        """Returns an empty collection of changes of this score. Raises `EditError` if the score has a
-        fatal fault."""
+        """Returns an empty collection of changes of this score. Raises `EditError` if the score has
+        a fatal fault."""
         return Edited(self)
 
     def source_offset(self, written: int) -> int:
@@ -136,11 +196,14 @@ class Score:
 
     @classmethod
     def read(cls, dump: str, pause: Pause = go_on) -> Score:
-        """Reads a dump, with a pause before each syllable. Raises `DumpError` where it is none, or of another version."""
+        """Reads a dump, with a pause before each syllable. Raises `DumpError` where it is none, or
+        of another version."""
         return _Reader(dump).score(pause)
 
     @classmethod
-    def parse(cls, score: str | bytes | bytearray | memoryview, limits: Limits | None = None) -> Score:
+    def parse(
+        cls, score: str | bytes | bytearray | memoryview, limits: Limits | None = None
+    ) -> Score:
         """Reads a score, under the default limits if none are given, and compares the canonical
         text of its dump with the compiler's. Raises `ScoreError` if its headers are not whole,
         and `ValueError` for limits out of range."""
@@ -156,7 +219,8 @@ class Score:
 
 
 def read_in_turn(dump: str) -> tuple[tuple[Header, ...], Iterator[Syllable]]:
-    """Reads the headers of a dump, and returns them with its syllables, of which each is read when its turn comes. Raises `DumpError` as `Score.read` does."""
+    """Reads the headers of a dump, and returns them with its syllables, of which each is read when
+    its turn comes. Raises `DumpError` as `Score.read` does."""
     reader = _Reader(dump)
     return reader.headers(), reader.syllables()
 
@@ -167,7 +231,12 @@ def _compiled(data: bytes, format: Format, limits: Limits | None) -> Result:
     steps = list(Run(format, limits=limits).steps([data]))
     status = steps[-1].status
     assert status is not None
-    return Result("".join(it.output for it in steps), status, "".join(it.messages_text for it in steps), format)
+    return Result(
+        "".join(it.output for it in steps),
+        status,
+        "".join(it.messages_text for it in steps),
+        format,
+    )
 
 
 def unescaped(text: str) -> str:
@@ -209,10 +278,13 @@ class _Pen:
 class _Reader:
     """Reads the lines of a dump in order, and writes the canonical text beside it."""
 
-    def __init__(self, dump: str, sources: FileSources | None = None, messages: tuple[Message, ...] = ()) -> None:
+    def __init__(
+        self, dump: str, sources: FileSources | None = None, messages: tuple[Message, ...] = ()
+    ) -> None:
         self.sources, self._messages = sources, messages
         self._dump = dump
-        # The lines that are cut, the one that comes, how many stand before them, and where in the dump those after them begin.
+        # The lines that are cut, the one that comes, how many stand before them, and where in the
+        # dump those after them begin.
         self._lines: list[str] = []
         self._first_words: list[str] = []
         self._at, self._before, self._after = 0, 0, 0
@@ -260,9 +332,13 @@ class _Reader:
     def headers(self) -> tuple[Header, ...]:
         """Takes the first line, and the headers."""
         if self.word() != "dump" or not self._dump.endswith("\n"):
-            raise self.fail(f"this is no dump: the first line is not 'dump {_VERSION}', or the last line is not whole")
+            raise self.fail(
+                f"this is no dump: the first line is not 'dump {_VERSION}', or the last line is not whole"
+            )
         if self.words(2)[1] != _VERSION:
-            raise DumpError(f"this reader reads dump {_VERSION}, and the text begins with '{self._lines[0]}'")
+            raise DumpError(
+                f"this reader reads dump {_VERSION}, and the text begins with '{self._lines[0]}'"
+            )
         headers: list[Header] = []
         while self.word() == "header":
             headers.append(self._header())
@@ -270,7 +346,8 @@ class _Reader:
         return tuple(headers)
 
     def syllables(self, pause: Pause = go_on) -> Iterator[Syllable]:
-        """Takes the syllables one by one, with a pause before each, then the last line, and lets go what was written before each of them."""
+        """Takes the syllables one by one, with a pause before each, then the last line, and lets go
+        what was written before each of them."""
         number = 0
         while True:
             if self._at == len(self._lines) - 1 and self._after < len(self._dump):
@@ -299,7 +376,15 @@ class _Reader:
         if self.sources is None:
             return Score(canonical, headers, tuple(syllables), self.is_whole, canonical)
         self.sources.take(canonical, syllables)
-        return Score(canonical, headers, tuple(syllables), self.is_whole, self.sources.text, self._messages, self.sources)
+        return Score(
+            canonical,
+            headers,
+            tuple(syllables),
+            self.is_whole,
+            self.sources.text,
+            self._messages,
+            self.sources,
+        )
 
     def _header(self) -> Header:
         name, colon, value = self.words(2)[1].partition(":")
@@ -314,7 +399,12 @@ class _Reader:
     def _syllable(self, number: int) -> Syllable:
         words = self._lines[self._at].split(" ")
         spans = words[3:]
-        if len(words) < 3 or words[1] != str(number) or words[2] not in _POSITIONS or (spans and not set(spans) <= {"eu", "nlba"}):
+        if (
+            len(words) < 3
+            or words[1] != str(number)
+            or words[2] not in _POSITIONS
+            or (spans and not set(spans) <= {"eu", "nlba"})
+        ):
             raise self.fail("a syllable with the next number and its position was awaited")
         self._at += 1
         if words[2] in ("one", "beginning"):
@@ -331,7 +421,16 @@ class _Reader:
         self.pen.put(")")
         spelling = "".join(self.pen.written[first:])
         return Syllable(
-            place, spelling, number, words[2], "eu" in spans, "nlba" in spans, text, translation, tuple(snippets), _sources=self.sources,
+            place,
+            spelling,
+            number,
+            words[2],
+            "eu" in spans,
+            "nlba" in spans,
+            text,
+            translation,
+            tuple(snippets),
+            _sources=self.sources,
         )
 
 
@@ -348,7 +447,11 @@ def _read_nabc(reader: _Reader) -> NabcSnippet:
             items.append(Space(reader.pen.write(text), text, _sources=reader.sources))
         else:
             _, text, names = reader.words(3)
-            items.append(Descriptor(reader.pen.write(text), text, tuple(names.split("!")), _sources=reader.sources))
+            items.append(
+                Descriptor(
+                    reader.pen.write(text), text, tuple(names.split("!")), _sources=reader.sources
+                )
+            )
     if "".join(it.spelling for it in items) != spelling:
         raise reader.fail("the snippet before this line is not spelled by its parts")
     return NabcSnippet(place, spelling, int(line), tuple(items), _sources=reader.sources)
@@ -364,7 +467,8 @@ class _NotesReader:
         self._place = reader.pen.place()
         self._items: list[Item] = []
         self._elements: list[Element] = []
-        # The items and glyphs of the element that is open, and the kind, the notes that it still wants and the notes of the glyph that is open.
+        # The items and glyphs of the element that is open, and the kind, the notes that it still
+        # wants and the notes of the glyph that is open.
         self._inside: list[Item] = []
         self._glyphs: list[Glyph] = []
         self._kind, self._wanted = "", 0
@@ -386,11 +490,19 @@ class _NotesReader:
         self._close_element()
         if "".join([it.spelling for it in self._items]) != self._spelling:
             raise self._reader.fail("the snippet before this line is not spelled by its items")
-        return NoteSnippet(self._place, self._spelling, tuple(self._items), tuple(self._elements), _sources=self._sources)
+        return NoteSnippet(
+            self._place,
+            self._spelling,
+            tuple(self._items),
+            tuple(self._elements),
+            _sources=self._sources,
+        )
 
     def _between(self, first: Item, last: Item) -> str:
         begin = self._place.offset
-        return self._spelling[first.place.offset - begin : last.place.offset - begin + len(last.spelling)]
+        return self._spelling[
+            first.place.offset - begin : last.place.offset - begin + len(last.spelling)
+        ]
 
     def _open_glyph(self) -> None:
         _, self._kind, count = self._reader.words(3)
@@ -403,7 +515,9 @@ class _NotesReader:
         if isinstance(item, Note):
             self._inside.append(item)
             self._add_note(item)
-        elif isinstance(item, (Bar, Clef, Custos, Break)) or (isinstance(item, Space) and item.is_divider):
+        elif isinstance(item, (Bar, Clef, Custos, Break)) or (
+            isinstance(item, Space) and item.is_divider
+        ):
             self._close_element()
         else:
             self._inside.append(item)
@@ -415,7 +529,15 @@ class _NotesReader:
         self._wanted -= 1
         if not self._wanted:
             first = self._notes[0]
-            self._glyphs.append(Glyph(first.place, self._between(first, note), self._kind, tuple(self._notes), _sources=self._sources))
+            self._glyphs.append(
+                Glyph(
+                    first.place,
+                    self._between(first, note),
+                    self._kind,
+                    tuple(self._notes),
+                    _sources=self._sources,
+                )
+            )
             self._notes = []
 
     def _close_element(self) -> None:
@@ -424,7 +546,15 @@ class _NotesReader:
         if self._inside:
             first = self._inside[0]
             spelling = self._between(first, self._inside[-1])
-            self._elements.append(Element(first.place, spelling, tuple(self._inside), tuple(self._glyphs), _sources=self._sources))
+            self._elements.append(
+                Element(
+                    first.place,
+                    spelling,
+                    tuple(self._inside),
+                    tuple(self._glyphs),
+                    _sources=self._sources,
+                )
+            )
         self._inside, self._glyphs = [], []
 
     # ---- the line of each item
@@ -446,13 +576,24 @@ class _NotesReader:
         _, pitch, shape, degree, alteration, spelling = self._reader.words(6)
         sounds = self._word_of(degree, _DEGREES)
         return Note(
-            self._reader.pen.write(spelling), spelling, self._word_of(pitch, _PITCHES), shape, None if sounds == "-" else sounds,
-            self._word_of(alteration, _ALTERS), self._reader.clef, _sources=self._sources,
+            self._reader.pen.write(spelling),
+            spelling,
+            self._word_of(pitch, _PITCHES),
+            shape,
+            None if sounds == "-" else sounds,
+            self._word_of(alteration, _ALTERS),
+            self._reader.clef,
+            _sources=self._sources,
         )
 
     def alteration(self) -> Alteration:
         _, pitch, sign, spelling = self._reader.words(4)
-        return Alteration(*self._write(spelling), self._word_of(pitch, _PITCHES), self._word_of(sign, _ALTERS), _sources=self._sources)
+        return Alteration(
+            *self._write(spelling),
+            self._word_of(pitch, _PITCHES),
+            self._word_of(sign, _ALTERS),
+            _sources=self._sources,
+        )
 
     def clef(self) -> Clef:
         clef = Clef(*self._rest(), _sources=self._sources)
@@ -475,7 +616,9 @@ class _NotesReader:
         pitch = self._reader.words(2)[1]
         if pitch == "auto":
             return Custos(*self._write("z0"), None, _sources=self._sources)
-        return Custos(*self._write(f"{pitch}+"), self._word_of(pitch, _PITCHES), _sources=self._sources)
+        return Custos(
+            *self._write(f"{pitch}+"), self._word_of(pitch, _PITCHES), _sources=self._sources
+        )
 
     def line_end(self) -> Break:
         return Break(*self._rest(), _sources=self._sources)
@@ -489,7 +632,13 @@ class _NotesReader:
 
 
 _ITEMS: dict[str, Callable[[_NotesReader], Item]] = {
-    "note": _NotesReader.note, "alteration": _NotesReader.alteration, "clef": _NotesReader.clef, "bar": _NotesReader.bar,
-    "space": _NotesReader.space, "custos": _NotesReader.custos, "break": _NotesReader.line_end, "attribute": _NotesReader.attribute,
+    "note": _NotesReader.note,
+    "alteration": _NotesReader.alteration,
+    "clef": _NotesReader.clef,
+    "bar": _NotesReader.bar,
+    "space": _NotesReader.space,
+    "custos": _NotesReader.custos,
+    "break": _NotesReader.line_end,
+    "attribute": _NotesReader.attribute,
     "fusion": _NotesReader.fusion,
 }

@@ -15,8 +15,17 @@ from collections.abc import Iterator, Sequence
 from dataclasses import dataclass
 from typing import TYPE_CHECKING
 
-from gregorio_chant.objects.items import PITCHES, Alteration, Custos, Header, Item, Note, Syllable, header_spelling
 from gregorio_chant._native.results import Kind
+from gregorio_chant.objects.items import (
+    PITCHES,
+    Alteration,
+    Custos,
+    Header,
+    Item,
+    Note,
+    Syllable,
+    header_spelling,
+)
 from gregorio_chant.text.source import Lines, Place, Source, raw_offsets, text_of
 
 if TYPE_CHECKING:
@@ -57,7 +66,9 @@ class Change:
         may insert."""
         if self.begin == self.end:
             return begin < self.begin < end
-        return self.begin < end and begin < self.end if begin < end else self.begin < begin < self.end
+        return (
+            self.begin < end and begin < self.end if begin < end else self.begin < begin < self.end
+        )
 
 
 class Edited:
@@ -78,18 +89,30 @@ class Edited:
         if fault is None:
             return EditError(Source(Place(0, 1, 1), ""), "the score is not whole")
         text = self._score.text
-        offset = raw_offsets(text)[Lines(text_of(text.encode("utf-8", "surrogatepass"))).offset(fault.line, fault.column)]
-        return EditError(Source(Place(offset, fault.line, fault.column), ""), f"the score is not whole: {fault.code}: {fault.text}")
+        offset = raw_offsets(text)[
+            Lines(text_of(text.encode("utf-8", "surrogatepass"))).offset(fault.line, fault.column)
+        ]
+        return EditError(
+            Source(Place(offset, fault.line, fault.column), ""),
+            f"the score is not whole: {fault.code}: {fault.text}",
+        )
 
     def replace(self, item: Item, text: str) -> Edited:
         """Replaces `item` by `text`. Raises `EditError` if the text would end the snippet of the
         item, or if another change overlaps, and `ValueError` for an object of another score."""
         source = self._source_of(item)
-        begin, end, written, written_end = source.place.offset, source.end, item.place.offset, item.place.offset + len(item.spelling)
+        begin, end, written, written_end = (
+            source.place.offset,
+            source.end,
+            item.place.offset,
+            item.place.offset + len(item.spelling),
+        )
         if isinstance(item, Header) and not text:
             begin, end = self._line_of(begin, end)
             written_end += 1
-        return self._add(item, Change(begin, end, self._with_line_ends(text), written, written_end, source))
+        return self._add(
+            item, Change(begin, end, self._with_line_ends(text), written, written_end, source)
+        )
 
     def remove(self, item: Item) -> Edited:
         """Removes `item`, and the line of a header on which nothing else stands. Raises `EditError`
@@ -100,7 +123,11 @@ class Edited:
         """Inserts `text` directly before `item`, or directly after it. Raises `EditError` as
         `replace` does."""
         source = self._source_of(item)
-        at, written = (source.end, item.place.offset + len(item.spelling)) if after else (source.place.offset, item.place.offset)
+        at, written = (
+            (source.end, item.place.offset + len(item.spelling))
+            if after
+            else (source.place.offset, item.place.offset)
+        )
         return self._add(item, Change(at, at, self._with_line_ends(text), written, written, source))
 
     def set_header(self, name: str, value: str | None) -> Edited:
@@ -115,7 +142,16 @@ class Edited:
             last = self._score.headers[-1:]
             written = last[0].place.offset + len(last[0].spelling) + 1 if last else 0
             source = Source(Place(at, len(_LINE_END.findall(self._score.text, 0, at)) + 1, 1), "")
-            self._put(Change(at, at, self._with_line_ends(f"{header_spelling(name, value)}\n"), written, written, source))
+            self._put(
+                Change(
+                    at,
+                    at,
+                    self._with_line_ends(f"{header_spelling(name, value)}\n"),
+                    written,
+                    written,
+                    source,
+                )
+            )
         return self
 
     def transpose(self, steps: int) -> Edited:
@@ -133,7 +169,10 @@ class Edited:
         from gregorio_chant.objects.verdict import look_at
 
         text = _applied(self._score.text, [(it.begin, it.end, it.text) for it in self._changes])
-        canonical = _applied(self._score.canonical, [(it.written, it.written_end, _LINE_END.sub("\n", it.text)) for it in self._changes])
+        canonical = _applied(
+            self._score.canonical,
+            [(it.written, it.written_end, _LINE_END.sub("\n", it.text)) for it in self._changes],
+        )
         look_at(self._score, self._changes, text, canonical)
         return text
 
@@ -157,7 +196,9 @@ class Edited:
     def _put(self, change: Change) -> Edited:
         """Adds a change to the others, which are in order: of those at one place the first comes
         first."""
-        at = bisect.bisect_right(self._changes, (change.begin, change.end), key=lambda it: (it.begin, it.end))
+        at = bisect.bisect_right(
+            self._changes, (change.begin, change.end), key=lambda it: (it.begin, it.end)
+        )
         for other in self._changes[max(at - 1, 0) : at + 1]:
             if change.overlaps(other.begin, other.end) or other.overlaps(change.begin, change.end):
                 raise EditError(change.source, f"it is changed already, at {other.source}")
@@ -179,13 +220,18 @@ class Edited:
         text = self._score.text
         first = max(text.rfind("\n", 0, begin), text.rfind("\r", 0, begin)) + 1
         found = _LINE_END.search(text, end)
-        if found is None or text[first:begin].strip(" \t\ufeff") or text[end : found.start()].strip(" \t"):
+        if (
+            found is None
+            or text[first:begin].strip(" \t\ufeff")
+            or text[end : found.start()].strip(" \t")
+        ):
             return begin, end
         return begin if "\ufeff" in text[first:begin] else first, found.end()
 
 
 def _applied(text: str, changes: Sequence[tuple[int, int, str]]) -> str:
     """Returns `text` with these changes, which stand in order."""
+
     def parts() -> Iterator[str]:
         at = 0
         for begin, end, new in changes:
@@ -193,4 +239,5 @@ def _applied(text: str, changes: Sequence[tuple[int, int, str]]) -> str:
             yield new
             at = end
         yield text[at:]
+
     return "".join(parts())

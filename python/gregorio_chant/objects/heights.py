@@ -27,7 +27,12 @@ class Range:
 def interval(first: Note, second: Note) -> Interval | None:
     """Returns the distance from `first` up to `second`; `None` if one of them comes before any
     clef."""
-    if first.step is None or second.step is None or first.semitones is None or second.semitones is None:
+    if (
+        first.step is None
+        or second.step is None
+        or first.semitones is None
+        or second.semitones is None
+    ):
         return None
     return Interval(second.step - first.step, second.semitones - first.semitones)
 

@@ -1,4 +1,5 @@
-"""What a score is made of: headers, syllables, snippets and their items, each with its place and its spelling in the canonical text."""
+"""What a score is made of: headers, syllables, snippets and their items, each with its place and
+its spelling in the canonical text."""
 from __future__ import annotations
 
 import math
@@ -24,9 +25,22 @@ _CLEF_STEPS = {"c": 7, "f": 3}
 
 # A run of `;` that ends a value: such a value stands on lines of its own.
 _MARK = re.compile(r";[ \t]*(?:%|$)", re.MULTILINE)
-# What the special characters of the manual look like; those that are not here are read as they are spelled.
+# What the special characters of the manual look like; those that are not here are read as they are
+# spelled.
 _SPECIAL = {
-    "ae": "æ", "oe": "œ", "'ae": "ǽ", "'oe": "œ́", "'æ": "ǽ", "'œ": "œ́", "A/": "A", "R/": "℟", "V/": "℣", "*": "*", "+": "†", "-": "", "~": "~",
+    "ae": "æ",
+    "oe": "œ",
+    "'ae": "ǽ",
+    "'oe": "œ́",
+    "'æ": "ǽ",
+    "'œ": "œ́",
+    "A/": "A",
+    "R/": "℟",
+    "V/": "℣",
+    "*": "*",
+    "+": "†",
+    "-": "",
+    "~": "~",
 }
 # The parts of a descriptor, and a modifier.
 _PITCH = "(?:h([a-np]))?"
@@ -35,7 +49,10 @@ _PART = re.compile(
     rf"|(?P<code>[a-z]{{2}})(?P<modifiers>(?:[SGM>~-][1-9]?)*){_PITCH}|!"
 )
 _MODIFIER = re.compile("[SGM>~-][1-9]?")
-MARKUP = re.compile(r"\$(?P<escaped>.)|<sp>(?P<special>.*?)</sp>|<(?P<raw>v|alt)>.*?</(?P=raw)>|<[^>]*>|[{}]", re.DOTALL)
+MARKUP = re.compile(
+    r"\$(?P<escaped>.)|<sp>(?P<special>.*?)</sp>|<(?P<raw>v|alt)>.*?</(?P=raw)>|<[^>]*>|[{}]",
+    re.DOTALL,
+)
 
 
 class Sources(Protocol):
@@ -57,7 +74,9 @@ class Item:
     def source(self) -> Source:
         """Where it stands in the file that was read, and how it is spelled there, with all comments
         in it and all that was left out of it. Of a dump that is the canonical text."""
-        return Source(self.place, self.spelling) if self._sources is None else self._sources.of(self)
+        return (
+            Source(self.place, self.spelling) if self._sources is None else self._sources.of(self)
+        )
 
 
 @dataclass(frozen=True, slots=True)
@@ -85,7 +104,11 @@ class Clef(Item):
         if not joined:
             return None
         at = len(first) + 1
-        return Clef(Place(self.place.offset + at, self.place.line, self.place.column + at), second, _sources=self._sources)
+        return Clef(
+            Place(self.place.offset + at, self.place.line, self.place.column + at),
+            second,
+            _sources=self._sources,
+        )
 
     def step(self, height: int) -> int:
         """Returns the step of a note at this height."""
@@ -118,7 +141,11 @@ class Note(Item):
     def semitones(self) -> int | None:
         """The same in semitones, with its alteration."""
         step = self.step
-        return None if step is None else 12 * (step // 7) + _SEMITONES[step % 7] + _ALTERED[self.alteration]
+        return (
+            None
+            if step is None
+            else 12 * (step // 7) + _SEMITONES[step % 7] + _ALTERED[self.alteration]
+        )
 
     @property
     def signs(self) -> NoteSigns:
@@ -166,7 +193,8 @@ class Note(Item):
 
     @property
     def over_staff(self) -> tuple[str, ...]:
-        """The signs over the staff at this note: `accent`, `grave`, `circle`, `lower-arc`, `upper-arc`, `flat`, `natural` or `sharp`."""
+        """The signs over the staff at this note: `accent`, `grave`, `circle`, `lower-arc`,
+        `upper-arc`, `flat`, `natural` or `sharp`."""
         return self.signs.over_staff
 
     @property
@@ -196,7 +224,8 @@ class Bar(Item):
 
     @property
     def position(self) -> int | None:
-        """The number after its sign: the position of a Dominican bar, or 0 for a bar on the ledger line over the staff."""
+        """The number after its sign: the position of a Dominican bar, or 0 for a bar on the ledger
+        line over the staff."""
         digits = self._parts()["digits"]
         return int(digits[0]) if digits else None
 
@@ -233,7 +262,8 @@ class Space(Item):
 
     @property
     def factor(self) -> float | None:
-        """How wide a spacing `/[..]` is, as a factor of the large one; `None` for every other spacing, and if it is no number."""
+        """How wide a spacing `/[..]` is, as a factor of the large one; `None` for every other
+        spacing, and if it is no number."""
         if not self.spelling.startswith("/["):
             return None
         try:
@@ -343,12 +373,36 @@ class Descriptor(Item):
             at, spelling = found.start(), found[0]
             where = Place(place.offset + at, place.line, place.column + at)
             if found["points"]:
-                yield NabcPoints(where, spelling, found[4], found["points"], found["kind"], int(found["count"]), _sources=sources)
+                yield NabcPoints(
+                    where,
+                    spelling,
+                    found[4],
+                    found["points"],
+                    found["kind"],
+                    int(found["count"]),
+                    _sources=sources,
+                )
             elif found["letters"]:
-                yield NabcLetters(where, spelling, found[8], found["letters"], found["text"], int(found["at"]), _sources=sources)
+                yield NabcLetters(
+                    where,
+                    spelling,
+                    found[8],
+                    found["letters"],
+                    found["text"],
+                    int(found["at"]),
+                    _sources=sources,
+                )
             elif found["code"]:
                 modifiers = tuple(_MODIFIER.findall(found["modifiers"]))
-                yield NabcGlyph(where, spelling, found[11], found["code"], next(waiting), modifiers, _sources=sources)
+                yield NabcGlyph(
+                    where,
+                    spelling,
+                    found[11],
+                    found["code"],
+                    next(waiting),
+                    modifiers,
+                    _sources=sources,
+                )
 
 
 @dataclass(frozen=True, slots=True)
@@ -388,7 +442,8 @@ Snippet = Union[NoteSnippet, NabcSnippet]
 
 @dataclass(frozen=True, slots=True)
 class Syllable(Item):
-    """A syllable. `text` is its canonical text without the translation; `position` is one, beginning, middle or end."""
+    """A syllable. `text` is its canonical text without the translation; `position` is one,
+    beginning, middle or end."""
 
     number: int
     position: str
@@ -405,7 +460,9 @@ class Syllable(Item):
     @property
     def items(self) -> tuple[Item, ...]:
         """The items of all its snippets of notes."""
-        return tuple(item for it in self.snippets if isinstance(it, NoteSnippet) for item in it.items)
+        return tuple(
+            item for it in self.snippets if isinstance(it, NoteSnippet) for item in it.items
+        )
 
     @property
     def notes(self) -> tuple[Note, ...]:
@@ -413,11 +470,18 @@ class Syllable(Item):
 
     @property
     def glyphs(self) -> tuple[Glyph, ...]:
-        return tuple(glyph for it in self.snippets if isinstance(it, NoteSnippet) for element in it.elements for glyph in element.glyphs)
+        return tuple(
+            glyph
+            for it in self.snippets
+            if isinstance(it, NoteSnippet)
+            for element in it.elements
+            for glyph in element.glyphs
+        )
 
     @property
     def plain(self) -> str:
-        """Its text without tags, braces and escapes, special characters as they look, and nothing of raw TeX."""
+        """Its text without tags, braces and escapes, special characters as they look, and nothing
+        of raw TeX."""
         return plain_text(self.text)
 
 
@@ -439,7 +503,8 @@ def header_spelling(name: str, value: str) -> str:
 
 
 def special_character(name: str) -> str:
-    """Returns the text of the special character `name` of the manual; an unknown one is its own name."""
+    """Returns the text of the special character `name` of the manual; an unknown one is its own
+    name."""
     return _SPECIAL.get(name, name)
 
 
@@ -449,10 +514,12 @@ def plain_text(text: str) -> str:
     >>> plain_text("<i>ma</i>$(<sp>'ae</sp>{s}")
     'ma(ǽs'
     """
+
     def plain(found: re.Match[str]) -> str:
         if found["escaped"] is not None:
             return found["escaped"]
         if found["special"] is not None:
             return special_character(found["special"])
         return ""
+
     return MARKUP.sub(plain, text)

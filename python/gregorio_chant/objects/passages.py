@@ -88,7 +88,9 @@ def words_of(syllables: Sequence[Syllable]) -> tuple[Word, ...]:
         if it.begins_word or not words:
             words.append([])
         words[-1].append(it)
-    return tuple(Word(tuple(it)) for it in words if any(_has_letters(syllable.plain) for syllable in it))
+    return tuple(
+        Word(tuple(it)) for it in words if any(_has_letters(syllable.plain) for syllable in it)
+    )
 
 
 def _divided(syllables: Sequence[Syllable], kinds: Collection[str] | None) -> Iterator[Phrase]:
@@ -114,7 +116,9 @@ def _divided(syllables: Sequence[Syllable], kinds: Collection[str] | None) -> It
     yield Phrase(tuple(inside), tuple(items), None)
 
 
-def phrases_of(syllables: Sequence[Syllable], kinds: Collection[str] | None = None) -> tuple[Phrase, ...]:
+def phrases_of(
+    syllables: Sequence[Syllable], kinds: Collection[str] | None = None
+) -> tuple[Phrase, ...]:
     """Returns the music between bars of these kinds, or of any kind if none are given, if it has a
     note or a word."""
     return tuple(it for it in _divided(syllables, kinds) if it.notes or _has_letters(it.text))

@@ -8,11 +8,19 @@ from dataclasses import dataclass
 from functools import lru_cache
 from typing import NamedTuple
 
-# What a sign of a bar or a note is, beside the letters of shapes: a letter or a run of `_`, with its digits.
+# What a sign of a bar or a note is, beside the letters of shapes: a letter or a run of `_`, with
+# its digits.
 _SIGN = re.compile(r"([.'~<>roO]|_+)([0-9]*)")
 _LIQUESCENCES = {"~": "deminutus", "<": "augmented", ">": "diminished"}
 _OVER_STAFF = {
-    "1": "accent", "2": "grave", "3": "circle", "4": "lower-arc", "5": "upper-arc", "6": "flat", "7": "natural", "8": "sharp",
+    "1": "accent",
+    "2": "grave",
+    "3": "circle",
+    "4": "lower-arc",
+    "5": "upper-arc",
+    "6": "flat",
+    "7": "natural",
+    "8": "sharp",
 }
 _SIZES = {"3": "left", "4": "centre", "5": "right"}
 AUTO, OVER, UNDER = "auto", "over", "under"
@@ -20,10 +28,10 @@ AUTO, OVER, UNDER = "auto", "over", "under"
 
 @dataclass(frozen=True, slots=True)
 class Episema:
-    """A horizontal episema. It covers `count` notes: the one that has it, and those before that one.
-    `side` is `auto`, `over` or `under`. `size` is `whole`, or of a small episema how it is aligned:
-    `left`, `centre` or `right`. `is_bridged` says whether it may be joined to the episema of the
-    next note."""
+    """A horizontal episema. It covers `count` notes: the one that has it, and those before that
+    one. `side` is `auto`, `over` or `under`. `size` is `whole`, or of a small episema how it is
+    aligned: `left`, `centre` or `right`. `is_bridged` says whether it may be joined to the episema
+    of the next note."""
 
     count: int = 1
     side: str = AUTO
@@ -62,7 +70,9 @@ def signs_of(spelling: str) -> NoteSigns:
     found = _SIGN.findall(spelling)
     ictus = next((_side_of(digits) for sign, digits in found if sign == "'"), None)
     hollow = [digits for sign, digits in found if sign == "r" and digits in ("", "0")]
-    told = next((digits[0] for sign, digits in found if sign in "oO" and digits[:1] in ("0", "1")), None)
+    told = next(
+        (digits[0] for sign, digits in found if sign in "oO" and digits[:1] in ("0", "1")), None
+    )
     return NoteSigns(
         morae=sum(sign == "." for sign, _ in found),
         ictus=ictus,
@@ -71,6 +81,8 @@ def signs_of(spelling: str) -> NoteSigns:
         is_initio_debilis=spelling.startswith("-"),
         is_hollow=bool(hollow),
         is_lined="R" in spelling or "0" in hollow,
-        over_staff=tuple(_OVER_STAFF[digits] for sign, digits in found if sign == "r" and digits in _OVER_STAFF),
+        over_staff=tuple(
+            _OVER_STAFF[digits] for sign, digits in found if sign == "r" and digits in _OVER_STAFF
+        ),
         points_up=None if told is None else told == "1",
     )

@@ -64,6 +64,8 @@ def sounds_of(syllables: Iterable[Syllable]) -> Iterator[Sound]:
                     raise NoteBeforeClef(it)
                 length = next(lengths)
                 for _ in range(it.times):
-                    yield Sound(LOWEST + it.semitones, length * TICKS, text, syllable.number, number)
+                    yield Sound(
+                        LOWEST + it.semitones, length * TICKS, text, syllable.number, number
+                    )
                     text = None
                 number += 1

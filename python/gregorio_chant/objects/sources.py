@@ -8,16 +8,23 @@ from collections.abc import Iterator, Sequence
 from dataclasses import dataclass
 from functools import cached_property
 
-from gregorio_chant.objects.items import Header, Item, NabcSnippet, Syllable
-from gregorio_chant.format.losses import Comparison
 from gregorio_chant._native.results import Message
+from gregorio_chant.format.losses import Comparison
+from gregorio_chant.objects.items import Header, Item, NabcSnippet, Syllable
 from gregorio_chant.text.scan import BLANKS, HeaderSpan, Span
 from gregorio_chant.text.source import Place, Source, raw_offsets
 
 _TAG, _BRACKET = re.compile(r"<[^>]*>"), re.compile(r"\[[^\]]*\]")
 _BRACE, _CHARACTER = re.compile("[{}]"), re.compile(".", re.DOTALL)
 # What is left out at the place of a message, if that is what stands there.
-_AT_PLACE = {"E1": _CHARACTER, "E2": _CHARACTER, "E3": _CHARACTER, "W3": _TAG, "W4": _BRACE, "W5": _BRACKET}
+_AT_PLACE = {
+    "E1": _CHARACTER,
+    "E2": _CHARACTER,
+    "E3": _CHARACTER,
+    "W3": _TAG,
+    "W4": _BRACE,
+    "W5": _BRACKET,
+}
 _OF_HEADERS = ("E4", "E5")
 
 
@@ -76,7 +83,11 @@ class FileSources:
     @cached_property
     def _headers(self) -> dict[int, Span]:
         pairs = self._comparison.header_pairs
-        return {it.written.begin: it.source for it in pairs if it.written and isinstance(it.source, HeaderSpan)}
+        return {
+            it.written.begin: it.source
+            for it in pairs
+            if it.written and isinstance(it.source, HeaderSpan)
+        }
 
     def _offset(self, message: Message) -> int:
         return self._comparison.lines.offset(message.line, message.column)
@@ -104,7 +115,11 @@ class FileSources:
         found = [LeftOut(it.code, source) for it in self._messages for source in self._gone(it)]
         bad = {self._offset(it) for it in self._messages if it.code in _OF_HEADERS}
         for pair in self._comparison.header_pairs:
-            if pair.written is None and isinstance(pair.source, HeaderSpan) and pair.source.begin not in bad:
+            if (
+                pair.written is None
+                and isinstance(pair.source, HeaderSpan)
+                and pair.source.begin not in bad
+            ):
                 found.append(LeftOut("W2", self._source(*self._trimmed(pair.source))))
         return tuple(sorted(found, key=lambda it: (it.source.place, it.code)))
 
@@ -116,7 +131,11 @@ class FileSources:
             if thing:
                 yield self._source(at, thing.end())
         elif message.code in _OF_HEADERS:
-            yield from (self._source(*self._trimmed(it)) for it in self._comparison.source.headers if it.begin == at)
+            yield from (
+                self._source(*self._trimmed(it))
+                for it in self._comparison.source.headers
+                if it.begin == at
+            )
         elif message.code == "E6":
             cut = self._cut_before(at)
             yield self._source(cut[0], cut[-1] + 1) if cut else self._source(at, at)
@@ -125,7 +144,11 @@ class FileSources:
         """Returns where the characters stand that the end of a snippet at this offset cut off;
         nothing where its syllable was not written."""
         number = self._comparison.source.syllables.number_at(at)
-        return self._notes_of(number).cuts.get(at, []) if number is not None and number < len(self._syllables) else []
+        return (
+            self._notes_of(number).cuts.get(at, [])
+            if number is not None and number < len(self._syllables)
+            else []
+        )
 
     # ---- from the compiler's text to the file
 
@@ -144,7 +167,9 @@ class FileSources:
     def _trimmed(self, span: Span) -> tuple[int, int]:
         """Returns the bounds of a header without the blanks at both ends."""
         text = self._comparison.lines.text[span.begin : span.end]
-        return span.begin + len(text) - len(text.lstrip(BLANKS)), span.begin + len(text.rstrip(BLANKS))
+        return span.begin + len(text) - len(text.lstrip(BLANKS)), span.begin + len(
+            text.rstrip(BLANKS)
+        )
 
     def _body(self, number: int) -> tuple[int, int]:
         """Returns the bounds of a syllable without blanks and comments at both ends."""
@@ -155,7 +180,9 @@ class FileSources:
     # ---- the notes of a syllable, character by character
 
     def _notes_at(self, written: int) -> _Notes:
-        return self._notes_of(bisect.bisect_right(self._syllables, written, key=lambda it: it.place.offset) - 1)
+        return self._notes_of(
+            bisect.bisect_right(self._syllables, written, key=lambda it: it.place.offset) - 1
+        )
 
     def _notes_of(self, number: int) -> _Notes:
         if number not in self._notes:
@@ -174,9 +201,13 @@ class FileSources:
         for snippet in syllable.snippets:
             leaves_blanks = isinstance(snippet, NabcSnippet)
             for character in snippet.spelling:
-                at = next((it for it in kept if not leaves_blanks or text[it] not in BLANKS), span.end)
+                at = next(
+                    (it for it in kept if not leaves_blanks or text[it] not in BLANKS), span.end
+                )
                 if text[at : at + 1] != character:
-                    raise SourceError(f"{self._comparison.lines.place(at)}: {character!r} does not stand here")
+                    raise SourceError(
+                        f"{self._comparison.lines.place(at)}: {character!r} does not stand here"
+                    )
                 notes.offsets.append(at)
             cut = []
             for at in kept:

@@ -7,10 +7,10 @@ from collections.abc import Iterator, Sequence
 from itertools import accumulate
 from typing import TYPE_CHECKING
 
-from gregorio_chant.objects.edits import Change, EditError
-from gregorio_chant.objects.items import Item, NabcSnippet, Note, NoteSnippet, Syllable
 from gregorio_chant._native.library import compile
 from gregorio_chant._native.results import Format, Kind, Message
+from gregorio_chant.objects.edits import Change, EditError
+from gregorio_chant.objects.items import Item, NabcSnippet, Note, NoteSnippet, Syllable
 from gregorio_chant.text.source import Lines, raw_offsets, text_of
 
 if TYPE_CHECKING:
@@ -36,9 +36,15 @@ def _parsed(changes: Sequence[Change], text: str) -> Score:
     try:
         new = Score.parse(text)
     except ScoreError as error:
-        raise EditError(changes[0].source, f"the score would not be whole: {error.message.code}: {error.message.text}") from None
+        raise EditError(
+            changes[0].source,
+            f"the score would not be whole: {error.message.code}: {error.message.text}",
+        ) from None
     if not new.is_whole:
-        raise EditError(changes[0].source, f"the score would not be whole: {new.messages[-1].code}: {new.messages[-1].text}")
+        raise EditError(
+            changes[0].source,
+            f"the score would not be whole: {new.messages[-1].code}: {new.messages[-1].text}",
+        )
     return new
 
 
@@ -93,7 +99,10 @@ def _look_at_messages(old: Score, new: Score, moved: _Moved) -> None:
     for at, it in _faults(new):
         if (at, it.code) not in known:
             change = moved.change_of(at) or moved.changes[0]
-            raise EditError(change.source, f"with it something would be left out, at {it.line}:{it.column} of the new file: {it.code}: {it.text}")
+            raise EditError(
+                change.source,
+                f"with it something would be left out, at {it.line}:{it.column} of the new file: {it.code}: {it.text}",
+            )
 
 
 def _look_at_rest(old: Score, new: Score, moved: _Moved) -> None:
@@ -103,16 +112,23 @@ def _look_at_rest(old: Score, new: Score, moved: _Moved) -> None:
     there = _look_at_items(old.syllables, new.syllables, moved)
     for it in new.syllables:
         if it.source.place.offset not in there and not moved.change_of(it.source.place.offset):
-            raise EditError(moved.changes[0].source, f"with it {it.source} of the new file would be read otherwise")
+            raise EditError(
+                moved.changes[0].source,
+                f"with it {it.source} of the new file would be read otherwise",
+            )
     for number, again in there.values():
         syllable = old.syllables[number]
         if moved.change_in(syllable):
             if (syllable.text, syllable.translation) != (again.text, again.translation):
-                raise EditError(syllable.source, "the text of this syllable would be read otherwise")
+                raise EditError(
+                    syllable.source, "the text of this syllable would be read otherwise"
+                )
             _look_at_items(list(_leaves(syllable)), list(_leaves(again)), moved)
 
 
-def _look_at_items(old: Sequence[Item], new: Sequence[Item], moved: _Moved) -> dict[int, tuple[int, Syllable]]:
+def _look_at_items(
+    old: Sequence[Item], new: Sequence[Item], moved: _Moved
+) -> dict[int, tuple[int, Syllable]]:
     """Compares what was not changed. Returns the syllables that are there again, by their offsets,
     each with its number from 0 before."""
     now = {it.source.place.offset: it for it in new}
@@ -126,7 +142,12 @@ def _look_at_items(old: Sequence[Item], new: Sequence[Item], moved: _Moved) -> d
         if isinstance(it, Syllable) and isinstance(again, Syllable):
             there[at] = (number, again)
         if moved.change_in(it) is None or isinstance(it, Syllable) and again is None:
-            is_same = again is not None and type(again) is type(it) and again.source.spelling == source.spelling and again.spelling == it.spelling
+            is_same = (
+                again is not None
+                and type(again) is type(it)
+                and again.source.spelling == source.spelling
+                and again.spelling == it.spelling
+            )
             if not is_same:
                 raise EditError(source, f"{it.spelling.strip() or 'this'} would be read otherwise")
     return there
@@ -148,8 +169,15 @@ def _look_at_nabc(old: Score, new: Score, moved: _Moved) -> None:
         for before, after in zip(syllable.snippets, again.snippets):
             if isinstance(before, NoteSnippet):
                 count = _notes_in(before) - _notes_in(after)
-            elif isinstance(before, NabcSnippet) and before.items and count > 0 and before.spelling == after.spelling:
-                raise EditError(before.source, f"{before.spelling} would stand over a note that goes")
+            elif (
+                isinstance(before, NabcSnippet)
+                and before.items
+                and count > 0
+                and before.spelling == after.spelling
+            ):
+                raise EditError(
+                    before.source, f"{before.spelling} would stand over a note that goes"
+                )
 
 
 def _notes_in(snippet: NoteSnippet | NabcSnippet) -> int:

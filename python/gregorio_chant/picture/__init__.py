@@ -16,4 +16,17 @@ from gregorio_chant.picture.shown import shown
 from gregorio_chant.picture.spaces import Spaces
 from gregorio_chant.picture.svg import STYLE, Names
 
-__all__ = ["OWN", "STYLE", "USUAL_WIDTH", "Face", "Look", "Names", "Picture", "Spaces", "draw", "lay_out", "picture", "shown"]
+__all__ = [
+    "OWN",
+    "STYLE",
+    "USUAL_WIDTH",
+    "Face",
+    "Look",
+    "Names",
+    "Picture",
+    "Spaces",
+    "draw",
+    "lay_out",
+    "picture",
+    "shown",
+]

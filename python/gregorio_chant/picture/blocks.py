@@ -4,8 +4,22 @@ from __future__ import annotations
 
 from collections.abc import Iterable, Iterator, Sequence
 from functools import cached_property
+
 from gregorio_chant.objects.items import (
-    Alteration, Attribute, Bar, Break, Clef, Custos, Fusion, Glyph, Item, NabcSnippet, Note, NoteSnippet, Space, Syllable,
+    Alteration,
+    Attribute,
+    Bar,
+    Break,
+    Clef,
+    Custos,
+    Fusion,
+    Glyph,
+    Item,
+    NabcSnippet,
+    Note,
+    NoteSnippet,
+    Space,
+    Syllable,
 )
 from gregorio_chant.picture import staff
 from gregorio_chant.picture.attributes import At, add_attributes
@@ -41,7 +55,9 @@ def _drawn(glyph: Glyph, lines: int, face: Face, following: str | None) -> Drawn
         neume = neume_of(glyph, face, following)
         around, more = signs_around(neume, lines)
         first = neume.heads[0]
-        drawn = Drawn((*around, *neume.signs), neume.heads, neume.width + more, first.x + first.width / 2)
+        drawn = Drawn(
+            (*around, *neume.signs), neume.heads, neume.width + more, first.x + first.width / 2
+        )
         if len(face.kept) >= _MOST_KEPT:
             face.kept.clear()
         face.kept[key] = drawn
@@ -52,8 +68,12 @@ class _Writer:
     """Writes the blocks of one snippet of notes on a staff of `lines` lines; `following` is the
     pitch that comes after it. Offsets count from `base` on."""
 
-    def __init__(self, snippet: NoteSnippet, lines: int, following: str | None, face: Face, base: int) -> None:
-        self._glyphs: dict[int, Glyph] = {it.notes[0].place.offset: it for element in snippet.elements for it in element.glyphs}
+    def __init__(
+        self, snippet: NoteSnippet, lines: int, following: str | None, face: Face, base: int
+    ) -> None:
+        self._glyphs: dict[int, Glyph] = {
+            it.notes[0].place.offset: it for element in snippet.elements for it in element.glyphs
+        }
         self._snippet, self._lines, self._face = snippet, lines, face
         self._following, self._base = following, base
         self.blocks: list[Block] = []
@@ -100,13 +120,35 @@ class _Writer:
 
     def _add_neume(self, glyph: Glyph) -> None:
         first, last = glyph.notes[0], glyph.notes[-1]
-        drawn = _drawn(glyph, self._lines, self._face, self._pitches[last.place.offset] if has_oriscus(glyph) else None)
+        drawn = _drawn(
+            glyph,
+            self._lines,
+            self._face,
+            self._pitches[last.place.offset] if has_oriscus(glyph) else None,
+        )
         signs = drawn.signs
         if self._fused is not None:
-            signs = (_join(height_of(step_of(self._fused.pitch)), height_of(step_of(first.pitch))), *signs)
-        self._put(Block(glyph.place.offset - self._base, signs, drawn.width, SPACES.after_neume, drawn.anchor, first.pitch))
+            signs = (
+                _join(height_of(step_of(self._fused.pitch)), height_of(step_of(first.pitch))),
+                *signs,
+            )
+        self._put(
+            Block(
+                glyph.place.offset - self._base,
+                signs,
+                drawn.width,
+                SPACES.after_neume,
+                drawn.anchor,
+                first.pitch,
+            )
+        )
         self.blocks[-1].heads = tuple([(it.x, it.y, it.width) for it in drawn.heads])
-        self._neumes.append(Neume(self.blocks[-1], tuple(it._replace(note=note) for it, note in zip(drawn.heads, glyph.notes))))
+        self._neumes.append(
+            Neume(
+                self.blocks[-1],
+                tuple(it._replace(note=note) for it, note in zip(drawn.heads, glyph.notes)),
+            )
+        )
         self._fused, self._last = None, last
 
     def finish(self) -> list[Block]:
@@ -162,14 +204,18 @@ def _join(before: float, here: float) -> Rect:
     return Rect(-STEM / 2, min(before, here), STEM, abs(before - here))
 
 
-def _blocks_of_notes(snippet: NoteSnippet, lines: int, following: str | None, face: Face, base: int) -> list[Block]:
+def _blocks_of_notes(
+    snippet: NoteSnippet, lines: int, following: str | None, face: Face, base: int
+) -> list[Block]:
     writer = _Writer(snippet, lines, following, face, base)
     for item in snippet.items:
         writer.add(item)
     return writer.finish()
 
 
-def _with_nabc(blocks: list[Block], snippets: list[NabcSnippet], offset: int, hand: Hand) -> list[Block]:
+def _with_nabc(
+    blocks: list[Block], snippets: list[NabcSnippet], offset: int, hand: Hand
+) -> list[Block]:
     """Returns the blocks of a snippet of notes with the NABC above it, and as wide as that."""
     rows = tuple(neumes_of(it, hand) for it in snippets if it.spelling.strip())
     if not rows:
@@ -187,7 +233,9 @@ def begin_of_notes(syllable: Syllable) -> int:
     return (syllable.snippets[0] if syllable.snippets else syllable).place.offset
 
 
-def blocks_of(syllable: Syllable, lines: int, following: str | None, face: Face = OWN, hand: Hand = PLAIN) -> list[Block]:
+def blocks_of(
+    syllable: Syllable, lines: int, following: str | None, face: Face = OWN, hand: Hand = PLAIN
+) -> list[Block]:
     """Returns the blocks of a syllable, with the NABC in this hand; `following` is the first pitch
     after it."""
     snippets = syllable.snippets
@@ -217,7 +265,9 @@ def first_pitch(snippets: Sequence[NoteSnippet | NabcSnippet]) -> str | None:
     return None
 
 
-def _pitches_after(snippets: Sequence[NoteSnippet | NabcSnippet], following: str | None) -> list[str | None]:
+def _pitches_after(
+    snippets: Sequence[NoteSnippet | NabcSnippet], following: str | None
+) -> list[str | None]:
     """Returns the first pitch after each snippet."""
     pitches: list[str | None] = []
     for snippet in reversed(snippets):

@@ -29,17 +29,24 @@ def marks_of(placed: Placed, places: Places) -> list[Mark]:
     marks = places.by_syllable.get(part.syllable.number - 1)
     if not marks:
         return []
-    return [it for it in marks if part.begin <= (it.offset or 0) and (part.end is None or (it.offset or 0) < part.end)]
+    return [
+        it
+        for it in marks
+        if part.begin <= (it.offset or 0) and (part.end is None or (it.offset or 0) < part.end)
+    ]
 
 
 def field_of(part: Part, mark: Mark) -> tuple[float, float]:
-    """Returns from where to where the thing goes that a message is about: a block of the notes, or the
-    text with what stands over it."""
+    """Returns from where to where the thing goes that a message is about: a block of the notes, or
+    the text with what stands over it."""
     whole = (
-        min(part.left, part.text_left if part.has_text else part.left), max(part.right, part.text_right if part.has_text else part.right),
+        min(part.left, part.text_left if part.has_text else part.left),
+        max(part.right, part.text_right if part.has_text else part.right),
     )
     base = begin_of_notes(part.syllable)
-    found = [it for it in part.blocks if mark.offset is not None and base + it[1].offset <= mark.offset]
+    found = [
+        it for it in part.blocks if mark.offset is not None and base + it[1].offset <= mark.offset
+    ]
     if not found:
         return (part.text_left, whole[1]) if part.has_text and part.blocks else whole
     x, block = found[-1]

@@ -9,6 +9,7 @@ from dataclasses import dataclass
 from xml.etree.ElementTree import Element, SubElement
 
 from gregorio_chant._native import library
+from gregorio_chant._native.results import Format, Message
 from gregorio_chant.objects.dump import Syllable, read_in_turn
 from gregorio_chant.picture.codes import CODE_ROW, codes_of
 from gregorio_chant.picture.hands import Hand
@@ -20,7 +21,6 @@ from gregorio_chant.picture.nabc import hand_of
 from gregorio_chant.picture.shown import shown
 from gregorio_chant.picture.svg import MARGIN, STYLE, Names, Painter, add, number, text_of
 from gregorio_chant.picture.title import Headers, Title, initial_of
-from gregorio_chant._native.results import Format, Message
 
 _LEAST_WIDTH = 120.0
 _NOTE_SIZE = 10.0
@@ -42,7 +42,13 @@ class Picture:
         return "".join(self.pieces)
 
 
-def draw(data: bytes, messages: Sequence[Message] | None = None, *, look: Look | None = None, names: Names = Names()) -> Picture:
+def draw(
+    data: bytes,
+    messages: Sequence[Message] | None = None,
+    *,
+    look: Look | None = None,
+    names: Names = Names(),
+) -> Picture:
     """Returns a picture of a score, with these messages. If none are given, it has all of the
     compiler's."""
     told = tuple(library.check(data).messages if messages is None else messages)
@@ -79,13 +85,36 @@ def picture(score: str | bytes, *, width: float = USUAL_WIDTH) -> str:
 class _Drawing:
     """Draws line by line, and knows how high the picture is so far."""
 
-    def __init__(self, headers: Headers, syllables: Iterable[Syllable], places: Places, look: Look, hand: Hand, names: Names) -> None:
-        self._headers, self._look, self._hand, self._names, self._places = headers, look, hand, names, places
+    def __init__(
+        self,
+        headers: Headers,
+        syllables: Iterable[Syllable],
+        places: Places,
+        look: Look,
+        hand: Hand,
+        names: Names,
+    ) -> None:
+        self._headers, self._look, self._hand, self._names, self._places = (
+            headers,
+            look,
+            hand,
+            names,
+            places,
+        )
         self._width = max(look.width, _LEAST_WIDTH)
         language = language_of(headers.last("language"))
         staff = staff_lines(headers.last("staff-lines"))
         self._initial = initial_of(headers) if look.has_initial else None
-        self._layout = Layout(syllables, self._width - 2 * MARGIN, staff, look.face, hand, look.spaces, self._initial, language)
+        self._layout = Layout(
+            syllables,
+            self._width - 2 * MARGIN,
+            staff,
+            look.face,
+            hand,
+            look.spaces,
+            self._initial,
+            language,
+        )
         self._painter = Painter(names, places, staff, language)
         self._y = MARGIN
 
@@ -96,10 +125,18 @@ class _Drawing:
     def head(self, name: str) -> str:
         """Returns what stands before the lines; it is known once they are drawn."""
         height = number(self._y + MARGIN)
-        root = Element("svg", {
-            "xmlns": "http://www.w3.org/2000/svg", "viewBox": f"0 0 {number(self._width)} {height}", "width": number(self._width), "height": height,
-            "class": "chant", "font-size": "16", "role": "group",
-        })
+        root = Element(
+            "svg",
+            {
+                "xmlns": "http://www.w3.org/2000/svg",
+                "viewBox": f"0 0 {number(self._width)} {height}",
+                "width": number(self._width),
+                "height": height,
+                "class": "chant",
+                "font-size": "16",
+                "role": "group",
+            },
+        )
         add(root, "title", name or "A score without a name")
         face, hand = self._look.face, self._hand
         origins = [face.origin] if face.origin else []
@@ -112,7 +149,9 @@ class _Drawing:
         shapes = SubElement(root, "defs")
         for shape in self._painter.used:
             path = (hand.shapes.get(shape) or face.shapes[shape]).path
-            SubElement(shapes, "path", {"id": self._names.shape(shape), "d": path, "fill-rule": "evenodd"})
+            SubElement(
+                shapes, "path", {"id": self._names.shape(shape), "d": path, "fill-rule": "evenodd"}
+            )
         SubElement(root, "rect", {"class": "paper", "width": "100%", "height": "100%"})
         return text_of(root).removesuffix("</svg>\n") + "\n"
 
@@ -120,7 +159,8 @@ class _Drawing:
         """Yields the title, each line, and the notes at the end."""
         yield from self._codes(self._places.before)
         lines = self._layout.lines()
-        # The first line is laid out before the title is written: by then it is known whether an initial was found.
+        # The first line is laid out before the title is written: by then it is known whether an
+        # initial was found.
         first = list(itertools.islice(lines, 1))
         title = Title(self._headers, self._width, self._y)
         yield from title.write(with_annotations=self._initial is None or not self._initial.letter)
@@ -141,7 +181,9 @@ class _Drawing:
         yield self._note(_NO_SCORE)
 
     def _text(self, words: str, x: float, size: float, **attributes: str) -> str:
-        text = Element("text", {"x": number(x), "y": number(self._y), "font-size": number(size), **attributes})
+        text = Element(
+            "text", {"x": number(x), "y": number(self._y), "font-size": number(size), **attributes}
+        )
         text.text = shown(words)
         return text_of(text)
 
@@ -156,5 +198,11 @@ class _Drawing:
             self._y += CODE_ROW + 2.0
             message = mark.message
             group = Element("g")
-            self._painter.code(group, mark, MARGIN, self._y, f"{message.code} {message.line}:{message.column} {message.text}")
+            self._painter.code(
+                group,
+                mark,
+                MARGIN,
+                self._y,
+                f"{message.code} {message.line}:{message.column} {message.text}",
+            )
             yield text_of(group)

@@ -1,12 +1,12 @@
-"""Ictus and horizontal episemata of the neumes of a snippet. Those of several neumes belong together:
-an episema is joined to that of the next note (GregorioRef, *Rhythmic signs*)."""
+"""Ictus and horizontal episemata of the neumes of a snippet. Those of several neumes belong
+together: an episema is joined to that of the next note (GregorioRef, *Rhythmic signs*)."""
 from __future__ import annotations
 
 from collections.abc import Iterator, Mapping, Sequence
 from dataclasses import dataclass
 
-from gregorio_chant.picture.values import STEP, Block, Head, Rect
 from gregorio_chant.objects.signs import AUTO, OVER, UNDER, Episema
+from gregorio_chant.picture.values import STEP, Block, Head, Rect
 
 THIN = 0.9
 ICTUS = 4.4
@@ -53,7 +53,10 @@ def add_signs(neumes: Sequence[Neume], covered: Mapping[int, tuple[Episema, ...]
     found: dict[str, list[_Covered]] = {OVER: [], UNDER: []}
     heads = [(neume, head) for neume in neumes for head in neume.heads]
     for number, (neume, head) in enumerate(heads):
-        sides = {_side_of(head, it.side, is_ictus=False): it for it in covered.get(head.note.place.offset, ())}
+        sides = {
+            _side_of(head, it.side, is_ictus=False): it
+            for it in covered.get(head.note.place.offset, ())
+        }
         for side, episema in sides.items():
             found[side].append(_Covered(neume, head, number, episema))
         if head.note.ictus is not None:
@@ -73,7 +76,11 @@ def _ictus(head: Head, side: str, *, beside_episema: bool) -> Rect:
 
 def _is_joined(one: _Covered, other: _Covered) -> bool:
     """Returns whether the episema of one head goes on over the next one."""
-    if other.number != one.number + 1 or not one.episema.is_bridged or {one.episema.size, other.episema.size} != {"whole"}:
+    if (
+        other.number != one.number + 1
+        or not one.episema.is_bridged
+        or {one.episema.size, other.episema.size} != {"whole"}
+    ):
         return False
     return one.neume is other.neume or one.neume.block.after <= _MOST_GAP
 

@@ -1,5 +1,6 @@
-"""The outlines of a font with GregorioTeX's glyph names, as Greciliae, for the neumes and signs of a
-picture. It stands on the package `fontTools`. What the font lacks is drawn in the project's shapes."""
+"""The outlines of a font with GregorioTeX's glyph names, as Greciliae, for the neumes and signs of
+a picture. It stands on the package `fontTools`. What the font lacks is drawn in the project's
+shapes."""
 from __future__ import annotations
 
 from typing import Any
@@ -40,8 +41,8 @@ class Outlines:
         return float(pen.bounds[1]), float(pen.bounds[3])
 
     def shape(self, name: str) -> Shape | None:
-        """Returns a glyph as a shape, whose origin is at the middle of its first note; nothing where
-        the font has none, or a damaged one."""
+        """Returns a glyph as a shape, whose origin is at the middle of its first note; nothing
+        where the font has none, or a damaged one."""
         if name not in self._glyphs:
             return None
         try:
@@ -55,7 +56,12 @@ class Outlines:
         pen = SVGPathPen(self._glyphs, lambda it: f"{it:.2f}".rstrip("0").rstrip("."))
         self._glyphs[name].draw(TransformPen(pen, (unit, 0, 0, -unit, 0, middle * unit)))
         low, high = self.bounds(name)
-        return Shape(pen.getCommands(), self._glyphs[name].width * unit, (high - middle) * unit + 0.1, (middle - low) * unit + 0.1)
+        return Shape(
+            pen.getCommands(),
+            self._glyphs[name].width * unit,
+            (high - middle) * unit + 0.1,
+            (middle - low) * unit + 0.1,
+        )
 
 
 class _FontShapes(NamedShapes):
@@ -73,7 +79,9 @@ def _origin_of(font: Any) -> str:
     """Returns what a font says of itself: its name and version, whose it is, and its licence."""
     told = [str(font["name"].getDebugName(it) or "").strip() for it in (4, 5, 0, 13, 14)]
     name, *others = told
-    return "\n".join([f"Neumes: outlines of the font {name}", *(it for it in others if it)])[:_MOST_ORIGIN]
+    return "\n".join([f"Neumes: outlines of the font {name}", *(it for it in others if it)])[
+        :_MOST_ORIGIN
+    ]
 
 
 def face_of(path: str) -> Face:

@@ -1,5 +1,5 @@
-"""The names that GregorioTeX gives to glyphs of square notes: a font with these names, and the table of
-symbols that comes with the package, have their outlines by them."""
+"""The names that GregorioTeX gives to glyphs of square notes: a font with these names, and the
+table of symbols that comes with the package, have their outlines by them."""
 from __future__ import annotations
 
 from collections.abc import Iterator
@@ -11,28 +11,61 @@ from gregorio_chant.picture.values import step_of
 
 # The project's shapes of which a font has outlines.
 GLYPHS_OF_SHAPES = {
-    "punctum": "Punctum", "small": "PunctumDeminutus", "inclinatum": "DescendensPunctumInclinatum", "inclinatum-small": "PunctumInclinatumDeminutus",
-    "stropha": "Stropha", "quilisma": "Quilisma", "oriscus": "AscendensOriscus", "oriscus-down": "DescendensOriscus", "linea": "Linea", "c-clef": "CClef",
-    "f-clef": "FClef", "flat": "Flat", "natural": "Natural", "sharp": "Sharp", "custos-up": "CustosUpMedium", "custos-down": "CustosDownMedium",
+    "punctum": "Punctum",
+    "small": "PunctumDeminutus",
+    "inclinatum": "DescendensPunctumInclinatum",
+    "inclinatum-small": "PunctumInclinatumDeminutus",
+    "stropha": "Stropha",
+    "quilisma": "Quilisma",
+    "oriscus": "AscendensOriscus",
+    "oriscus-down": "DescendensOriscus",
+    "linea": "Linea",
+    "c-clef": "CClef",
+    "f-clef": "FClef",
+    "flat": "Flat",
+    "natural": "Natural",
+    "sharp": "Sharp",
+    "custos-up": "CustosUpMedium",
+    "custos-down": "CustosDownMedium",
 }
 CLEFS = frozenset(("CClef", "FClef"))
 # A note by itself, with its stem.
 _SINGLES = {
-    "punctum": "Punctum", "quadratum": "Punctum", "virga": "Virga", "bivirga": "Virga", "trivirga": "Virga", "virga-reversa": "VirgaReversa", "stropha": "Stropha",
-    "distropha": "Stropha", "tristropha": "Stropha", "quilisma": "Quilisma", "lined": "LineaPunctum",
+    "punctum": "Punctum",
+    "quadratum": "Punctum",
+    "virga": "Virga",
+    "bivirga": "Virga",
+    "trivirga": "Virga",
+    "virga-reversa": "VirgaReversa",
+    "stropha": "Stropha",
+    "distropha": "Stropha",
+    "tristropha": "Stropha",
+    "quilisma": "Quilisma",
+    "lined": "LineaPunctum",
 }
 _JOINED = {
-    "pes": "Pes", "clivis": "Flexus", "torculus": "Torculus", "porrectus": "Porrectus", "scandicus": "Scandicus", "torculus-resupinus": "TorculusResupinus",
+    "pes": "Pes",
+    "clivis": "Flexus",
+    "torculus": "Torculus",
+    "porrectus": "Porrectus",
+    "scandicus": "Scandicus",
+    "torculus-resupinus": "TorculusResupinus",
     "porrectus-flexus": "PorrectusFlexus",
 }
 # The same with one note of another shape: which one, its shape, and the name.
 _SPECIAL = {
-    ("pes", 0, "quilisma"): "QuilismaPes", ("pes", 0, "oriscus"): "PesQuassus", ("pes", 0, "quadratum"): "PesQuadratum",
-    ("pes", 0, "quilisma-quadratum"): "QuilismaPesQuadratum", ("clivis", 0, "oriscus"): "FlexusOriscus", ("torculus", 0, "quilisma"): "TorculusQuilisma",
-    ("torculus-resupinus", 0, "quilisma"): "TorculusResupinusQuilisma", ("scandicus", 1, "oriscus"): "Salicus",
+    ("pes", 0, "quilisma"): "QuilismaPes",
+    ("pes", 0, "oriscus"): "PesQuassus",
+    ("pes", 0, "quadratum"): "PesQuadratum",
+    ("pes", 0, "quilisma-quadratum"): "QuilismaPesQuadratum",
+    ("clivis", 0, "oriscus"): "FlexusOriscus",
+    ("torculus", 0, "quilisma"): "TorculusQuilisma",
+    ("torculus-resupinus", 0, "quilisma"): "TorculusResupinusQuilisma",
+    ("scandicus", 1, "oriscus"): "Salicus",
 }
 _STEPS = ("", "One", "Two", "Three", "Four", "Five")
 _ENDS = {"deminutus": "Deminutus", "augmented": "Ascendens", "diminished": "Descendens", None: ""}
+
 
 def _joined_names(glyph: Glyph, count: int) -> Iterator[str]:
     """Yields the names of the glyphs that may be the first notes of a neume, the best one first."""
@@ -41,7 +74,11 @@ def _joined_names(glyph: Glyph, count: int) -> Iterator[str]:
     other = [(kind, at, it.shape) for at, it in enumerate(notes) if it.shape != "punctum"]
     begin = _JOINED.get(kind) if not other else _SPECIAL.get(other[0]) if len(other) == 1 else None
     steps = [abs(step_of(it.pitch) - step_of(before.pitch)) for before, it in zip(notes, notes[1:])]
-    if begin is None or not all(0 < it < len(_STEPS) for it in steps) or any(it.liquescence for it in notes[:-1]):
+    if (
+        begin is None
+        or not all(0 < it < len(_STEPS) for it in steps)
+        or any(it.liquescence for it in notes[:-1])
+    ):
         return
     height = "".join(_STEPS[it] for it in steps)
     end = ("InitioDebilis" if notes[0].is_initio_debilis else "") + _ENDS[notes[-1].liquescence]
@@ -53,7 +90,13 @@ def _single_name(note: Note, shape: str, rises: bool) -> str | None:
     """Returns the name of the glyph that is a note by itself."""
     end = _ENDS[note.liquescence]
     if shape == "inclinatum":
-        return None if note.is_hollow else f"PunctumInclinatum{'Auctus' if end == 'Ascendens' else 'Deminutus'}" if end else None
+        return (
+            None
+            if note.is_hollow
+            else f"PunctumInclinatum{'Auctus' if end == 'Ascendens' else 'Deminutus'}"
+            if end
+            else None
+        )
     if shape in ("oriscus", "oriscus-scapus"):
         begin = f"{'Ascendens' if rises else 'Descendens'}Oriscus{'Scapus' if shape.endswith('scapus') else ''}"
         return "OriscusDeminutus" if end == "Deminutus" and shape == "oriscus" else begin

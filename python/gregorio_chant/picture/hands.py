@@ -13,7 +13,12 @@ from gregorio_chant.picture.widths import width_of
 
 TEXT_SIZE = 9.0
 _TEXT_UP, _TEXT_DOWN = 7.0, 2.5
-_SPACES = {"/": SPACES.nabc_small, "//": SPACES.nabc_large, "`": -SPACES.nabc_small, "``": -SPACES.nabc_large}
+_SPACES = {
+    "/": SPACES.nabc_small,
+    "//": SPACES.nabc_large,
+    "`": -SPACES.nabc_small,
+    "``": -SPACES.nabc_large,
+}
 
 
 class Composed(NamedTuple):

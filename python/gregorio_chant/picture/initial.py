@@ -1,5 +1,5 @@
-"""The initial of a score: its first letter, before the first line or the first two, with the annotations
-over it."""
+"""The initial of a score: its first letter, before the first line or the first two, with the
+annotations over it."""
 from __future__ import annotations
 
 import unicodedata
@@ -10,7 +10,8 @@ from gregorio_chant.picture.spaces import SPACES
 from gregorio_chant.picture.values import Line, Part, Words
 from gregorio_chant.picture.widths import width_of
 
-# The sizes of the letter, for one line and for two, and of the annotations; how high a capital is, and an accent over it.
+# The sizes of the letter, for one line and for two, and of the annotations; how high a capital is,
+# and an accent over it.
 _SIZES = {1: 46.0, 2: 92.0}
 ANNOTATION_SIZE = 12.0
 _CAPITAL, _ACCENT = 0.66, 0.2
@@ -22,8 +23,8 @@ _MOST_PARTS = 20
 
 @dataclass
 class Initial:
-    """An initial that stands before `lines` lines, with these annotations over it. Its letter is known
-    once `take` has found it."""
+    """An initial that stands before `lines` lines, with these annotations over it. Its letter is
+    known once `take` has found it."""
 
     lines: int
     annotations: tuple[str, ...] = ()
@@ -68,13 +69,15 @@ class Initial:
             count += 1
         self.letter = first.text[:count].upper()
         taken = round(width_of(first.text[:count], first.size), 2)
-        rest = first._replace(text=first.text[count:], x=first.x + taken, width=round(first.width - taken, 2))
+        rest = first._replace(
+            text=first.text[count:], x=first.x + taken, width=round(first.width - taken, 2)
+        )
         part.texts = (*((rest,) if rest.text else ()), *part.texts[1:])
         part.text_left += taken if part.texts else 0.0
 
     def stand_in(self, line: Line, *, is_last: bool) -> None:
-        """Puts the annotations before the first of its lines, and the letter before the last of them;
-        `is_last` says whether the score has no further line."""
+        """Puts the annotations before the first of its lines, and the letter before the last of
+        them; `is_last` says whether the score has no further line."""
         if not self.letter or self._passed == self.lines:
             return
         self._passed = self.lines if is_last else self._passed + 1
@@ -87,7 +90,15 @@ class Initial:
             self._annotate(line, middle)
         if self._passed == self.lines:
             width = width_of(self.letter, self._size)
-            line.initial.append(Words(self.letter, round(middle - width / 2, 2), line.text, round(width, 2), self._size))
+            line.initial.append(
+                Words(
+                    self.letter,
+                    round(middle - width / 2, 2),
+                    line.text,
+                    round(width, 2),
+                    self._size,
+                )
+            )
             if is_first:
                 line.top = min(line.top, line.text - self._height)
 
@@ -97,7 +108,9 @@ class Initial:
         for at, words in enumerate(reversed(self.annotations)):
             width = width_of(words, ANNOTATION_SIZE)
             y = height - SPACES.over_initial - at * (ANNOTATION_SIZE + 1.0)
-            line.initial.append(Words(words, round(middle - width / 2, 2), y, round(width, 2), ANNOTATION_SIZE))
+            line.initial.append(
+                Words(words, round(middle - width / 2, 2), y, round(width, 2), ANNOTATION_SIZE)
+            )
             line.top = min(line.top, y - ANNOTATION_SIZE)
 
     @property

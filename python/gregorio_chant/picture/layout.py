@@ -64,7 +64,9 @@ class Layout:
         """Yields the lines in order."""
         maker = LineMaker(self.width, self.staff, self.face.shapes, self.spaces, self.initial)
         parts = self._parts()
-        made, following = itertools.tee(maker.lines_of(parts if self.initial is None else self.initial.take(parts)))
+        made, following = itertools.tee(
+            maker.lines_of(parts if self.initial is None else self.initial.take(parts))
+        )
         next(following, None)
         for (line, end), after in itertools.zip_longest(made, following):
             maker.finish(line, end, None if after is None else _first_pitch(after[0]))
@@ -77,7 +79,9 @@ class Layout:
         for syllable, pitch in _with_pitches(self.syllables):
             parts, text = maker.parts_of(syllable, pitch)
             if "[" in syllable.spelling:
-                self.attributes += sum(isinstance(it, Attribute) and not is_drawn(it) for it in syllable.items)
+                self.attributes += sum(
+                    isinstance(it, Attribute) and not is_drawn(it) for it in syllable.items
+                )
             self.raw += text.raw
             yield from parts
 
@@ -99,7 +103,13 @@ def _first_pitch(line: Line) -> str | None:
     return next((it.part.first for it in line.parts if it.part.first is not None), None)
 
 
-def lay_out(syllables: Iterable[Syllable], width: float, staff: int = USUAL_LINES, face: Face = OWN, hand: Hand = PLAIN) -> list[Line]:
-    """Returns all lines of a score, without an initial; in plain shapes and with NABC as text unless
-    another face and hand are given."""
+def lay_out(
+    syllables: Iterable[Syllable],
+    width: float,
+    staff: int = USUAL_LINES,
+    face: Face = OWN,
+    hand: Hand = PLAIN,
+) -> list[Line]:
+    """Returns all lines of a score, without an initial; in plain shapes and with NABC as text
+    unless another face and hand are given."""
     return list(Layout(syllables, width, staff, face, hand).lines())

@@ -1,4 +1,5 @@
-"""Parts as lines: the clef at a line's begin and the custos at its end, and how high the line is."""
+"""Parts as lines: the clef at a line's begin and the custos at its end, and how high the line
+is."""
 from __future__ import annotations
 
 from collections.abc import Generator, Iterable, Iterator, Mapping, Sequence
@@ -44,26 +45,48 @@ class LineMaker:
     """Makes lines of parts, for a picture of `width` and a staff of `lines` lines, in these shapes;
     `initial` stands before the first ones."""
 
-    def __init__(self, width: float, lines: int, shapes: Mapping[str, Shape], spaces: Spaces = SPACES, initial: Initial | None = None) -> None:
-        self._width, self._lines, self._shapes, self._spaces, self._initial = width, lines, shapes, spaces, initial
+    def __init__(
+        self,
+        width: float,
+        lines: int,
+        shapes: Mapping[str, Shape],
+        spaces: Spaces = SPACES,
+        initial: Initial | None = None,
+    ) -> None:
+        self._width, self._lines, self._shapes, self._spaces, self._initial = (
+            width,
+            lines,
+            shapes,
+            spaces,
+            initial,
+        )
         self._clef: Clef | None = None
         self._measured: tuple[Clef | None, float] = (None, 0.0)
         self._made = 0
 
     def _indent(self, number: int) -> float:
         """Returns where the staff of a line begins, by its number from 0."""
-        return self._initial.room if self._initial is not None and number < self._initial.lines else 0.0
+        return (
+            self._initial.room
+            if self._initial is not None and number < self._initial.lines
+            else 0.0
+        )
 
     def _start(self, part: Part, clef: Clef | None, number: int) -> float:
-        """Returns where the notes of a line begin: after the clef in force, if it does not begin with
-        its own."""
+        """Returns where the notes of a line begin: after the clef in force, if it does not begin
+        with its own."""
         begins_with_clef = bool(part.blocks) and part.blocks[0][1].clef is not None
-        return self._indent(number) + (0.0 if clef is None or begins_with_clef else self._clef_width(clef))
+        return self._indent(number) + (
+            0.0 if clef is None or begins_with_clef else self._clef_width(clef)
+        )
 
     def _clef_width(self, clef: Clef) -> float:
         """Returns what a clef takes at a line's beginning. The last one is kept."""
         if clef is not self._measured[0]:
-            self._measured = clef, staff.clef(clef, self._shapes).width + self._spaces.after_line_clef
+            self._measured = (
+                clef,
+                staff.clef(clef, self._shapes).width + self._spaces.after_line_clef,
+            )
         return self._measured[1]
 
     def lines_of(self, parts: Iterable[Part]) -> Iterator[tuple[Line, End]]:
@@ -88,7 +111,11 @@ class LineMaker:
         width = self._width - self._spaces.custos
         left = 0 if self._initial is None else max(self._initial.lines - self._made, 0)
         rooms = [
-            [Room(self._start(unit[0], clef, self._made + number), width) for unit, clef in zip(units, clefs)] for number in range(left + 1)
+            [
+                Room(self._start(unit[0], clef, self._made + number), width)
+                for unit, clef in zip(units, clefs)
+            ]
+            for number in range(left + 1)
         ]
         return breaks_of(units, rooms, end.asked, self._spaces)
 
@@ -132,7 +159,9 @@ class LineMaker:
         line = Line(placed, width=self._width, indent=indent)
         if self._clef is not None and self._start(placed[0].part, self._clef, self._made) > indent:
             line.signs += moved(staff.clef(self._clef, self._shapes).signs, indent)
-        self._clef = next((it.part.clef for it in reversed(placed) if it.part.clef is not None), self._clef)
+        self._clef = next(
+            (it.part.clef for it in reversed(placed) if it.part.clef is not None), self._clef
+        )
         self._made += 1
         return line
 
@@ -147,7 +176,11 @@ class LineMaker:
             signs, width = staff.custos(following, self._lines, self._shapes)
             line.signs += moved(signs, self._width - width - spaces.custos_to_end)
         line.hyphens = list(hyphens(line.parts))
-        line.curves = list(curves_of(((it.x + x, block) for it in line.parts for x, block in it.part.blocks), self._width))
+        line.curves = list(
+            curves_of(
+                ((it.x + x, block) for it in line.parts for x, block in it.part.blocks), self._width
+            )
+        )
         self._set_heights(line)
 
     def _set_heights(self, line: Line) -> None:
@@ -176,12 +209,22 @@ def _clef_of(unit: Unit) -> Clef | None:
 def _bounds(line: Line, shapes: Mapping[str, Shape]) -> tuple[float, float]:
     """Returns how far the signs of a line go up and down."""
     top = bottom = 0.0
-    signs = [*line.signs, *(it for placed in line.parts for _, block in placed.part.blocks for it in block.signs)]
+    signs = [
+        *line.signs,
+        *(it for placed in line.parts for _, block in placed.part.blocks for it in block.signs),
+    ]
     for it in signs:
-        up, down = (0.0, it.height) if isinstance(it, Rect) else (shapes[it.shape].up, shapes[it.shape].down)
+        up, down = (
+            (0.0, it.height)
+            if isinstance(it, Rect)
+            else (shapes[it.shape].up, shapes[it.shape].down)
+        )
         top, bottom = min(top, it.y - up), max(bottom, it.y + down)
     for curve in line.curves:
-        top, bottom = min(top, curve.y - curve.height) if curve.over else top, max(bottom, curve.y + curve.height) if not curve.over else bottom
+        top, bottom = (
+            min(top, curve.y - curve.height) if curve.over else top,
+            max(bottom, curve.y + curve.height) if not curve.over else bottom,
+        )
     for placed in line.parts:
         for _, block in placed.part.blocks:
             top = min(top, *(words.y - words.size for words in block.texts), top)
@@ -202,7 +245,7 @@ def _rows(line: Line, spaces: Spaces) -> tuple[tuple[float, ...], float]:
 
 
 def _ends_without_custos(line: Line) -> bool:
-    """Returns whether no custos is to stand at the end of a line: the score has one of its own there, or
-    wants none."""
+    """Returns whether no custos is to stand at the end of a line: the score has one of its own
+    there, or wants none."""
     blocks = (block for it in reversed(line.parts) for _, block in reversed(it.part.blocks))
     return next((it.is_custos or it.no_custos for it in blocks if it.signs), False)

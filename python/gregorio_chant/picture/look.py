@@ -13,9 +13,9 @@ USUAL_WIDTH = 720.0
 
 @dataclass(frozen=True)
 class Look:
-    """How a picture looks. `width` is in pixels; `hand` names that of the NABC; `has_initial` says whether
-    the first letter stands before the first line, as large as the header `initial-style` says, and
-    `has_notes` whether a line at the foot says what is not drawn."""
+    """How a picture looks. `width` is in pixels; `hand` names that of the NABC; `has_initial` says
+    whether the first letter stands before the first line, as large as the header `initial-style`
+    says, and `has_notes` whether a line at the foot says what is not drawn."""
 
     width: float = USUAL_WIDTH
     face: Face = field(default_factory=square_face)

@@ -7,8 +7,8 @@ from collections.abc import Sequence
 from dataclasses import dataclass, field
 
 from gregorio_chant._native import library
-from gregorio_chant.format.losses import Comparison
 from gregorio_chant._native.results import Kind, Message
+from gregorio_chant.format.losses import Comparison
 from gregorio_chant.text.scan import SyllableSpan
 from gregorio_chant.text.source import Place, text_of
 
@@ -88,10 +88,16 @@ class _Finder:
         this syllable; where it was changed, nearby."""
         if number not in self._offsets:
             written = self._comparison.written
-            there = written.without_comments(written.syllables[number]) if number < len(written.syllables) else []
+            there = (
+                written.without_comments(written.syllables[number])
+                if number < len(written.syllables)
+                else []
+            )
             self._offsets[number] = self._offsets_of(number), there
         here, there = self._offsets[number]
-        left_out = bisect.bisect_left(self._left_out, offset) - bisect.bisect_left(self._left_out, self._begins[number])
+        left_out = bisect.bisect_left(self._left_out, offset) - bisect.bisect_left(
+            self._left_out, self._begins[number]
+        )
         passed = max(bisect.bisect_left(here, offset) - left_out, 0)
         return there[min(passed, len(there) - 1)] if there else 0
 
@@ -110,7 +116,9 @@ def places_of(data: bytes, messages: Sequence[Message], count: int) -> Places:
         offset = comparison.lines.offset(message.line, message.column)
         number = None if message.kind is Kind.FATAL else finder.syllable_at(offset)
         if number is not None:
-            places.by_syllable.setdefault(number, []).append(Mark(at, message, finder.written(number, offset)))
+            places.by_syllable.setdefault(number, []).append(
+                Mark(at, message, finder.written(number, offset))
+            )
         elif offset < first and message.kind is not Kind.FATAL:
             places.before.append(Mark(at, message))
         else:

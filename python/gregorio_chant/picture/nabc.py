@@ -1,5 +1,5 @@
-"""Neumes of NABC in the outlines of a table: a descriptor as the one outline that it has, or as its glyphs
-with points at both sides and letters at their places around them (GregorioNabcRef)."""
+"""Neumes of NABC in the outlines of a table: a descriptor as the one outline that it has, or as its
+glyphs with points at both sides and letters at their places around them (GregorioNabcRef)."""
 from __future__ import annotations
 
 import itertools
@@ -51,17 +51,28 @@ class _Named(NamedTuple):
 
 def _glyph_name(glyph: NabcGlyph) -> str:
     modifiers = "".join(glyph.modifiers)
-    return glyph.code + "".join(it for it in _MODIFIERS if it in modifiers) + "".join(it for it in modifiers if it.isdigit())[-1:]
+    return (
+        glyph.code
+        + "".join(it for it in _MODIFIERS if it in modifiers)
+        + "".join(it for it in modifiers if it.isdigit())[-1:]
+    )
 
 
 def _named(descriptor: Descriptor) -> _Named:
     glyphs = descriptor.glyphs
     pitch = glyphs[0].pitch or _USUAL_PITCH
     before, after = (
-        "".join(f"{it.kind}{it.letter}{it.count}" for it in descriptor.points if it.kind == kind) for kind in ("pp", "su")
+        "".join(f"{it.kind}{it.letter}{it.count}" for it in descriptor.points if it.kind == kind)
+        for kind in ("pp", "su")
     )
     letters = tuple((f"{it.kind}{it.text}", it.position) for it in descriptor.letters)
-    return _Named("!".join(map(_glyph_name, glyphs)), before, after, letters, _RISE * (ord(pitch) - ord(_USUAL_PITCH)))
+    return _Named(
+        "!".join(map(_glyph_name, glyphs)),
+        before,
+        after,
+        letters,
+        _RISE * (ord(pitch) - ord(_USUAL_PITCH)),
+    )
 
 
 class _Shapes(dict[str, Shape]):
@@ -99,22 +110,41 @@ class TableHand(Hand):
 
     def _compose(self, named: _Named) -> Composed | None:
         """Returns the outline that has most of the parts, with the others around it."""
-        for before, after, letters in itertools.product({named.before: 0, "": 0}, {named.after: 0, "": 0}, {named.letters: 0, (): 0}):
+        for before, after, letters in itertools.product(
+            {named.before: 0, "": 0}, {named.after: 0, "": 0}, {named.letters: 0, (): 0}
+        ):
             for order in itertools.permutations(letters):
-                whole = self._shapes.name(named.base + before + after + "".join(f"{text}{at}" for text, at in order))
+                whole = self._shapes.name(
+                    named.base + before + after + "".join(f"{text}{at}" for text, at in order)
+                )
                 if whole is not None:
-                    return self._around(whole, "" if before else named.before, "" if after else named.after, () if letters else named.letters, named.rise)
+                    return self._around(
+                        whole,
+                        "" if before else named.before,
+                        "" if after else named.after,
+                        () if letters else named.letters,
+                        named.rise,
+                    )
         return None
 
-    def _around(self, glyph: str, before: str, after: str, letters: Sequence[tuple[str, int]], rise: float) -> Composed | None:
-        """Returns a glyph with points and letters around it; nothing if the hand lacks one of them."""
-        names = [self._shapes.name(it) for it in (before, after, *(text for text, _ in letters)) if it]
+    def _around(
+        self, glyph: str, before: str, after: str, letters: Sequence[tuple[str, int]], rise: float
+    ) -> Composed | None:
+        """Returns a glyph with points and letters around it; nothing if the hand lacks one of
+        them."""
+        names = [
+            self._shapes.name(it) for it in (before, after, *(text for text, _ in letters)) if it
+        ]
         if None in names:
             return None
         signs: list[Use] = []
         x = 0.0
         box = _Box(0.0, 0.0, 0.0, 0.0)
-        for name in (self._shapes.name(before) if before else None, glyph, self._shapes.name(after) if after else None):
+        for name in (
+            self._shapes.name(before) if before else None,
+            glyph,
+            self._shapes.name(after) if after else None,
+        ):
             if name is None:
                 continue
             shape = self._shapes[name]
@@ -129,7 +159,8 @@ class TableHand(Hand):
         return Composed(tuple(it.moved(-left) for it in signs), round(right - left, 2))
 
     def _letters(self, letters: Iterable[tuple[str, int]], box: _Box) -> Iterator[Use]:
-        """Yields letters around what stands in a box; of two at one place the second stands outside."""
+        """Yields letters around what stands in a box; of two at one place the second stands
+        outside."""
         taken: dict[int, float] = {}
         for text, number in letters:
             name = self._shapes.name(text)
@@ -145,7 +176,9 @@ class TableHand(Hand):
 def _place(shape: Shape, box: _Box, column: str, row: str, further: float) -> tuple[float, float]:
     """Returns where a letter stands around a box."""
     x = {
-        "left": box.left - shape.width - _BETWEEN - further, "middle": (box.left + box.right - shape.width) / 2 + further, "right": box.right + _BETWEEN + further,
+        "left": box.left - shape.width - _BETWEEN - further,
+        "middle": (box.left + box.right - shape.width) / 2 + further,
+        "right": box.right + _BETWEEN + further,
     }[column]
     over = box.top - _BETWEEN - shape.down if column == "middle" else box.top + shape.up / 2
     under = box.bottom + _BETWEEN + shape.up if column == "middle" else box.bottom + shape.up / 2

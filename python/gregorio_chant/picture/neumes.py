@@ -14,13 +14,33 @@ from gregorio_chant.picture.values import STEP, Head, Rect, Sign, Use, height_of
 # left, v at its right; s begins a broad stroke with such a stem, t one without, and e is where the
 # stroke ends; i is an inclinatum, a stands by itself.
 _PLANS = {
-    "pes": "no", "clivis": "ln", "torculus": "nnn", "porrectus": "seo", "scandicus-flexus": "nnnn", "torculus-resupinus": "nteo", "porrectus-flexus": "senn",
+    "pes": "no",
+    "clivis": "ln",
+    "torculus": "nnn",
+    "porrectus": "seo",
+    "scandicus-flexus": "nnnn",
+    "torculus-resupinus": "nteo",
+    "porrectus-flexus": "senn",
     "torculus-resupinus-flexus": "ntenn",
 }
 _SHAPES = {
-    "punctum": "punctum", "quadratum": "punctum", "oriscus": "oriscus", "oriscus-scapus": "oriscus", "quilisma": "quilisma",
-    "quilisma-quadratum": "quilisma", "stropha": "stropha", "distropha": "stropha", "tristropha": "stropha", "virga": "punctum", "virga-reversa": "punctum",
-    "bivirga": "punctum", "trivirga": "punctum", "cavum": "cavum", "lined": "punctum", "linea": "linea", "inclinatum": "inclinatum",
+    "punctum": "punctum",
+    "quadratum": "punctum",
+    "oriscus": "oriscus",
+    "oriscus-scapus": "oriscus",
+    "quilisma": "quilisma",
+    "quilisma-quadratum": "quilisma",
+    "stropha": "stropha",
+    "distropha": "stropha",
+    "tristropha": "stropha",
+    "virga": "punctum",
+    "virga-reversa": "punctum",
+    "bivirga": "punctum",
+    "trivirga": "punctum",
+    "cavum": "cavum",
+    "lined": "punctum",
+    "linea": "linea",
+    "inclinatum": "inclinatum",
 }
 _ORISCI = frozenset(("oriscus", "oriscus-scapus"))
 _TAILS = {"augmented": "tail-up", "diminished": "tail-down"}
@@ -53,7 +73,9 @@ def _plan_of(glyph: Glyph) -> str:
         begin = "n" * (count - diamonds - more.endswith("resupinus"))
     else:
         begin = _PLANS.get(kind, "a")
-    return begin + "".join("i" if it.shape == "inclinatum" else "a" for it in glyph.notes[len(begin) :])
+    return begin + "".join(
+        "i" if it.shape == "inclinatum" else "a" for it in glyph.notes[len(begin) :]
+    )
 
 
 def _fitting(plan: str, notes: tuple[Note, ...]) -> str:
@@ -103,7 +125,10 @@ class _Pen:
 
     def __init__(self, face: Face, glyph: Glyph, plan: str, following: str | None) -> None:
         self._face, self._glyph, self._plan = face, glyph, plan
-        self._up = [it.shape in _ORISCI and _rises(glyph.notes, at, following) for at, it in enumerate(glyph.notes)]
+        self._up = [
+            it.shape in _ORISCI and _rises(glyph.notes, at, following)
+            for at, it in enumerate(glyph.notes)
+        ]
         self._head_width = face.shapes["punctum"].width
         self.signs: list[Sign] = []
         self.heads: list[Head] = []
@@ -126,7 +151,17 @@ class _Pen:
         columns = _columns(self._plan[:count], width, self._head_width)
         over = [it == "o" for it in (*self._plan[:count], "")]
         for at, (note, x) in enumerate(zip(notes, columns)):
-            self.heads.append(Head(note, x, height_of(step_of(note.pitch)), self._head_width, over[at], over[at + 1], self._foot(at)))
+            self.heads.append(
+                Head(
+                    note,
+                    x,
+                    height_of(step_of(note.pitch)),
+                    self._head_width,
+                    over[at],
+                    over[at + 1],
+                    self._foot(at),
+                )
+            )
         self.x = width
         return count
 
@@ -147,7 +182,11 @@ class _Pen:
         """Returns how much lower than that of a head the black of a note goes, by its number."""
         if self._plan[at] not in "st":
             return 0.0
-        return _STROKE_FOOT + step_of(self._glyph.notes[at].pitch) - step_of(self._glyph.notes[at + 1].pitch)
+        return (
+            _STROKE_FOOT
+            + step_of(self._glyph.notes[at].pitch)
+            - step_of(self._glyph.notes[at + 1].pitch)
+        )
 
     def _join(self, x: float, y: float) -> None:
         """Joins a head at `y` with the one before, at `x`."""
@@ -175,7 +214,10 @@ class _Pen:
         right = below.x + below.width
         if below.y - y == STEP:
             shape = _OVER.get(shape, shape)
-            self.signs = [_under(it) if isinstance(it, Use) and it[1:] == (below.x, below.y) else it for it in self.signs]
+            self.signs = [
+                _under(it) if isinstance(it, Use) and it[1:] == (below.x, below.y) else it
+                for it in self.signs
+            ]
         self._join(right, y)
         self.signs.append(Use(shape, right - width, y))
         self._tails(note, right, y)
@@ -185,7 +227,10 @@ class _Pen:
         """Moves the last head to the right, so that a broader one has room over it."""
         last = self.heads[-1]
         if by:
-            self.signs = [it.moved(by) if isinstance(it, Use) and it[1:] == (last.x, last.y) else it for it in self.signs]
+            self.signs = [
+                it.moved(by) if isinstance(it, Use) and it[1:] == (last.x, last.y) else it
+                for it in self.signs
+            ]
             self.heads[-1] = last._replace(x=last.x + by)
             self.x += by
 
@@ -193,7 +238,9 @@ class _Pen:
         if self.heads:
             before = self.heads[-1]
             rise = abs(before.y - y) / STEP
-            self.x += (0.2 if before.note.shape == "inclinatum" else 1.2) + (-1.4 if rise == 1 else 0.0 if rise == 2 else 0.8)
+            self.x += (0.2 if before.note.shape == "inclinatum" else 1.2) + (
+                -1.4 if rise == 1 else 0.0 if rise == 2 else 0.8
+            )
         shape, width = self._shape_of(note)
         self.signs.append(Use(shape, self.x, y))
         self.heads.append(Head(note, self.x, y, width))
@@ -219,7 +266,9 @@ class _Pen:
 
     def _is_up(self, note: Note) -> bool:
         """Returns whether a note is an oriscus that points up."""
-        return note.shape in _ORISCI and any(up for it, up in zip(self._glyph.notes, self._up) if it is note)
+        return note.shape in _ORISCI and any(
+            up for it, up in zip(self._glyph.notes, self._up) if it is note
+        )
 
     def _whole(self, name: str, note: Note, y: float) -> None:
         """Writes a note that one shape is, as often as it sounds."""
@@ -286,4 +335,6 @@ def neume_of(glyph: Glyph, face: Face = OWN, following: str | None = None) -> Ne
     last one."""
     pen = _Pen(face, glyph, _fitting(_plan_of(glyph), glyph.notes), following)
     pen.write()
-    return Neume(tuple(pen.signs), tuple(pen.heads), max(pen.x, *(it.x + it.width for it in pen.heads)))
+    return Neume(
+        tuple(pen.signs), tuple(pen.heads), max(pen.x, *(it.x + it.width for it in pen.heads))
+    )

@@ -12,14 +12,16 @@ from dataclasses import dataclass, field
 from html import escape
 from pathlib import Path
 
+from gregorio_chant._native.results import Kind
+from gregorio_chant.objects.sounds import TICKS, Sound
 from gregorio_chant.picture.drawing import Picture
 from gregorio_chant.picture.shown import shown
 from gregorio_chant.picture.svg import STYLE as PICTURE_STYLE
 from gregorio_chant.report.reports import Checked, summary_of
-from gregorio_chant._native.results import Kind
-from gregorio_chant.objects.sounds import TICKS, Sound
 
-STYLE = PICTURE_STYLE + """
+STYLE = (
+    PICTURE_STYLE
+    + """
 :root{color-scheme:light dark}
 body{margin:0 auto;padding:1rem;max-width:60rem;font:1rem/1.5 sans-serif;color:#111;background:#fff}
 h1{font-size:1.4rem}h2{font-size:1.1rem;overflow-wrap:anywhere}
@@ -43,6 +45,7 @@ table{border-collapse:collapse;margin-bottom:1.5rem}td,th{text-align:left;paddin
 @media print{details,.back,.sing,.messages .way,.messages .wide,.messages .narrow,.picture.narrow{display:none}.picture.wide{display:block}.messages a{color:inherit;text-decoration:none}body{max-width:none;padding:0;color:#000;background:#fff}section{break-inside:avoid-page}
 .chant{color:#000}.chant .paper{fill:#fff}}
 """
+)
 # How wide a picture for narrow screens is, in pixels.
 NARROW = 360.0
 # The most bytes of a score that is drawn while it is written, in a browser or an editor.
@@ -83,7 +86,12 @@ class Entry:
     @property
     def rank(self) -> tuple[int, int, int, str]:
         """What comes first is less: fatal faults, then errors, then warnings."""
-        return -self.kinds[Kind.FATAL], -self.kinds[Kind.ERROR], -self.kinds[Kind.WARNING], self.name
+        return (
+            -self.kinds[Kind.FATAL],
+            -self.kinds[Kind.ERROR],
+            -self.kinds[Kind.WARNING],
+            self.name,
+        )
 
 
 # The script by which a page sings.
@@ -106,8 +114,8 @@ def sing_panel(sounds: Iterable[Sound], prefixes: str) -> str:
 
 
 def notes_of(sounds: Iterable[Sound]) -> list[tuple[int, int, int | None, float]]:
-    """Returns sounds as the script takes them: number of the syllable, number of the note in it, key,
-    and how many notes long."""
+    """Returns sounds as the script takes them: number of the syllable, number of the note in it,
+    key, and how many notes long."""
     return [(it.syllable, it.note, it.key, it.ticks / TICKS) for it in sounds]
 
 
@@ -156,7 +164,11 @@ def list_of_messages(score: Shown) -> Iterator[str]:
 
 def _links(score: Shown, number: int) -> Iterator[str]:
     """Yields the links from a message into the pictures."""
-    kinds = ((' class="way"', score.picture),) if score.narrow is None else ((' class="wide"', score.picture), (' class="narrow"', score.narrow))
+    kinds = (
+        ((' class="way"', score.picture),)
+        if score.narrow is None
+        else ((' class="wide"', score.picture), (' class="narrow"', score.narrow))
+    )
     for kind, picture in kinds:
         place = picture.places.get(number)
         if place:
@@ -176,7 +188,7 @@ def _source(score: Shown) -> Iterator[str]:
 
 def section(score: Shown) -> Iterator[str]:
     """Yields the part of a page that a score has."""
-    yield f'<section>\n<h2><bdi>{text(score.name)}</bdi></h2>\n'
+    yield f"<section>\n<h2><bdi>{text(score.name)}</bdi></h2>\n"
     yield f'<div class="picture{"" if score.narrow is None else " wide"}">\n'
     yield from score.picture.pieces
     yield "</div>\n"
@@ -185,7 +197,10 @@ def section(score: Shown) -> Iterator[str]:
         yield from score.narrow.pieces
         yield "</div>\n"
     if score.sounds:
-        yield sing_panel(score.sounds, score.prefix if score.narrow is None else f"{score.prefix} {score.prefix}n-")
+        yield sing_panel(
+            score.sounds,
+            score.prefix if score.narrow is None else f"{score.prefix} {score.prefix}n-",
+        )
     if score.with_messages:
         yield from list_of_messages(score)
     yield from _source(score)
@@ -207,7 +222,11 @@ def page_of(scores: Sequence[Shown], title: str, note: str = "", back: str = "")
 
 def _common_folder(names: Sequence[str]) -> str:
     """Returns the folder that all names begin with, with its last `/`; nothing if there is none."""
-    common = os.path.commonprefix([it.rpartition("/")[0] + "/" for it in names if "/" in it]) if all("/" in it for it in names) else ""
+    common = (
+        os.path.commonprefix([it.rpartition("/")[0] + "/" for it in names if "/" in it])
+        if all("/" in it for it in names)
+        else ""
+    )
     return common[: common.rfind("/") + 1]
 
 
@@ -220,7 +239,10 @@ def index_of(entries: Sequence[Entry], failed: int) -> Iterator[str]:
     yield f"<h1>{text(title)}</h1>\n"
     if codes:
         yield '<table>\n<tr><th>Code<th class="n">Found</tr>\n'
-        yield from (f'<tr><td>{text(code)}<td class="n">{count:,}</tr>\n' for code, count in sorted(codes.items(), key=lambda it: (-it[1], it[0])))
+        yield from (
+            f'<tr><td>{text(code)}<td class="n">{count:,}</tr>\n'
+            for code, count in sorted(codes.items(), key=lambda it: (-it[1], it[0]))
+        )
         yield "</table>\n"
     yield '<table class="index">\n<tr><th>Score<th>Name<th class="n">Errors<th class="n">Warnings<th>Codes</tr>\n'
     common = _common_folder([it.name for it in entries])

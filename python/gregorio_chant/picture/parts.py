@@ -56,7 +56,16 @@ def _row_of(blocks: list[tuple[float, Block]], width: float) -> _Row:
         has_bar = has_bar or it.is_bar
     at = anchor or 0.0
     placed = tuple([(round(x - at, 2), it) for x, it in blocks])
-    return _Row(placed, round(-at, 2), round(width - at, 2), anchor is not None, first, clef, ends_line, has_bar and first is None)
+    return _Row(
+        placed,
+        round(-at, 2),
+        round(width - at, 2),
+        anchor is not None,
+        first,
+        clef,
+        ends_line,
+        has_bar and first is None,
+    )
 
 
 _NO_BLOCKS = _row_of([], 0.0)
@@ -102,7 +111,11 @@ def _cut(words: tuple[Words, ...], room: float) -> list[tuple[Words, ...]]:
     for it in words:
         rest = it.text
         while rest:
-            fits = len(rest) if x + it.width <= room else max(1, int(len(rest) * (room - x) / max(it.width, 1)))
+            fits = (
+                len(rest)
+                if x + it.width <= room
+                else max(1, int(len(rest) * (room - x) / max(it.width, 1)))
+            )
             if line and x + it.width > room and fits < 2:
                 lines.append(tuple(line))
                 line, x = [], 0.0
@@ -120,8 +133,17 @@ def _cut(words: tuple[Words, ...], room: float) -> list[tuple[Words, ...]]:
 def _part_of(syllable: Syllable, number: int, row: _Row) -> Part:
     """Returns a part with these blocks and no text."""
     return Part(
-        syllable, number, row.blocks, row.left, row.right, has_anchor=row.has_anchor, first=row.first, clef=row.clef, ends_line=row.ends_line,
-        is_bar=row.is_bar, begins=number == 0 and syllable.begins_word,
+        syllable,
+        number,
+        row.blocks,
+        row.left,
+        row.right,
+        has_anchor=row.has_anchor,
+        first=row.first,
+        clef=row.clef,
+        ends_line=row.ends_line,
+        is_bar=row.is_bar,
+        begins=number == 0 and syllable.begins_word,
     )
 
 
@@ -138,15 +160,27 @@ class PartMaker:
     """Makes syllables to parts on lines of a staff with this much room. The rows of notes that were
     made last are kept, since a score has its snippets often."""
 
-    def __init__(self, lines: int, room: float, face: Face = OWN, hand: Hand = PLAIN, language: str = LATIN) -> None:
-        self._lines, self._room, self._face, self._hand, self._language = lines, room, face, hand, language
+    def __init__(
+        self, lines: int, room: float, face: Face = OWN, hand: Hand = PLAIN, language: str = LATIN
+    ) -> None:
+        self._lines, self._room, self._face, self._hand, self._language = (
+            lines,
+            room,
+            face,
+            hand,
+            language,
+        )
         self._kept: dict[tuple[str, str | None], list[_Row]] = {}
 
-    def parts_of(self, syllable: Syllable, following: str | None) -> tuple[list[Part], SyllableText]:
+    def parts_of(
+        self, syllable: Syllable, following: str | None
+    ) -> tuple[list[Part], SyllableText]:
         """Returns the parts of a syllable before this pitch, and its text."""
         text, words, middle = read_and_set(syllable.text, self._language)
         room = self._room
-        parts = [_part_of(syllable, at, it) for at, it in enumerate(self._rows_of(syllable, following))]
+        parts = [
+            _part_of(syllable, at, it) for at, it in enumerate(self._rows_of(syllable, following))
+        ]
         texts = _cut(words, room) if words and words[-1].x + words[-1].width > room else [words]
         if len(texts) > 1:
             middle = 0.0
@@ -160,16 +194,20 @@ class PartMaker:
             left = first.text_left if first.has_text else first.left
             first.translation = _shortened(syllable.translation, TRANSLATION_SIZE, room).moved(left)
         if text.above:
-            first.above = tuple(_shortened(it, ABOVE_SIZE, room).moved(first.left) for it in text.above)
+            first.above = tuple(
+                _shortened(it, ABOVE_SIZE, room).moved(first.left) for it in text.above
+            )
         for part in parts:
-            part.above += tuple([words.moved(x) for x, block in part.blocks for words in block.above])
+            part.above += tuple(
+                [words.moved(x) for x, block in part.blocks for words in block.above]
+            )
         if len(parts) > 1:
             _add_ends(parts)
         return parts, text
 
     def _rows_of(self, syllable: Syllable, following: str | None) -> list[_Row]:
-        """Returns the notes of a syllable in rows. Those of one snippet depend on its spelling and on
-        the pitch after it."""
+        """Returns the notes of a syllable in rows. Those of one snippet depend on its spelling and
+        on the pitch after it."""
         if len(syllable.snippets) != 1:
             return self._made(syllable, following)
         key = syllable.snippets[0].spelling, following
@@ -181,7 +219,11 @@ class PartMaker:
         return rows
 
     def _made(self, syllable: Syllable, following: str | None) -> list[_Row]:
-        return list(_cut_into_rows(blocks_of(syllable, self._lines, following, self._face, self._hand), self._room)) or [_NO_BLOCKS]
+        return list(
+            _cut_into_rows(
+                blocks_of(syllable, self._lines, following, self._face, self._hand), self._room
+            )
+        ) or [_NO_BLOCKS]
 
 
 def _add_ends(parts: list[Part]) -> None:
@@ -189,6 +231,10 @@ def _add_ends(parts: list[Part]) -> None:
     no place there."""
     end: int | None = None
     for part in reversed(parts):
-        part.begin = begin_of_notes(part.syllable) + part.blocks[0][1].offset if part.number and part.blocks else 0
+        part.begin = (
+            begin_of_notes(part.syllable) + part.blocks[0][1].offset
+            if part.number and part.blocks
+            else 0
+        )
         part.end = end if part.number == 0 or part.blocks else 0
         end = part.begin if part.blocks else end

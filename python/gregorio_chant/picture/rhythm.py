@@ -29,7 +29,9 @@ def _dot_steps(neume: Neume) -> list[tuple[Head, int]]:
     notes. None stands on a line, and no two at one step."""
     heads = neume.heads
     wanted: list[tuple[Head, int]] = []
-    for head, following, count in zip(heads, (*heads[1:], None), morae_of([it.note for it in heads])):
+    for head, following, count in zip(
+        heads, (*heads[1:], None), morae_of([it.note for it in heads])
+    ):
         bearer = following if following is not None and following.note.morae > 1 else head
         wanted += [(bearer, step_of(head.note.pitch))] * count
     found: list[tuple[Head, int]] = []
@@ -63,4 +65,6 @@ def _ledgers(neume: Neume, lines: int) -> Iterator[Rect]:
         step = step_of(head.note.pitch)
         steps = [*range(2 * lines, step + 1, 2), *range(-2, step - 1, -2)]
         for it in steps:
-            yield Rect(head.x - _LEDGER_OVER, height_of(it) - 0.35, head.width + 2 * _LEDGER_OVER, 0.7)
+            yield Rect(
+                head.x - _LEDGER_OVER, height_of(it) - 0.35, head.width + 2 * _LEDGER_OVER, 0.7
+            )

@@ -47,7 +47,9 @@ class Cursor:
                 left += spaces.between_words
             if x < left:
                 x = left
-            elif not begins and not self.is_first and spaces.letters_touch < x - left < _HYPHEN_ROOM:
+            elif (
+                not begins and not self.is_first and spaces.letters_touch < x - left < _HYPHEN_ROOM
+            ):
                 x = left + _HYPHEN_ROOM
         if part.translation is not None:
             x = max(x, self.translation + spaces.between_translations - part.translation.x)
@@ -79,7 +81,11 @@ def spread(placed: Sequence[Placed], free: float, width: float) -> None:
     wide enough then for a hyphen. No translation and no text over the staff goes beyond `width`."""
     gaps = list(_gaps(placed))
     all_gaps = [at for at, _ in gaps]
-    chosen = all_gaps if gaps and free / len(gaps) >= _HYPHEN_ROOM else [at for at, is_open in gaps if is_open]
+    chosen = (
+        all_gaps
+        if gaps and free / len(gaps) >= _HYPHEN_ROOM
+        else [at for at, is_open in gaps if is_open]
+    )
     if not chosen or free <= 0:
         return
     each = free / len(chosen)
@@ -88,7 +94,11 @@ def spread(placed: Sequence[Placed], free: float, width: float) -> None:
         passed[at] = (passed[at - 1] if at else 0) + (at in at_gap)
         others = (*it.part.above, *(() if it.part.translation is None else (it.part.translation,)))
         if others and passed[at]:
-            each = min(each, max(width - it.x - max(other.x + other.width for other in others), 0.0) / passed[at])
+            each = min(
+                each,
+                max(width - it.x - max(other.x + other.width for other in others), 0.0)
+                / passed[at],
+            )
     for it, count in zip(placed, passed):
         it.x += count * each
 
@@ -114,4 +124,10 @@ def hyphens(placed: Sequence[Placed]) -> Iterator[Words]:
 
 def right_of(placed: Sequence[Placed]) -> float:
     """Returns how far to the right parts reach."""
-    return max((it.x + max(it.part.right, it.part.text_right if it.part.has_text else it.part.right) for it in placed), default=0.0)
+    return max(
+        (
+            it.x + max(it.part.right, it.part.text_right if it.part.has_text else it.part.right)
+            for it in placed
+        ),
+        default=0.0,
+    )

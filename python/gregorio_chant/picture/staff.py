@@ -39,7 +39,9 @@ def clef(item: Clef, shapes: Mapping[str, Shape] = SHAPES) -> Signs:
         signs.append(Use(f"{it.letter}-clef", x, height_of(line)))
         right = x + shape.width
         if it.has_flat:
-            signs.append(Use("flat", right + 0.6, height_of(line + (-1 if it.letter == "c" else 3))))
+            signs.append(
+                Use("flat", right + 0.6, height_of(line + (-1 if it.letter == "c" else 3)))
+            )
             right += shapes["flat"].width + 0.6
         width, before = max(width, right), line
     return Signs(tuple(signs), width)
@@ -51,7 +53,10 @@ def alteration(item: Alteration, shapes: Mapping[str, Shape] = SHAPES) -> Signs:
     if not item.is_bracketed:
         return Signs((Use(item.sign, 0.0, y),), shape.width)
     width = shape.width + 2.8
-    return Signs((Use("bracket-left", 0.0, y), Use(item.sign, 2.8, y), Use("bracket-right", width, y)), width + 2.6)
+    return Signs(
+        (Use("bracket-left", 0.0, y), Use(item.sign, 2.8, y), Use("bracket-right", width, y)),
+        width + 2.6,
+    )
 
 
 def _upright(low: float, high: float, x: float = 0.0) -> Rect:
@@ -84,7 +89,9 @@ def bar(item: Bar, lines: int) -> Signs:
     """Returns a bar on a staff of `lines` lines, with its ictus and its brace over it."""
     top = 2 * lines - 2
     signs = list(_line_of(item, top))
-    width = max(it.x + (it.width if isinstance(it, Rect) else SHAPES[it.shape].width) for it in signs)
+    width = max(
+        it.x + (it.width if isinstance(it, Rect) else SHAPES[it.shape].width) for it in signs
+    )
     if item.has_ictus:
         signs.append(Rect(width / 2 - _THIN / 2, height_of(top) - _OVER - 4.4, _THIN, 4.4))
     if item.has_brace:

@@ -6,6 +6,7 @@ from dataclasses import dataclass
 from functools import lru_cache
 from xml.etree.ElementTree import Element, SubElement, tostring
 
+from gregorio_chant._native.results import Kind
 from gregorio_chant.objects.items import Syllable
 from gregorio_chant.picture.codes import CODE_ROW, CODE_SIZE, Code, field_of, marks_of
 from gregorio_chant.picture.marks import Mark, Places
@@ -14,7 +15,6 @@ from gregorio_chant.picture.spaces import SPACES
 from gregorio_chant.picture.values import Curve, Line, Neumes, Placed, Rect, Sign, Use, Words
 from gregorio_chant.picture.widths import FACES
 from gregorio_chant.picture.words import SIZE
-from gregorio_chant._native.results import Kind
 
 MARGIN = SPACES.margin
 # The style of pictures: a file of its own holds it, a page has it once.
@@ -24,8 +24,13 @@ STYLE = (
     f".chant .code{{fill:#a00;font:bold {CODE_SIZE:.0f}px sans-serif}}"
 )
 _ATTRIBUTES = {
-    "b": ("font-weight", "bold"), "i": ("font-style", "italic"), "e": ("font-style", "italic"), "sc": ("font-variant", "small-caps"),
-    "tt": ("font-family", "monospace"), "ul": ("text-decoration", "underline"), "c": ("class", "red"),
+    "b": ("font-weight", "bold"),
+    "i": ("font-style", "italic"),
+    "e": ("font-style", "italic"),
+    "sc": ("font-variant", "small-caps"),
+    "tt": ("font-family", "monospace"),
+    "ul": ("text-decoration", "underline"),
+    "c": ("class", "red"),
 }
 
 
@@ -45,7 +50,11 @@ def _kept_blanks(text: str) -> str:
     if len(inner) == len(text):
         return text
     at = text.find(inner) if inner else 0
-    return "\u00a0" * (at if inner else len(text)) + inner + "\u00a0" * (len(text) - at - len(inner) if inner else 0)
+    return (
+        "\u00a0" * (at if inner else len(text))
+        + inner
+        + "\u00a0" * (len(text) - at - len(inner) if inner else 0)
+    )
 
 
 def attributes_of(styles: frozenset[str]) -> dict[str, str]:
@@ -56,8 +65,9 @@ def attributes_of(styles: frozenset[str]) -> dict[str, str]:
 @dataclass(frozen=True)
 class Names:
     """The names of a picture's parts: `prefix` begins its ids, which no two pictures of a page
-    share, and `links` says whether marks lead to messages, whose ids begin with `messages` if this is
-    another one. `has_heads` says whether the picture tells where heads stand, for who sings it."""
+    share, and `links` says whether marks lead to messages, whose ids begin with `messages` if this
+    is another one. `has_heads` says whether the picture tells where heads stand, for who sings
+    it."""
 
     prefix: str = ""
     links: bool = False
@@ -95,16 +105,22 @@ def _path_of(curve: Curve) -> str:
         return f"{begin}q{number(curve.width / 2)},{number(2 * high)} {width},0"
     quarter, half = number(curve.width / 4), number(high / 2)
     path = f"{begin}q0,{half} {quarter},{half}t{quarter},{half}q0,{number(-high / 2)} {quarter},{number(-high / 2)}t{quarter},{number(-high / 2)}"
-    return path + (f"M{number(curve.x + curve.width / 2 - 1)},{number(curve.y + high - 1.5)}l2.5,-3.5" if curve.kind == "accented" else "")
+    return path + (
+        f"M{number(curve.x + curve.width / 2 - 1)},{number(curve.y + high - 1.5)}l2.5,-3.5"
+        if curve.kind == "accented"
+        else ""
+    )
 
 
 _ALTERED = {"flat": "\u266d", "sharp": "\u266f"}
 
 
 def sung(syllable: Syllable) -> str:
-    """Returns how a syllable sounds: its text, and the degrees of its notes, or their letters before
-    any clef."""
-    notes = " ".join((it.degree or it.pitch) + _ALTERED.get(it.alteration, "") for it in syllable.notes)
+    """Returns how a syllable sounds: its text, and the degrees of its notes, or their letters
+    before any clef."""
+    notes = " ".join(
+        (it.degree or it.pitch) + _ALTERED.get(it.alteration, "") for it in syllable.notes
+    )
     text = syllable.plain.strip()
     return f"{text}: {notes}" if text and notes else notes
 
@@ -114,9 +130,15 @@ def words_of(line: Line) -> str:
     texts = []
     for it in line.parts:
         if it.part.has_text:
-            texts.append((" " if it.part.begins else "") + "".join(words.text for words in it.part.texts))
+            texts.append(
+                (" " if it.part.begins else "") + "".join(words.text for words in it.part.texts)
+            )
     joined = " ".join("".join(texts).split())
-    return shown("".join(it.text for it in line.initial[-1:]) + joined) if line.initial else shown(joined)
+    return (
+        shown("".join(it.text for it in line.initial[-1:]) + joined)
+        if line.initial
+        else shown(joined)
+    )
 
 
 class Painter:
@@ -139,11 +161,18 @@ class Painter:
         """Returns the group of a line, whose staff has its lowest line at `y`, with the codes
         above it."""
         label = words_of(line)
-        group = Element("g", {
-            "transform": f"translate({number(MARGIN)},{number(y)})", **({"role": "group", "aria-label": label} if label else {}),
-            **({"lang": self._language} if label and self._language else {}),
-        })
-        staff = "".join(f"M{number(line.indent)},{number(-10.0 * it)}h{number(line.width - line.indent)}" for it in range(self._staff))
+        group = Element(
+            "g",
+            {
+                "transform": f"translate({number(MARGIN)},{number(y)})",
+                **({"role": "group", "aria-label": label} if label else {}),
+                **({"lang": self._language} if label and self._language else {}),
+            },
+        )
+        staff = "".join(
+            f"M{number(line.indent)},{number(-10.0 * it)}h{number(line.width - line.indent)}"
+            for it in range(self._staff)
+        )
         SubElement(group, "path", {"class": "staff", "d": staff})
         for words in line.initial:
             self._words(group, words, 0.0, words.y)
@@ -155,7 +184,11 @@ class Painter:
         for it in codes:
             self.code(group, it.mark, it.x, line.top - 2.5 - CODE_ROW * it.row, it.text)
         for hyphen in line.hyphens:
-            SubElement(group, "text", {"x": number(hyphen.x), "y": number(line.text), "aria-hidden": "true"}).text = hyphen.text
+            SubElement(
+                group,
+                "text",
+                {"x": number(hyphen.x), "y": number(line.text), "aria-hidden": "true"},
+            ).text = hyphen.text
         return text_of(group)
 
     def _signs(self, parent: Element, signs: Iterable[Sign], x: float) -> None:
@@ -163,9 +196,15 @@ class Painter:
         for it in signs:
             if isinstance(it, Rect):
                 width = _often(it.width)
-                rects.append(f"M{number(x + it.x)},{_often(it.y)}h{width}v{_often(it.height)}h-{width}z")
+                rects.append(
+                    f"M{number(x + it.x)},{_often(it.y)}h{width}v{_often(it.height)}h-{width}z"
+                )
             else:
-                SubElement(parent, "use", {"href": self._address(it.shape), "x": number(x + it.x), "y": _often(it.y)})
+                SubElement(
+                    parent,
+                    "use",
+                    {"href": self._address(it.shape), "x": number(x + it.x), "y": _often(it.y)},
+                )
         if rects:
             SubElement(parent, "path", {"d": "".join(rects)})
 
@@ -183,7 +222,8 @@ class Painter:
         if words.size != SIZE:
             attributes["font-size"] = _often(words.size)
         if len(words.text) > 1:
-            # A face with other letters is squeezed as a whole, and not the gaps between its letters alone.
+            # A face with other letters is squeezed as a whole, and not the gaps between its letters
+            # alone.
             attributes |= {"textLength": _often(words.width), "lengthAdjust": "spacingAndGlyphs"}
         element = SubElement(parent, "text", attributes)
         element.text = _kept_blanks(words.text)
@@ -191,7 +231,11 @@ class Painter:
             add(element, "title", words.title)
         if "barred" in words.styles:
             rise = number(words.width - 4.0)
-            SubElement(parent, "path", {"d": f"M{number(x + words.x + 1.5)},{number(y + 2.0)}l{rise},-15h1l-{rise},15z"})
+            SubElement(
+                parent,
+                "path",
+                {"d": f"M{number(x + words.x + 1.5)},{number(y + 2.0)}l{rise},-15h1l-{rise},15z"},
+            )
 
     def _part(self, parent: Element, line: Line, placed: Placed) -> None:
         part = placed.part
@@ -201,7 +245,11 @@ class Painter:
             place = self._places.syllables[index]
             attributes |= {"data-line": str(place.line), "data-column": str(place.column)}
         if self._names.has_heads:
-            heads = [(placed.x + x + left, y, width) for x, block in part.blocks for left, y, width in block.heads]
+            heads = [
+                (placed.x + x + left, y, width)
+                for x, block in part.blocks
+                for left, y, width in block.heads
+            ]
             attributes["data-heads"] = " ".join(",".join(map(number, it)) for it in heads)
         group = SubElement(parent, "g", attributes)
         title = sung(part.syllable) if part.number == 0 else ""
@@ -218,7 +266,9 @@ class Painter:
         for words in part.texts:
             self._words(group, words, placed.x, line.text)
         if part.translation is not None:
-            self._words(group, part.translation._replace(styles=frozenset("i")), placed.x, line.translation)
+            self._words(
+                group, part.translation._replace(styles=frozenset("i")), placed.x, line.translation
+            )
         for words in part.above:
             self._words(group, words._replace(styles=frozenset("i")), placed.x, line.above)
 
@@ -242,17 +292,30 @@ class Painter:
         fields = [field_of(part, it) for it in marks]
         left, right = min(it[0] for it in fields) - 1.5, max(it[1] for it in fields) + 1.5
         kind = "mark" if any(it.message.kind is not Kind.WARNING for it in marks) else "mark w"
-        SubElement(parent, "rect", {
-            "class": kind, "x": number(placed.x + left), "y": number(line.top), "width": number(max(right - left, 6.0)),
-            "height": number(line.text + 5.0 - line.top),
-        })
+        SubElement(
+            parent,
+            "rect",
+            {
+                "class": kind,
+                "x": number(placed.x + left),
+                "y": number(line.top),
+                "width": number(max(right - left, 6.0)),
+                "height": number(line.text + 5.0 - line.top),
+            },
+        )
 
     def code(self, parent: Element, mark: Mark, x: float, y: float, words: str = "") -> None:
         """Paints the code of a message, as a link where messages stand beside the picture."""
         message = mark.message
         if self._names.links:
             name = self.places[mark.number] = self._names.code(mark.number)
-            parent = SubElement(parent, "a", {"href": f"#{self._names.message(mark.number)}", "id": name})
+            parent = SubElement(
+                parent, "a", {"href": f"#{self._names.message(mark.number)}", "id": name}
+            )
         code = SubElement(parent, "text", {"class": "code", "x": number(x), "y": number(y)})
         code.text = shown(words or message.code)
-        add(code, "title", f"{message.line}:{message.column}: {message.kind.value}: {message.code}: {message.text}")
+        add(
+            code,
+            "title",
+            f"{message.line}:{message.column}: {message.kind.value}: {message.code}: {message.text}",
+        )

@@ -1,5 +1,6 @@
-"""The outlines that come with the package: tables in the folder `symbols`, which `tools/make_symbols` makes of
-gregorio's fonts. They stand under the SIL Open Font License, as the file OFL.txt beside them says."""
+"""The outlines that come with the package: tables in the folder `symbols`, which
+`tools/make_symbols` makes of gregorio's fonts. They stand under the SIL Open Font License, as the
+file OFL.txt beside them says."""
 from __future__ import annotations
 
 from functools import lru_cache
@@ -13,9 +14,9 @@ _FOLDER = Path(__file__).with_name("symbols")
 
 
 class Table:
-    """A table of outlines: after lines that say where they come from, each beginning with `#`, a line
-    for each outline, with its name, width, how far it goes up and down, and its path; or with its name
-    and that of the outline that it shares. They are in the units of a layout."""
+    """A table of outlines: after lines that say where they come from, each beginning with `#`, a
+    line for each outline, with its name, width, how far it goes up and down, and its path; or with
+    its name and that of the outline that it shares. They are in the units of a layout."""
 
     def __init__(self, text: str) -> None:
         self.origin = "\n".join(line[2:] for line in text.split("\n") if line.startswith("#"))

@@ -14,7 +14,9 @@ from gregorio_chant.picture.widths import styled_width
 from gregorio_chant.picture.words import Run
 
 _NAME_SIZE, _HEAD_SIZE = 20.0, 12.0
-_MODES = {str(at): it for at, it in enumerate(("I", "II", "III", "IV", "V", "VI", "VII", "VIII"), 1)}
+_MODES = {
+    str(at): it for at, it in enumerate(("I", "II", "III", "IV", "V", "VI", "VII", "VIII"), 1)
+}
 _STYLES = {"0": 0, "1": 1, "2": 2}
 _MOST_ANNOTATIONS = 2
 _BLANKS = re.compile("[ \t\n]+")
@@ -77,8 +79,8 @@ def annotations_of(headers: Headers) -> tuple[str, ...]:
 
 
 def initial_of(headers: Headers) -> Initial | None:
-    """Returns the initial that the headers ask for: before one line, unless `initial-style` is 2, and
-    none if it is 0."""
+    """Returns the initial that the headers ask for: before one line, unless `initial-style` is 2,
+    and none if it is 0."""
     lines = _STYLES.get(headers.last("initial-style").strip(), 1)
     return Initial(lines, annotations_of(headers)) if lines else None
 
@@ -90,27 +92,38 @@ class Title:
         self._headers, self._width, self.y = headers, width, y
 
     def write(self, *, with_annotations: bool) -> Iterator[str]:
-        """Yields the name, and below it the commentary at the right, with the annotations at the left if
-        no initial has them."""
+        """Yields the name, and below it the commentary at the right, with the annotations at the
+        left if no initial has them."""
         inner = self._width - 2 * MARGIN
         name = self._headers.last("name").strip()
         if name:
             self.y += _NAME_SIZE
             yield self._fitted(name, self._width / 2, _NAME_SIZE, inner, "middle")
             self.y += 4.0
-        annotations = [it for it in self._headers.all("annotation") if it] if with_annotations else []
+        annotations = (
+            [it for it in self._headers.all("annotation") if it] if with_annotations else []
+        )
         commentary = self._headers.last("commentary").strip()
         if annotations or commentary:
             self.y += _HEAD_SIZE + 2.0
         if annotations:
             yield self._fitted(" ".join(annotations), MARGIN, ANNOTATION_SIZE, inner / 2, "start")
         if commentary:
-            yield self._fitted(commentary, self._width - MARGIN, _HEAD_SIZE, inner if not annotations else inner / 2, "end")
+            yield self._fitted(
+                commentary,
+                self._width - MARGIN,
+                _HEAD_SIZE,
+                inner if not annotations else inner / 2,
+                "end",
+            )
         self.y += SPACES.below_title
 
     def _fitted(self, value: str, x: float, size: float, room: float, anchor: str) -> str:
         """Returns a header's value with its styles, cut to take at most `room`."""
-        element = Element("text", {"x": number(x), "y": number(self.y), "font-size": number(size), "text-anchor": anchor})
+        element = Element(
+            "text",
+            {"x": number(x), "y": number(self.y), "font-size": number(size), "text-anchor": anchor},
+        )
         runs = _runs(value)
         styled = any(it.styles for it in runs)
         for run, text in _cut(runs, size, room):

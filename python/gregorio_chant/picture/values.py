@@ -75,12 +75,14 @@ class Words(NamedTuple):
     title: str = ""
 
     def moved(self, x: float, y: float = 0.0) -> Words:
-        return Words(self.text, self.x + x, self.y + y, self.width, self.size, self.styles, self.title)
+        return Words(
+            self.text, self.x + x, self.y + y, self.width, self.size, self.styles, self.title
+        )
 
 
 class CurveMark(NamedTuple):
-    """What an attribute asks for at a place of a block: a whole slur or brace, or the `begin` or the
-    `end` of one, `over` the notes or under them. `kind` is slur, round, curly or accented."""
+    """What an attribute asks for at a place of a block: a whole slur or brace, or the `begin` or
+    the `end` of one, `over` the notes or under them. `kind` is slur, round, curly or accented."""
 
     kind: str
     role: str
@@ -118,9 +120,10 @@ class Neumes(NamedTuple):
 @dataclass(slots=True)
 class Block:
     """Signs that no line end parts. `offset` says where it begins in the canonical text, from the
-    first snippet of its syllable on. `anchor` is the middle of its first head, or of a bar;
-    `first` is its first pitch, and `heads` has left, height and width of each head. `texts` stand at
-    its notes, and `above` over the staff; `no_custos` says that none stands at a line's end here."""
+    first snippet of its syllable on. `anchor` is the middle of its first head, or of a bar; `first`
+    is its first pitch, and `heads` has left, height and width of each head. `texts` stand at its
+    notes, and `above` over the staff; `no_custos` says that none stands at a line's end here.
+    """
 
     offset: int
     signs: tuple[Sign, ...]
@@ -182,8 +185,9 @@ class Placed:
 @dataclass(slots=True)
 class Line:
     """A line of the picture: its staff goes from `indent` to `width`, and an initial stands before
-    it. `top` and `bottom` bound all signs. The text stands at `text`, translations at `translation`,
-    the rows of NABC at `rows`, from the lowest one up, and texts over the staff at `above`."""
+    it. `top` and `bottom` bound all signs. The text stands at `text`, translations at
+    `translation`, the rows of NABC at `rows`, from the lowest one up, and texts over the staff at
+    `above`."""
 
     parts: list[Placed]
     signs: list[Sign] = field(default_factory=list)

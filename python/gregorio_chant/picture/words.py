@@ -57,7 +57,10 @@ class _Reader:
         """Adds letters in the styles that are open; ℣ and ℟ are barred letters, which few faces
         have."""
         for at, piece in enumerate(_BARRED.split(text.replace("\n", " "))):
-            self._add(_LETTERS.get(piece, shown(piece)), self.styles | {"barred"} if at % 2 else self.styles)
+            self._add(
+                _LETTERS.get(piece, shown(piece)),
+                self.styles | {"barred"} if at % 2 else self.styles,
+            )
 
     def _add(self, text: str, styles: frozenset[str]) -> None:
         if not text:
@@ -97,7 +100,9 @@ def read_text(text: str) -> SyllableText:
     return SyllableText(tuple(reader.runs), centre, above, reader.raw)
 
 
-def set_text(text: SyllableText, size: float = SIZE, language: str = LATIN) -> tuple[tuple[Words, ...], float]:
+def set_text(
+    text: SyllableText, size: float = SIZE, language: str = LATIN
+) -> tuple[tuple[Words, ...], float]:
     """Returns the runs side by side from x 0 on, and where the middle of the centre or of the
     vowel is."""
     plain = text.plain

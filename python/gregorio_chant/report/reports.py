@@ -1,4 +1,5 @@
-"""How messages are told: as lines, as text with the source line, as JSON, as annotations of a forge. `sarif` has one more form."""
+"""How messages are told: as lines, as text with the source line, as JSON, as annotations of a
+forge. `sarif` has one more form."""
 from __future__ import annotations
 
 import json
@@ -8,8 +9,8 @@ from dataclasses import asdict, dataclass
 from itertools import zip_longest
 from typing import Protocol
 
-from gregorio_chant.linting.problems import problems_of
 from gregorio_chant._native.results import Kind, Message
+from gregorio_chant.linting.problems import problems_of
 from gregorio_chant.work.streams import STDIN, printable
 
 LEVELS = {Kind.WARNING: "warning", Kind.ERROR: "error", Kind.FATAL: "error"}
@@ -17,8 +18,8 @@ LEVELS = {Kind.WARNING: "warning", Kind.ERROR: "error", Kind.FATAL: "error"}
 
 @dataclass(frozen=True)
 class Checked:
-    """What was found in a file. `text` is the score's text, where there are messages, and `helps` has a line for each of them, or nothing; `failure` says why the
-    file was not read."""
+    """What was found in a file. `text` is the score's text, where there are messages, and `helps`
+    has a line for each of them, or nothing; `failure` says why the file was not read."""
 
     name: str
     messages: tuple[Message, ...] = ()
@@ -125,7 +126,8 @@ def counted(number: int, thing: str) -> str:
 
 
 def summary_of(files: int, failed: int, kinds: Counter[Kind]) -> str:
-    """Returns a line on how many files were checked, how many of them failed, and how many messages of each kind there are."""
+    """Returns a line on how many files were checked, how many of them failed, and how many messages
+    of each kind there are."""
     names = {Kind.FATAL: "fatal fault", Kind.ERROR: "error", Kind.WARNING: "warning"}
     found = [counted(kinds[kind], name) for kind, name in names.items() if kinds[kind]]
     line = f"{counted(files, 'file')}: {', '.join(found) if found else 'nothing found'}"

@@ -5,11 +5,11 @@ import os
 from pathlib import PurePath
 from urllib.parse import quote
 
+from gregorio_chant._native.results import Message
 from gregorio_chant.linting.codes import CODES
 from gregorio_chant.linting.explaining import page_of, page_uri
-from gregorio_chant.report.reports import LEVELS, Checked, json_of, with_help
-from gregorio_chant._native.results import Message
 from gregorio_chant.linting.rules import RULES
+from gregorio_chant.report.reports import LEVELS, Checked, json_of, with_help
 from gregorio_chant.text.source import Lines
 from gregorio_chant.work.streams import NAME, STDIN
 
@@ -34,25 +34,48 @@ class Sarif:
         where = {"uri": "stdin" if checked.name == STDIN else _uri(checked.name)}
         if checked.failure is not None:
             location = {"physicalLocation": {"artifactLocation": where}}
-            self._failures.append({"level": "error", "message": {"text": checked.failure}, "locations": [location]})
+            self._failures.append(
+                {"level": "error", "message": {"text": checked.failure}, "locations": [location]}
+            )
         lines = Lines(checked.text)
         for it, help in checked.helped():
-            region = {"startLine": it.line, "startColumn": it.column, "endLine": it.line, "endColumn": lines.column_after(it.line, it.column)}
-            self._results.append(self._result(it, with_help(it, help), {"artifactLocation": where, "region": region}))
+            region = {
+                "startLine": it.line,
+                "startColumn": it.column,
+                "endLine": it.line,
+                "endColumn": lines.column_after(it.line, it.column),
+            }
+            self._results.append(
+                self._result(it, with_help(it, help), {"artifactLocation": where, "region": region})
+            )
         return ""
 
     def _result(self, it: Message, text: str, place: dict[str, object]) -> dict[str, object]:
         return {
-            "ruleId": it.code, "ruleIndex": self._numbers.setdefault(it.code, len(self._numbers)), "level": LEVELS[it.kind],
-            "message": {"text": text}, "locations": [{"physicalLocation": place}],
+            "ruleId": it.code,
+            "ruleIndex": self._numbers.setdefault(it.code, len(self._numbers)),
+            "level": LEVELS[it.kind],
+            "message": {"text": text},
+            "locations": [{"physicalLocation": place}],
         }
 
     def end(self, summary: str | None) -> str:
         """Returns the log."""
         run = {
-            "tool": {"driver": {"name": NAME, "version": self._version, "rules": [_rule(it) for it in self._numbers]}},
+            "tool": {
+                "driver": {
+                    "name": NAME,
+                    "version": self._version,
+                    "rules": [_rule(it) for it in self._numbers],
+                }
+            },
             "columnKind": "unicodeCodePoints",
-            "invocations": [{"executionSuccessful": not self._failures, "toolExecutionNotifications": self._failures}],
+            "invocations": [
+                {
+                    "executionSuccessful": not self._failures,
+                    "toolExecutionNotifications": self._failures,
+                }
+            ],
             "results": self._results,
         }
         return json_of({"version": "2.1.0", "$schema": _SCHEMA, "runs": [run]}, indent=2) + "\n"
@@ -66,7 +89,10 @@ def _rule(name: str) -> dict[str, object]:
     else:
         short, meaning = RULES[name].meaning.partition(". ")[0], RULES[name].meaning
     return {
-        "id": name, "shortDescription": {"text": short}, "fullDescription": {"text": meaning}, "help": {"text": page_of(name)},
+        "id": name,
+        "shortDescription": {"text": short},
+        "fullDescription": {"text": meaning},
+        "help": {"text": page_of(name)},
         "helpUri": page_uri(name),
     }
 

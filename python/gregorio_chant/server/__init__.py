@@ -1,1 +1,2 @@
-"""A language server over standard streams. It stands outside the proof of the compiler, and is only tested."""
+"""A language server over standard streams. It stands outside the proof of the compiler, and is only
+tested."""

@@ -5,12 +5,12 @@ import os
 from collections.abc import Iterator
 from itertools import islice
 
-from gregorio_chant.objects.compiled import Compiled
+from gregorio_chant._native.results import Kind, Message
 from gregorio_chant.linting.ignores import IGNORE
 from gregorio_chant.linting.repairing import How, has_safe_repair, proposals_for, repair, with_edits
 from gregorio_chant.linting.repairs import Edit
-from gregorio_chant._native.results import Kind, Message
 from gregorio_chant.linting.rules import RULES, unsilenced
+from gregorio_chant.objects.compiled import Compiled
 from gregorio_chant.server.diagnostics import diagnostic, range_of
 from gregorio_chant.server.document import Document
 from gregorio_chant.server.protocol import Json, Params
@@ -24,19 +24,30 @@ KINDS = [_QUICK, FIX_ALL]
 
 
 def actions(document: Document, params: Params) -> Json:
-    """Returns what can be done about the messages in a range, and about those that the editor names, of 20 messages at most. What would change the score
-    otherwise than it says is not offered."""
+    """Returns what can be done about the messages in a range, and about those that the editor
+    names, of 20 messages at most. What would change the score otherwise than it says is not
+    offered."""
     where, context = params["range"].range(), params["context"]
     only = [it.text() for it in context["only"].parts()] if context.has("only") else []
-    named = [it["range"].range() for it in context["diagnostics"].parts()] if context.has("diagnostics") else []
+    named = (
+        [it["range"].range() for it in context["diagnostics"].parts()]
+        if context.has("diagnostics")
+        else []
+    )
     if not document.is_text:
         return []
-    all_here = (it for it in document.messages if range_of(document, it).meets(where) or range_of(document, it) in named)
+    all_here = (
+        it
+        for it in document.messages
+        if range_of(document, it).meets(where) or range_of(document, it) in named
+    )
     here = list(islice(all_here, _MOST_MESSAGES))
     made: list[Json] = []
     if _is_wanted(_QUICK, only):
         made += [*_repairs(document, here), *_silences(document, here)]
-    if _is_wanted(FIX_ALL, only) and has_safe_repair(document.subject, document.messages if only else here):
+    if _is_wanted(FIX_ALL, only) and has_safe_repair(
+        document.subject, document.messages if only else here
+    ):
         made += _all_repairs(document)
     return made
 
@@ -46,11 +57,17 @@ def _is_wanted(kind: str, only: list[str]) -> bool:
     return not only or any(kind == it or kind.startswith(f"{it}.") for it in only)
 
 
-def _action(document: Document, title: str, kind: str, edits: list[Json], message: Message | None = None) -> dict[str, Json]:
+def _action(
+    document: Document, title: str, kind: str, edits: list[Json], message: Message | None = None
+) -> dict[str, Json]:
     """Returns an action, with the message that it is about."""
     file = document.file
     if file.takes_versions:
-        edit: Json = {"documentChanges": [{"textDocument": {"uri": file.uri, "version": document.version}, "edits": edits}]}
+        edit: Json = {
+            "documentChanges": [
+                {"textDocument": {"uri": file.uri, "version": document.version}, "edits": edits}
+            ]
+        }
     else:
         edit = {"changes": {file.uri: edits}}
     action: dict[str, Json] = {"title": title, "kind": kind, "edit": edit}
@@ -62,7 +79,13 @@ def _action(document: Document, title: str, kind: str, edits: list[Json], messag
 
 def _edits(document: Document, edits: tuple[Edit, ...]) -> list[Json]:
     text = document.text
-    return [{"range": text.range(it.offset, it.end).to_json(), "newText": it.new.replace("\n", text.line_end)} for it in edits]
+    return [
+        {
+            "range": text.range(it.offset, it.end).to_json(),
+            "newText": it.new.replace("\n", text.line_end),
+        }
+        for it in edits
+    ]
 
 
 def _repairs(document: Document, messages: list[Message]) -> Iterator[Json]:
@@ -73,12 +96,14 @@ def _repairs(document: Document, messages: list[Message]) -> Iterator[Json]:
         if it.repair.is_safe:
             yield _action(document, title, _QUICK, edits, it.message) | {"isPreferred": True}
         else:
-            yield _action(document, f"{title} ({it.line(document.text.plain)})", _QUICK, edits, it.message)
+            yield _action(
+                document, f"{title} ({it.line(document.text.plain)})", _QUICK, edits, it.message
+            )
 
 
 def _all_repairs(document: Document) -> list[Json]:
-    """Returns the action that makes all safe repairs, and no guess; none if there is nothing to repair. Its edits are looked for when it is chosen, if the
-    editor asks for them then."""
+    """Returns the action that makes all safe repairs, and no guess; none if there is nothing to
+    repair. Its edits are looked for when it is chosen, if the editor asks for them then."""
     title = "Make all safe repairs"
     if document.file.resolves_actions:
         return [{"title": title, "kind": FIX_ALL, "data": {"uri": document.file.uri}}]
@@ -107,8 +132,11 @@ def resolved(document: Document, params: Params) -> Json:
 
 
 def _silences(document: Document, messages: list[Message]) -> Iterator[Json]:
-    """Yields for each code an action for its line and one for the score, where nothing else changes."""
-    for code in dict.fromkeys(it.code for it in messages if it.kind is not Kind.FATAL and it.code != "unused-ignore"):
+    """Yields for each code an action for its line and one for the score, where nothing else
+    changes."""
+    for code in dict.fromkeys(
+        it.code for it in messages if it.kind is not Kind.FATAL and it.code != "unused-ignore"
+    ):
         message = next(it for it in messages if it.code == code)
         for title, edit in _silencing(document, message):
             if _silences_alone(document, message, edit):
@@ -117,24 +145,38 @@ def _silences(document: Document, messages: list[Message]) -> Iterator[Json]:
 
 def _silencing(document: Document, message: Message) -> Iterator[tuple[str, Edit]]:
     text, code = document.text.plain, message.code
-    yield f"Silence {code} on this line", _comment_at(text, document.offset(message), "ignore", code)
-    yield f"Silence {code} in this score", _comment_at(text, document.scan.score, "ignore-file", code)
+    yield f"Silence {code} on this line", _comment_at(
+        text, document.offset(message), "ignore", code
+    )
+    yield f"Silence {code} in this score", _comment_at(
+        text, document.scan.score, "ignore-file", code
+    )
 
 
 def _comment_at(text: str, offset: int, word: str, code: str) -> Edit:
-    """Returns the edit that names a code in the comment at the end of this line, or adds such a comment."""
+    """Returns the edit that names a code in the comment at the end of this line, or adds such a
+    comment."""
     begin, end = text.rfind("\n", 0, offset) + 1, text.find("\n", offset)
     line = text[begin : len(text) if end < 0 else end].rstrip(" \t")
-    found = [it for it in IGNORE.finditer(line) if it[1] == word and it.end() == len(line) and it[2].strip()]
+    found = [
+        it
+        for it in IGNORE.finditer(line)
+        if it[1] == word and it.end() == len(line) and it[2].strip()
+    ]
     return Edit(begin + len(line), "", f", {code}" if found else f" % gregorio: {word} {code}")
 
 
 def _silences_alone(document: Document, message: Message, edit: Edit) -> bool:
-    """Returns whether the message goes, no other one of the compiler comes, and the canonical form stays."""
+    """Returns whether the message goes, no other one of the compiler comes, and the canonical form
+    stays."""
     old = document.compiled
     new = Compiled(with_edits(old.data, (edit,)))
     before, after = unsilenced(old.data, old.messages), unsilenced(new.data, new.messages)
-    if new.canonical != old.canonical or [it.code for it in old.messages] != [it.code for it in new.messages]:
+    if new.canonical != old.canonical or [it.code for it in old.messages] != [
+        it.code for it in new.messages
+    ]:
         return False
     places = {(it.line, it.column, it.code) for it in after}
-    return (message.line, message.column, message.code) not in places and places <= {(it.line, it.column, it.code) for it in before}
+    return (message.line, message.column, message.code) not in places and places <= {
+        (it.line, it.column, it.code) for it in before
+    }

@@ -1,12 +1,13 @@
-"""What may be typed next: the names of headers, tags, special characters, and codes of NABC with their names."""
+"""What may be typed next: the names of headers, tags, special characters, and codes of NABC with
+their names."""
 from __future__ import annotations
 
 import re
 
-from gregorio_chant.text.scan import Scan
 from gregorio_chant.server.document import Document, scan_before
 from gregorio_chant.server.protocol import Json, Params
 from gregorio_chant.server.vocabulary import nabc_names
+from gregorio_chant.text.scan import Scan
 from gregorio_chant.text.vocabulary import HEADERS, SPECIALS, TAGS
 
 _PROPERTY, _KEYWORD, _CONSTANT, _VALUE = 10, 14, 21, 12
@@ -33,7 +34,9 @@ def completion(document: Document, params: Params) -> Json:
     return _in_text(document, before, offset)
 
 
-def _item(document: Document, label: str, kind: int, detail: str, new: str, begin: int, end: int) -> Json:
+def _item(
+    document: Document, label: str, kind: int, detail: str, new: str, begin: int, end: int
+) -> Json:
     edit = {"range": document.text.range(begin, end).to_json(), "newText": new}
     return {"label": label, "kind": kind, "detail": detail, "textEdit": edit}
 
@@ -43,20 +46,37 @@ def _headers(document: Document, before: str) -> Json:
     line = before[begin:]
     if ":" in line or line.lstrip(" \t").startswith("%"):
         return []
-    return [_item(document, it, _PROPERTY, meaning, f"{it}: ", begin, len(before)) for it, meaning in HEADERS.items()]
+    return [
+        _item(document, it, _PROPERTY, meaning, f"{it}: ", begin, len(before))
+        for it, meaning in HEADERS.items()
+    ]
 
 
 def _in_text(document: Document, before: str, end: int) -> Json:
     special = _IN_SPECIAL.search(before)
     if special is not None:
         closing = "" if document.text.plain.startswith("</sp>", end) else "</sp>"
-        return [_item(document, it, _CONSTANT, "special character", it + closing, special.start(1), end) for it in SPECIALS]
+        return [
+            _item(document, it, _CONSTANT, "special character", it + closing, special.start(1), end)
+            for it in SPECIALS
+        ]
     tag = _IN_TAG.search(before)
     if tag is None:
         return []
     slash = "/" if before.startswith("</", tag.start()) else ""
     closing = "" if document.text.plain.startswith(">", end) else ">"
-    return [_item(document, f"<{slash}{it}>", _KEYWORD, meaning, f"<{slash}{it}{closing}", tag.start(), end) for it, meaning in TAGS.items()]
+    return [
+        _item(
+            document,
+            f"<{slash}{it}>",
+            _KEYWORD,
+            meaning,
+            f"<{slash}{it}{closing}",
+            tag.start(),
+            end,
+        )
+        for it, meaning in TAGS.items()
+    ]
 
 
 def _in_notes(document: Document, found: Scan, notes: str, end: int) -> Json:
@@ -68,10 +88,18 @@ def _in_notes(document: Document, found: Scan, notes: str, end: int) -> Json:
     if lines == 0 or plain.count("|") % (lines + 1) == 0 or _IN_RAW.search(notes) or code is None:
         return []
     begin = end - len(code[1])
-    return [_item(document, it, _VALUE, name, it, begin, end) for it, name in nabc_names().items() if it.startswith(code[1])]
+    return [
+        _item(document, it, _VALUE, name, it, begin, end)
+        for it, name in nabc_names().items()
+        if it.startswith(code[1])
+    ]
 
 
 def nabc_lines(found: Scan) -> int:
     """Returns how many lines of NABC the headers ask for."""
-    values = [found.text[it.begin : it.end].partition(":")[2].strip(" ;") for it in found.headers if it.name == "nabc-lines"]
+    values = [
+        found.text[it.begin : it.end].partition(":")[2].strip(" ;")
+        for it in found.headers
+        if it.name == "nabc-lines"
+    ]
     return int(values[-1]) if values and values[-1] in ("1", "2", "3", "4") else 0

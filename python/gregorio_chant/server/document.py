@@ -5,24 +5,25 @@ from collections.abc import Callable
 from dataclasses import dataclass
 from functools import cached_property
 
-from gregorio_chant.objects.compiled import Compiled
-from gregorio_chant.objects.dump import Pause, Score, go_on
+from gregorio_chant._native.results import Message
 from gregorio_chant.format.formatting import Style, style_by
 from gregorio_chant.linting.helps import helps_for
 from gregorio_chant.linting.repairing import is_text
-from gregorio_chant._native.results import Message
 from gregorio_chant.linting.rules import messages_with_rules, unsilenced
-from gregorio_chant.text.scan import Scan, scan
 from gregorio_chant.linting.selection import Selection
-from gregorio_chant.server.text import Text
-from gregorio_chant.work.settings import Settings
 from gregorio_chant.linting.slips import Subject
+from gregorio_chant.objects.compiled import Compiled
+from gregorio_chant.objects.dump import Pause, Score, go_on
+from gregorio_chant.server.text import Text
+from gregorio_chant.text.scan import Scan, scan
+from gregorio_chant.work.settings import Settings
 
 
 @dataclass(frozen=True)
 class File:
-    """What stays the same as long as a score is open: its file, what is wanted there, whether its editor takes edits with a version, and whether it asks for
-    the edits of an action when that is chosen, and whether it shows markdown."""
+    """What stays the same as long as a score is open: its file, what is wanted there, whether its
+    editor takes edits with a version, and whether it asks for the edits of an action when that is
+    chosen, and whether it shows markdown."""
 
     uri: str
     name: str
@@ -46,7 +47,8 @@ class Document:
 
     def __init__(self, file: File, text: Text, version: int | None) -> None:
         self.file, self.text, self.version = file, text, version
-        # What is called now and then during a long answer; it raises where nobody waits for that any more.
+        # What is called now and then during a long answer; it raises where nobody waits for that
+        # any more.
         self.pause: Pause = go_on
         self._found: tuple[Message, ...] | None = None
 
@@ -60,14 +62,19 @@ class Document:
 
     @property
     def is_text(self) -> bool:
-        """Whether all of it is UTF-8: half a character of UTF-16, which an editor may send, is none."""
+        """Whether all of it is UTF-8: half a character of UTF-16, which an editor may send, is
+        none."""
         return is_text(self.text.data)
 
     def find(self, pause: Pause = go_on) -> tuple[Message, ...]:
         """Returns all that is found, by the rules too where they are wanted."""
         if self._found is None:
             data = self.text.data
-            self._found = messages_with_rules(data, pause) if self.file.with_rules else unsilenced(data, self.compiled.messages)
+            self._found = (
+                messages_with_rules(data, pause)
+                if self.file.with_rules
+                else unsilenced(data, self.compiled.messages)
+            )
         return self._found
 
     @cached_property

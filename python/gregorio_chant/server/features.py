@@ -1,4 +1,5 @@
-"""What the server does for a score that is open: each request of the protocol, and what answers it."""
+"""What the server does for a score that is open: each request of the protocol, and what answers
+it."""
 from __future__ import annotations
 
 from collections.abc import Callable
@@ -23,21 +24,36 @@ _INCREMENTAL = 2
 RESOLVE = "codeAction/resolve"
 
 FEATURES: dict[str, Callable[[Document, Params], Json]] = {
-    "textDocument/codeAction": actions, RESOLVE: resolved, "textDocument/completion": completion, "textDocument/documentSymbol": symbols,
-    "textDocument/foldingRange": foldings, "textDocument/formatting": formatted_all, "textDocument/hover": hover,
-    "textDocument/rangeFormatting": formatted_lines, "textDocument/semanticTokens/full": tokens, "gregorio/picture": svg,
+    "textDocument/codeAction": actions,
+    RESOLVE: resolved,
+    "textDocument/completion": completion,
+    "textDocument/documentSymbol": symbols,
+    "textDocument/foldingRange": foldings,
+    "textDocument/formatting": formatted_all,
+    "textDocument/hover": hover,
+    "textDocument/rangeFormatting": formatted_lines,
+    "textDocument/semanticTokens/full": tokens,
+    "gregorio/picture": svg,
 }
 # The command that opens the picture in a browser.
 SHOW = "gregorio-chant.show"
 
 CAPABILITIES: Json = {
     "capabilities": {
-        "positionEncoding": "utf-16", "textDocumentSync": {"openClose": True, "change": _INCREMENTAL},
-        "codeActionProvider": {"codeActionKinds": KINDS, "resolveProvider": True}, "executeCommandProvider": {"commands": [SHOW]},
+        "positionEncoding": "utf-16",
+        "textDocumentSync": {"openClose": True, "change": _INCREMENTAL},
+        "codeActionProvider": {"codeActionKinds": KINDS, "resolveProvider": True},
+        "executeCommandProvider": {"commands": [SHOW]},
         "completionProvider": {"triggerCharacters": TRIGGERS},
-        "documentFormattingProvider": True, "documentRangeFormattingProvider": True, "documentSymbolProvider": True,
-        "foldingRangeProvider": True, "hoverProvider": True,
-        "semanticTokensProvider": {"legend": {"tokenTypes": TOKENS, "tokenModifiers": []}, "full": True},
+        "documentFormattingProvider": True,
+        "documentRangeFormattingProvider": True,
+        "documentSymbolProvider": True,
+        "foldingRangeProvider": True,
+        "hoverProvider": True,
+        "semanticTokensProvider": {
+            "legend": {"tokenTypes": TOKENS, "tokenModifiers": []},
+            "full": True,
+        },
     },
     "serverInfo": {"name": NAME, "version": __version__},
 }

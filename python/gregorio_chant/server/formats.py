@@ -4,13 +4,13 @@ from __future__ import annotations
 import difflib
 from collections.abc import Iterator
 
-from gregorio_chant.objects.compiled import Compiled
 from gregorio_chant.format.formatting import formatted
 from gregorio_chant.format.judge import Reading, difference
-from gregorio_chant.text.scan import without_blanks
+from gregorio_chant.objects.compiled import Compiled
 from gregorio_chant.server.document import Document
 from gregorio_chant.server.protocol import Json, Params, Position, Range
 from gregorio_chant.server.text import Text
+from gregorio_chant.text.scan import without_blanks
 
 
 class RequestRefused(Exception):
@@ -18,7 +18,8 @@ class RequestRefused(Exception):
 
 
 def _formatted(document: Document) -> str:
-    """Returns what the score is formatted to. Raises `RequestRefused` where it has to stay as it is."""
+    """Returns what the score is formatted to. Raises `RequestRefused` where it has to stay as it
+    is."""
     made = formatted(document.text.data, document.file.style)
     reasons = made.reasons()
     if reasons:
@@ -28,29 +29,50 @@ def _formatted(document: Document) -> str:
 
 def formatted_all(document: Document, params: Params) -> Json:
     """Returns the edit that formats the score."""
-    return [{"range": Range(Position(0, 0), document.text.end()).to_json(), "newText": _formatted(document)}]
+    return [
+        {
+            "range": Range(Position(0, 0), document.text.end()).to_json(),
+            "newText": _formatted(document),
+        }
+    ]
 
 
 def formatted_lines(document: Document, params: Params) -> Json:
-    """Returns the edits that format the lines of a range. Raises `RequestRefused` where these alone would make another score."""
+    """Returns the edits that format the lines of a range. Raises `RequestRefused` where these alone
+    would make another score."""
     where = params["range"].range()
     old, new = document.text.lines(), Text(_formatted(document)).lines()
-    first, last = where.start.line, where.end.line + (where.end.character > 0 or where.end.line == where.start.line)
+    first, last = where.start.line, where.end.line + (
+        where.end.character > 0 or where.end.line == where.start.line
+    )
     kept, edits = list(old), []
     for begin, end, lines in reversed(list(_changes(old, new))):
         if begin < last and first < end or begin == end and first < begin < last:
             kept[begin:end] = lines
-            edits.append({"range": Range(Position(begin, 0), Position(end, 0)).to_json(), "newText": "".join(lines)})
+            edits.append(
+                {
+                    "range": Range(Position(begin, 0), Position(end, 0)).to_json(),
+                    "newText": "".join(lines),
+                }
+            )
     made = Compiled("".join(kept).encode("utf-8"))
-    if made.fault is not None or difference(Reading.of(document.compiled), Reading.of(made)) is not None:
-        raise RequestRefused("These lines cannot be formatted by themselves: format the whole score")
+    if (
+        made.fault is not None
+        or difference(Reading.of(document.compiled), Reading.of(made)) is not None
+    ):
+        raise RequestRefused(
+            "These lines cannot be formatted by themselves: format the whole score"
+        )
     return edits
 
 
 def _changes(old: list[str], new: list[str]) -> Iterator[tuple[int, int, list[str]]]:
-    """Yields the lines that change, from one up to another, and the new ones: one by one where only blanks of a line change."""
+    """Yields the lines that change, from one up to another, and the new ones: one by one where only
+    blanks of a line change."""
     before, after = [without_blanks(it) for it in old], [without_blanks(it) for it in new]
-    for tag, begin, end, new_begin, new_end in difflib.SequenceMatcher(None, before, after, autojunk=False).get_opcodes():
+    for tag, begin, end, new_begin, new_end in difflib.SequenceMatcher(
+        None, before, after, autojunk=False
+    ).get_opcodes():
         if tag != "equal":
             yield begin, end, new[new_begin:new_end]
             continue

@@ -5,9 +5,9 @@ import bisect
 import re
 from collections.abc import Iterator
 
+from gregorio_chant._native.results import Message
 from gregorio_chant.linting.explaining import example_of, page_uri
 from gregorio_chant.objects.items import Bar, Clef, Descriptor, Glyph, Item, Note, Syllable
-from gregorio_chant._native.results import Message
 from gregorio_chant.server.document import Document
 from gregorio_chant.server.protocol import Json, Params
 from gregorio_chant.text.vocabulary import HEADERS, TAGS
@@ -20,16 +20,28 @@ _Told = tuple[str, str]
 
 
 def hover(document: Document, params: Params) -> Json:
-    """Returns what is said of the thing at this position, and of each message there: its help and one example. It is in markdown if the editor shows that."""
+    """Returns what is said of the thing at this position, and of each message there: its help and
+    one example. It is in markdown if the editor shows that."""
     at = document.text.offset(params["position"].position())
     parts = [it for it in (_header_at(document, at), _tag_at(document, at)) if it is not None]
     if document.compiled.fault is None:
         parts += _items_at(document, at)
     with_marks = document.file.takes_markdown
-    told = [f"{_code(thing)}: {meaning}\n" if with_marks else f"{thing}: {meaning}\n" for thing, meaning in parts]
-    here = [(it, help) for it, help in zip(document.messages, document.helps) if document.offset(it) == at]
+    told = [
+        f"{_code(thing)}: {meaning}\n" if with_marks else f"{thing}: {meaning}\n"
+        for thing, meaning in parts
+    ]
+    here = [
+        (it, help)
+        for it, help in zip(document.messages, document.helps)
+        if document.offset(it) == at
+    ]
     told += [_marked(it, help) if with_marks else _plain(it, help) for it, help in here]
-    return {"contents": {"kind": "markdown" if with_marks else "plaintext", "value": "\n".join(told)}} if told else None
+    return (
+        {"contents": {"kind": "markdown" if with_marks else "plaintext", "value": "\n".join(told)}}
+        if told
+        else None
+    )
 
 
 def _code(text: str) -> str:
@@ -40,7 +52,11 @@ def _code(text: str) -> str:
 def _marked(message: Message, help: str | None) -> str:
     """Returns what is said of a message in markdown, with the whole page behind a link."""
     wrong, right = example_of(message.code)
-    lines = [f"**{message.code}**: {_escaped(message.text)}", "", *([_escaped(help), ""] if help else [])]
+    lines = [
+        f"**{message.code}**: {_escaped(message.text)}",
+        "",
+        *([_escaped(help), ""] if help else []),
+    ]
     for head, example in (("Wrong:", wrong), ("Right:", right)):
         lines += [head, "", "```gabc", example, "```", ""]
     return "\n".join([*lines, f"[All about {message.code}]({page_uri(message.code)})", ""])

@@ -29,7 +29,11 @@ class Message:
     @property
     def changed_uri(self) -> object:
         """The URI of the document that it changes or closes, if it does."""
-        params = self.value.get("params") if isinstance(self.value, dict) and self.method in _CHANGES else None
+        params = (
+            self.value.get("params")
+            if isinstance(self.value, dict) and self.method in _CHANGES
+            else None
+        )
         document = params.get("textDocument") if isinstance(params, dict) else None
         return document.get("uri") if isinstance(document, dict) else None
 
@@ -37,17 +41,24 @@ class Message:
     def is_answer(self) -> bool:
         """Whether it answers something that the server has asked."""
         it = self.value
-        return isinstance(it, dict) and "id" in it and "method" not in it and ("result" in it or "error" in it)
+        return (
+            isinstance(it, dict)
+            and "id" in it
+            and "method" not in it
+            and ("result" in it or "error" in it)
+        )
 
     @property
     def wants_answer(self) -> bool:
-        """Whether it is no notification and no answer: what is no message at all is answered too."""
+        """Whether it is no notification and no answer: what is no message at all is answered
+        too."""
         it = self.value
         return not self.is_answer and (not isinstance(it, dict) or "id" in it or "method" not in it)
 
 
 class Inbox:
-    """Messages in the order in which they came. One thread puts them in, and another one takes them out."""
+    """Messages in the order in which they came. One thread puts them in, and another one takes them
+    out."""
 
     def __init__(self) -> None:
         self._waiting = deque[Message]()
@@ -86,7 +97,8 @@ class Inbox:
             return any(it.changed_uri == uri for it in self._waiting)
 
     def take(self, waits: bool) -> Message | None:
-        """Takes the first message. Nothing where there is none, once nothing more comes or if it does not wait."""
+        """Takes the first message. Nothing where there is none, once nothing more comes or if it
+        does not wait."""
         with self._changed:
             while waits and not self._waiting and not self.is_closed:
                 self._changed.wait()

@@ -1,15 +1,16 @@
-"""The outline of a score: its headers, and its verses, which end with a double bar, with their words. It is there too where a fatal fault stops the score."""
+"""The outline of a score: its headers, and its verses, which end with a double bar, with their
+words. It is there too where a fatal fault stops the score."""
 from __future__ import annotations
 
 import re
 from collections.abc import Iterator
 from dataclasses import dataclass
 
-from gregorio_chant.objects.items import plain_text
 from gregorio_chant.format.layout import after_lead
-from gregorio_chant.text.scan import SyllableSpan
+from gregorio_chant.objects.items import plain_text
 from gregorio_chant.server.document import Document
 from gregorio_chant.server.protocol import Json, Params
+from gregorio_chant.text.scan import SyllableSpan
 
 _NAMESPACE, _PROPERTY, _STRING = 3, 7, 15
 _LONGEST = 40
@@ -28,7 +29,8 @@ class _Word:
 
 
 def _words(document: Document) -> Iterator[_Word]:
-    """Yields the words of the score, and each run of notes that has no text as a word of its own with none."""
+    """Yields the words of the score, and each run of notes that has no text as a word of its own
+    with none."""
     open_word: list[SyllableSpan] = []
     text = document.text.plain
     for it in document.scan.syllables:
@@ -46,7 +48,12 @@ def _words(document: Document) -> Iterator[_Word]:
 def _word(text: str, syllables: list[SyllableSpan]) -> _Word:
     spelled = "".join(_without_asides(text[it.begin : it.notes]) for it in syllables)
     last = syllables[-1]
-    return _Word(" ".join(plain_text(spelled).split()), after_lead(text, syllables[0]), last.end, _ends_verse(text, last))
+    return _Word(
+        " ".join(plain_text(spelled).split()),
+        after_lead(text, syllables[0]),
+        last.end,
+        _ends_verse(text, last),
+    )
 
 
 def _without_asides(text: str) -> str:
@@ -69,9 +76,17 @@ def _verses(document: Document) -> Iterator[list[_Word]]:
         yield verse
 
 
-def _symbol(document: Document, name: str, kind: int, begin: int, end: int, children: list[Json]) -> Json:
+def _symbol(
+    document: Document, name: str, kind: int, begin: int, end: int, children: list[Json]
+) -> Json:
     where = document.text.range(begin, end).to_json()
-    return {"name": name, "kind": kind, "range": where, "selectionRange": where, "children": children}
+    return {
+        "name": name,
+        "kind": kind,
+        "range": where,
+        "selectionRange": where,
+        "children": children,
+    }
 
 
 def symbols(document: Document, params: Params) -> Json:
@@ -80,12 +95,36 @@ def symbols(document: Document, params: Params) -> Json:
     found = []
     for header in document.scan.headers:
         spelled = text[header.begin : header.end]
-        name = f"{header.name}: {spelled.partition(':')[2].strip(' ;')}" if header.name else spelled.strip()
-        found.append(_symbol(document, " ".join(name.split())[:_LONGEST] or "header", _PROPERTY, header.begin, header.end, []))
+        name = (
+            f"{header.name}: {spelled.partition(':')[2].strip(' ;')}"
+            if header.name
+            else spelled.strip()
+        )
+        found.append(
+            _symbol(
+                document,
+                " ".join(name.split())[:_LONGEST] or "header",
+                _PROPERTY,
+                header.begin,
+                header.end,
+                [],
+            )
+        )
     for number, verse in enumerate(_verses(document), 1):
-        words = [_symbol(document, it.text, _STRING, it.begin, it.end, []) for it in verse if it.text]
+        words = [
+            _symbol(document, it.text, _STRING, it.begin, it.end, []) for it in verse if it.text
+        ]
         name = " ".join(it.text for it in verse if it.text)[:_LONGEST]
-        found.append(_symbol(document, f"{number}. {name}".rstrip(), _NAMESPACE, verse[0].begin, verse[-1].end, words))
+        found.append(
+            _symbol(
+                document,
+                f"{number}. {name}".rstrip(),
+                _NAMESPACE,
+                verse[0].begin,
+                verse[-1].end,
+                words,
+            )
+        )
     return found
 
 
@@ -94,5 +133,8 @@ def foldings(document: Document, params: Params) -> Json:
     headers = document.scan.headers
     spans = [(headers[0].begin, headers[-1].end)] if headers else []
     spans += [(it[0].begin, it[-1].end) for it in _verses(document)]
-    lines = [(document.text.position(begin).line, document.text.position(end).line) for begin, end in spans]
+    lines = [
+        (document.text.position(begin).line, document.text.position(end).line)
+        for begin, end in spans
+    ]
     return [{"startLine": begin, "endLine": end} for begin, end in lines if begin < end]

@@ -51,13 +51,23 @@ class Pages:
         picture = _drawn(document, names)
         file = document.file
         name = printable("a score" if file.name == STDIN else file.name)
-        shown = Shown(Checked(file.name, document.messages, helps=document.helps), name, picture, document.text.plain)
+        shown = Shown(
+            Checked(file.name, document.messages, helps=document.helps),
+            name,
+            picture,
+            document.text.plain,
+        )
         number = self._numbers.setdefault(file.uri, len(self._numbers) + 1)
         page, way = f"{number}.html", f"{number}-here.html"
         try:
             folder = self._made_folder()
-            (folder / page).write_text("".join(page_of([shown], picture.name or name)), encoding="utf-8")
-            (folder / way).write_text(leading_to(f"{page}#{names.syllable(_syllable_at(document, position))}"), encoding="utf-8")
+            (folder / page).write_text(
+                "".join(page_of([shown], picture.name or name)), encoding="utf-8"
+            )
+            (folder / way).write_text(
+                leading_to(f"{page}#{names.syllable(_syllable_at(document, position))}"),
+                encoding="utf-8",
+            )
         except OSError as error:
             raise RequestRefused(f"the picture cannot be written: {reason_of(error)}") from None
         return (folder / way).as_uri()

@@ -60,7 +60,8 @@ class Range:
 
 
 class Params:
-    """A part of the parameters of a message. Each method raises `ProtocolError` where something else is wanted than what stands there."""
+    """A part of the parameters of a message. Each method raises `ProtocolError` where something
+    else is wanted than what stands there."""
 
     def __init__(self, value: Json, name: str = "params") -> None:
         self._value, self._name = value, name

@@ -1,4 +1,5 @@
-"""What the server says to one editor: it answers messages in their order, and checks what has changed when nothing else waits."""
+"""What the server says to one editor: it answers messages in their order, and checks what has
+changed when nothing else waits."""
 from __future__ import annotations
 
 import enum
@@ -7,7 +8,6 @@ from collections.abc import Callable
 from urllib.parse import unquote_to_bytes, urlsplit
 
 from gregorio_chant.objects.dump import Pause
-from gregorio_chant.work.needs import MissingDependency
 from gregorio_chant.server.diagnostics import diagnostics, no_diagnostics
 from gregorio_chant.server.document import Document, File
 from gregorio_chant.server.features import CAPABILITIES, FEATURES, RESOLVE, SHOW, RequestRefused
@@ -16,6 +16,7 @@ from gregorio_chant.server.pictures import Pages
 from gregorio_chant.server.protocol import Code, Json, Params, ProtocolError
 from gregorio_chant.server.text import Text
 from gregorio_chant.server.wire import Unreadable
+from gregorio_chant.work.needs import MissingDependency
 from gregorio_chant.work.settings import Finder, Settings, SettingsError
 from gregorio_chant.work.streams import STDIN
 
@@ -64,14 +65,18 @@ class Session:
         # The documents that have changed since they were checked, the first one first.
         self._unchecked: dict[str, None] = {}
         self._phase = _Phase.BEFORE
-        self._takes_versions = self._shows_documents = self._resolves_actions = self._takes_markdown = False
+        self._takes_versions = (
+            self._shows_documents
+        ) = self._resolves_actions = self._takes_markdown = False
         # Whether a message waits that changes a document.
         self._is_changed: Callable[[str], bool] = lambda uri: False
         self._pages = Pages()
         # How many documents the editor was asked to show.
         self._asked = 0
         self._told: dict[str, Callable[[Params], None]] = {
-            "textDocument/didOpen": self._opened, "textDocument/didChange": self._changed, "textDocument/didClose": self._closed,
+            "textDocument/didOpen": self._opened,
+            "textDocument/didChange": self._changed,
+            "textDocument/didClose": self._closed,
         }
 
     @property
@@ -79,7 +84,9 @@ class Session:
         return self._phase is _Phase.SHUT_DOWN
 
     def run(self, inbox: Inbox) -> None:
-        """Answers until nothing more comes. A message that comes while a score is checked is answered first, and the check begins again after it."""
+        """Answers until nothing more comes. A message that comes while a score is checked is
+        answered first, and the check begins again after it."""
+
         def pause() -> None:
             if not inbox.is_empty or inbox.is_closed:
                 raise _Overtaken
@@ -107,7 +114,8 @@ class Session:
     # ---- messages
 
     def _take(self, message: Message) -> None:
-        """Answers a message. Whatever goes wrong is an error of the protocol, and the next message is answered."""
+        """Answers a message. Whatever goes wrong is an error of the protocol, and the next message
+        is answered."""
         key, told = "error", ""
         try:
             key, answer = "result", self._answer(message)
@@ -119,7 +127,10 @@ class Session:
         if message.wants_answer:
             self._send({"jsonrpc": "2.0", "id": message.id, key: answer})
         elif key == "error":
-            self._notify("window/logMessage", {"type": _ERROR, "message": f"{(message.method or '')[:80]}: {told}"})
+            self._notify(
+                "window/logMessage",
+                {"type": _ERROR, "message": f"{(message.method or '')[:80]}: {told}"},
+            )
 
     def _answer(self, message: Message) -> Json:
         value = message.value
@@ -132,7 +143,9 @@ class Session:
         if message.is_cancelled:
             raise ProtocolError(Code.CANCELLED, "the request was cancelled")
         if message.method is None or message.id is None and "id" in value:
-            raise ProtocolError(Code.NO_REQUEST, "a request has a method, and an id that is a text or a number")
+            raise ProtocolError(
+                Code.NO_REQUEST, "a request has a method, and an id that is a text or a number"
+            )
         params = Params(value.get("params"))
         if message.id is not None:
             return self._ask(message.method, params)
@@ -186,11 +199,20 @@ class Session:
         has the document's URI and the position as arguments."""
         arguments = list(params["arguments"].parts()) if params["command"].text() == SHOW else []
         if len(arguments) != 2:
-            raise ProtocolError(Code.BAD_PARAMETERS, f"the command is {SHOW}, with a document's URI and a position")
+            raise ProtocolError(
+                Code.BAD_PARAMETERS, f"the command is {SHOW}, with a document's URI and a position"
+            )
         uri = self._pages.put(self._document(arguments[0].text()), arguments[1].position())
         if self._shows_documents:
             self._asked += 1
-            self._send({"jsonrpc": "2.0", "id": f"show-{self._asked}", "method": "window/showDocument", "params": {"uri": uri, "external": True}})
+            self._send(
+                {
+                    "jsonrpc": "2.0",
+                    "id": f"show-{self._asked}",
+                    "method": "window/showDocument",
+                    "params": {"uri": uri, "external": True},
+                }
+            )
         else:
             self._warn(f"The picture is at {uri}", _INFO)
         return None
@@ -199,10 +221,14 @@ class Session:
         if self._phase is not _Phase.BEFORE:
             raise ProtocolError(Code.NO_REQUEST, "the server is initialized")
         self._phase = _Phase.OPEN
-        self._takes_versions = params.flag("capabilities", "workspace", "workspaceEdit", "documentChanges")
+        self._takes_versions = params.flag(
+            "capabilities", "workspace", "workspaceEdit", "documentChanges"
+        )
         self._shows_documents = params.flag("capabilities", "window", "showDocument", "support")
         texts = ("capabilities", "textDocument")
-        self._resolves_actions = _lists(params, "edit", *texts, "codeAction", "resolveSupport", "properties")
+        self._resolves_actions = _lists(
+            params, "edit", *texts, "codeAction", "resolveSupport", "properties"
+        )
         self._takes_markdown = _lists(params, "markdown", *texts, "hover", "contentFormat")
         return CAPABILITIES
 
@@ -213,7 +239,15 @@ class Session:
         text, name = Text(it["text"].text()), name_of(uri)
         settings = self._settings_of(name)
         with_rules = self._with_rules or settings.rules is True
-        file = File(uri, name, settings, with_rules, self._takes_versions, self._resolves_actions, self._takes_markdown)
+        file = File(
+            uri,
+            name,
+            settings,
+            with_rules,
+            self._takes_versions,
+            self._resolves_actions,
+            self._takes_markdown,
+        )
         self._keep(Document(file, text, it.version()))
 
     def _settings_of(self, name: str) -> Settings:
@@ -225,7 +259,10 @@ class Session:
 
     def _changed(self, params: Params) -> None:
         document = self._documents.get(params.uri())
-        changes = [(it["range"].range() if it.has("range") else None, it["text"].text()) for it in params["contentChanges"].parts()]
+        changes = [
+            (it["range"].range() if it.has("range") else None, it["text"].text())
+            for it in params["contentChanges"].parts()
+        ]
         if document is None:
             return
 

@@ -1,6 +1,7 @@
 """The text of a score as it stands in an editor, between the editor's counting and the compiler's.
 
-An editor counts lines from 0, and columns in units of UTF-16 from 0. The compiler takes CR and LF for one line end, and counts no U+FEFF.
+An editor counts lines from 0, and columns in units of UTF-16 from 0. The compiler takes CR and LF
+for one line end, and counts no U+FEFF.
 """
 from __future__ import annotations
 
@@ -29,7 +30,8 @@ class Text:
 
     @cached_property
     def plain(self) -> str:
-        """The text as the compiler counts it. Half a character of UTF-16, which is no text, is one character."""
+        """The text as the compiler counts it. Half a character of UTF-16, which is no text, is one
+        character."""
         return text_of(_HALF.sub("\ufffd", self.raw).encode("utf-8"))
 
     @cached_property
@@ -60,7 +62,8 @@ class Text:
         return Position(number, utf16_length(self.raw[self._line(number)[0] : at]))
 
     def _raw_at(self, position: Position) -> int:
-        """Returns the offset of a position; of one after the end of its line or of the text, that end."""
+        """Returns the offset of a position; of one after the end of its line or of the text, that
+        end."""
         if position.line > len(self._ends):
             return len(self.raw)
         begin, end = self._line(position.line)
@@ -82,11 +85,13 @@ class Text:
         return Text(self.raw[:begin] + new + self.raw[end:])
 
     def position(self, offset: int) -> Position:
-        """Returns the position of the character after `offset` others, as the compiler counts them."""
+        """Returns the position of the character after `offset` others, as the compiler counts
+        them."""
         return self._position(self._raw_offsets[min(offset, len(self._raw_offsets) - 1)])
 
     def range(self, begin: int, end: int) -> Range:
-        """Returns the range of the characters from `begin` up to `end`, as the compiler counts them."""
+        """Returns the range of the characters from `begin` up to `end`, as the compiler counts
+        them."""
         return Range(self.position(begin), self.position(end))
 
     def raw_range(self, begin: int, end: int) -> Range:

@@ -1,4 +1,5 @@
-"""The kinds of a score's parts, for editors that colour by them: read off the text, also where a fatal fault stops the score."""
+"""The kinds of a score's parts, for editors that colour by them: read off the text, also where a
+fatal fault stops the score."""
 from __future__ import annotations
 
 import bisect
@@ -6,10 +7,10 @@ import re
 from collections.abc import Iterator
 from typing import NamedTuple
 
-from gregorio_chant.text.scan import SyllableSpan
 from gregorio_chant.server.completion import nabc_lines
 from gregorio_chant.server.document import Document
 from gregorio_chant.server.protocol import Json, Params
+from gregorio_chant.text.scan import SyllableSpan
 
 KINDS = ["property", "comment", "keyword", "parameter", "class", "operator", "variable", "function"]
 _TAG = re.compile(r"\$.|%[^\n]*|(?P<keyword></?[^>\n]*>)", re.DOTALL)
@@ -27,7 +28,8 @@ class _Token(NamedTuple):
 
 
 def tokens(document: Document, params: Params) -> Json:
-    """Returns the parts in the form of the protocol: five numbers for each, the first two from the part before it."""
+    """Returns the parts in the form of the protocol: five numbers for each, the first two from the
+    part before it."""
     numbers: list[int] = []
     line = character = 0
     for it in _apart(sorted(_tokens(document)), [it.begin for it in document.scan.comments]):
@@ -35,14 +37,19 @@ def tokens(document: Document, params: Params) -> Json:
         if where.start.line != line:
             character = 0
         numbers += [
-            where.start.line - line, where.start.character - character, where.end.character - where.start.character, KINDS.index(it.kind), 0,
+            where.start.line - line,
+            where.start.character - character,
+            where.end.character - where.start.character,
+            KINDS.index(it.kind),
+            0,
         ]
         line, character = where.start.line, where.start.character
     return {"data": numbers}
 
 
 def _apart(tokens: list[_Token], comments: list[int]) -> Iterator[_Token]:
-    """Yields the parts so that none lies over another one: where a comment begins within one, that ends there."""
+    """Yields the parts so that none lies over another one: where a comment begins within one, that
+    ends there."""
     end = 0
     for it in tokens:
         if it.begin >= end:
@@ -67,7 +74,8 @@ def _tokens(document: Document) -> Iterator[_Token]:
 
 
 def _notes(text: str, syllable: SyllableSpan, lines: int) -> Iterator[_Token]:
-    """Yields the parts of the notes of a syllable; a `|` leads to the next snippet where there are lines of NABC."""
+    """Yields the parts of the notes of a syllable; a `|` leads to the next snippet where there are
+    lines of NABC."""
     at, snippet = syllable.notes + 1, 0
     while at < syllable.end:
         pattern = _NABC if snippet % (lines + 1) else _NOTES

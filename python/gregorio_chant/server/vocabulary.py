@@ -4,9 +4,9 @@ from __future__ import annotations
 from functools import cache
 
 from gregorio_chant._native import library
+from gregorio_chant._native.results import Format
 from gregorio_chant.objects.dump import Score
 from gregorio_chant.objects.items import Descriptor, NabcSnippet
-from gregorio_chant._native.results import Format
 from gregorio_chant.text.vocabulary import NABC_CODES
 
 
@@ -14,6 +14,13 @@ from gregorio_chant.text.vocabulary import NABC_CODES
 def nabc_names() -> dict[str, str]:
     """Returns the name of each NABC code, as the compiler names it."""
     notes = "|".join(f"f|{it}" for it in NABC_CODES)
-    score = Score.read(library.compile(f"name: a;\nnabc-lines: 1;\n%%\n(c4) a({notes})", Format.DUMP).output)
+    score = Score.read(
+        library.compile(f"name: a;\nnabc-lines: 1;\n%%\n(c4) a({notes})", Format.DUMP).output
+    )
     snippets = [it for it in score.syllables[-1].snippets if isinstance(it, NabcSnippet)]
-    return {it.spelling: it.names[0] for snippet in snippets for it in snippet.items if isinstance(it, Descriptor)}
+    return {
+        it.spelling: it.names[0]
+        for snippet in snippets
+        for it in snippet.items
+        if isinstance(it, Descriptor)
+    }

@@ -1,4 +1,5 @@
-"""Messages of the protocol over two streams: each is JSON after a header with its length in bytes."""
+"""Messages of the protocol over two streams: each is JSON after a header with its length in
+bytes."""
 from __future__ import annotations
 
 import json
@@ -27,7 +28,8 @@ class Wire:
         self._source, self._sink = source, sink
 
     def messages(self) -> Iterator[object]:
-        """Yields the JSON of each message until the stream ends, and `Unreadable` for what is none. What comes after that is read again."""
+        """Yields the JSON of each message until the stream ends, and `Unreadable` for what is none.
+        What comes after that is read again."""
         while True:
             length, is_clean = self._header()
             if not is_clean:
@@ -43,7 +45,8 @@ class Wire:
             yield _json_of(body)
 
     def _header(self) -> tuple[int | None, bool]:
-        """Passes all up to the next message. Returns its length, or nothing where the stream ends, and whether nothing but headers came."""
+        """Passes all up to the next message. Returns its length, or nothing where the stream ends,
+        and whether nothing but headers came."""
         length: int | None = None
         is_clean, tail = True, b""
         while line := self._source.readline(_PIECE):
@@ -55,13 +58,18 @@ class Wire:
                 length = int(found[1])
                 is_clean &= found.start() == 0
             else:
-                is_clean &= length is not None and _OTHER_HEADER.fullmatch(line) is not None or _is_type(line)
+                is_clean &= (
+                    length is not None
+                    and _OTHER_HEADER.fullmatch(line) is not None
+                    or _is_type(line)
+                )
             if line.endswith(b"\n"):
                 tail = b""
         return None, is_clean
 
     def send(self, message: object) -> None:
-        """Sends a message. Where nobody reads it any more, nobody can be told: the end of the other stream comes next."""
+        """Sends a message. Where nobody reads it any more, nobody can be told: the end of the other
+        stream comes next."""
         body = json.dumps(message, separators=(",", ":")).encode("ascii")
         try:
             self._sink.write(b"Content-Length: %d\r\n\r\n%s" % (len(body), body))

@@ -9,18 +9,26 @@ from dataclasses import dataclass, field, replace
 from pathlib import Path
 from urllib.parse import quote
 
+from gregorio_chant._native.results import Kind
 from gregorio_chant.linting import checking
-from gregorio_chant.work import files
+from gregorio_chant.linting.selection import UnknownCode
 from gregorio_chant.objects.dump import Score, ScoreError
+from gregorio_chant.objects.sounds import NoteBeforeClef, Sound, sounds_of
 from gregorio_chant.picture import Look, Names, draw
 from gregorio_chant.picture.page import NARROW, Entry, Shown, index_of, page_of
 from gregorio_chant.report.reports import Checked, counted, summary_of
-from gregorio_chant._native.results import Kind
-from gregorio_chant.linting.selection import UnknownCode
-from gregorio_chant.work.settings import Finder, NoSettings
-from gregorio_chant.objects.sounds import NoteBeforeClef, Sound, sounds_of
 from gregorio_chant.text.source import text_of
-from gregorio_chant.work.streams import CANNOT_READ_OR_WRITE, STDIN, WriteError, printable, reason_of, tell, write_data
+from gregorio_chant.work import files
+from gregorio_chant.work.settings import Finder, NoSettings
+from gregorio_chant.work.streams import (
+    CANNOT_READ_OR_WRITE,
+    STDIN,
+    WriteError,
+    printable,
+    reason_of,
+    tell,
+    write_data,
+)
 from gregorio_chant.work.walk import find_scores
 
 MOST = 200
@@ -64,13 +72,19 @@ class _Scores:
 
     def __init__(self, options: Options) -> None:
         self._options = options
-        self._checking = checking.Options(options.paths, with_rules=options.with_rules, settings=options.settings)
+        self._checking = checking.Options(
+            options.paths, with_rules=options.with_rules, settings=options.settings
+        )
         self._reader = files.Reader.of(options.paths)
         self.files, self.failed, self.status = 0, 0, 0
         self.kinds = Counter[Kind]()
 
     def names(self) -> list[str]:
-        found = find_scores(self._options.paths, lambda name, error: self._fail(name, reason_of(error)), self._options.exclude)
+        found = find_scores(
+            self._options.paths,
+            lambda name, error: self._fail(name, reason_of(error)),
+            self._options.exclude,
+        )
         return self._options.settings.kept(found, self._options.paths)
 
     def _fail(self, name: str, reason: str) -> None:
@@ -93,25 +107,46 @@ class _Scores:
             yield checked, content.data
 
     def shown(self, checked: Checked, data: bytes, prefix: str) -> Shown:
-        """Returns a score as a page shows it: its picture, and one for a phone if the first is wider."""
+        """Returns a score as a page shows it: its picture, and one for a phone if the first is
+        wider."""
         options, look = self._options, self._options.look
         messages = checked.messages if options.with_messages else ()
         names = Names(prefix, links=True, has_heads=options.sings)
         picture, narrow = draw(data, messages, look=look, names=names), None
         if look.width > NARROW:
-            narrow = draw(data, messages, look=replace(look, width=NARROW), names=replace(names, prefix=f"{prefix}n-", messages=prefix))
+            narrow = draw(
+                data,
+                messages,
+                look=replace(look, width=NARROW),
+                names=replace(names, prefix=f"{prefix}n-", messages=prefix),
+            )
         sounds = _sounds(data) if options.sings else ()
-        return Shown(checked, printable(checked.shown_name), picture, text_of(data), prefix, narrow, options.with_messages, sounds)
+        return Shown(
+            checked,
+            printable(checked.shown_name),
+            picture,
+            text_of(data),
+            prefix,
+            narrow,
+            options.with_messages,
+            sounds,
+        )
 
     def summary(self) -> str:
         return summary_of(self.files, self.failed, self.kinds)
 
 
 def _put(path: Path, pieces: Iterable[str], below: Path | None = None) -> None:
-    """Writes a file anew, which the user has named, or which stands below a folder that he has named. Raises `WriteError`."""
+    """Writes a file anew, which the user has named, or which stands below a folder that he has
+    named. Raises `WriteError`."""
     try:
         path.parent.mkdir(parents=True, exist_ok=True)
-        files.write(str(path), (it.encode("utf-8") for it in pieces), is_named=below is None, below=None if below is None else str(below))
+        files.write(
+            str(path),
+            (it.encode("utf-8") for it in pieces),
+            is_named=below is None,
+            below=None if below is None else str(below),
+        )
     except OSError as error:
         raise WriteError(error) from None
 
@@ -159,10 +194,17 @@ def show(options: Options) -> int:
 def _show_one(options: Options, scores: _Scores, names: list[str]) -> None:
     """Writes one picture. Raises `UnknownCode` where there is not one score."""
     if len(names) != 1 or options.into_folder:
-        raise UnknownCode(f"--svg writes one picture, and here are {counted(len(names), 'score')}" if len(names) != 1 else "--svg writes a file, and no folder")
+        raise UnknownCode(
+            f"--svg writes one picture, and here are {counted(len(names), 'score')}"
+            if len(names) != 1
+            else "--svg writes a file, and no folder"
+        )
     _refuse_own_input(options.files, names)
     for checked, data in scores.all(names):
-        _write(options, draw(data, checked.messages if options.with_messages else (), look=options.look).pieces)
+        _write(
+            options,
+            draw(data, checked.messages if options.with_messages else (), look=options.look).pieces,
+        )
 
 
 def _show_page(options: Options, scores: _Scores, names: list[str]) -> None:
@@ -180,8 +222,16 @@ def _show_page(options: Options, scores: _Scores, names: list[str]) -> None:
                 left_out += 1
                 continue
         shown.append(scores.shown(checked, data, f"p{len(shown) + 1}-"))
-    note = f"{counted(left_out, 'score')} more with messages: -o FOLDER/ writes a page for each." if left_out else ""
-    title = shown[0].picture.name or shown[0].name if len(names) == len(shown) == 1 else scores.summary()
+    note = (
+        f"{counted(left_out, 'score')} more with messages: -o FOLDER/ writes a page for each."
+        if left_out
+        else ""
+    )
+    title = (
+        shown[0].picture.name or shown[0].name
+        if len(names) == len(shown) == 1
+        else scores.summary()
+    )
     _write(options, page_of(shown, title, note))
 
 
@@ -192,7 +242,13 @@ def _page_names(names: list[str], paths: tuple[str, ...]) -> Iterator[str]:
     taken = {_INDEX}
     for name in names:
         folder = next((it for it in folders if name.startswith(it)), None)
-        whole = "stdin" if name == STDIN else os.path.basename(name) if folder is None else name[len(folder) :].lstrip("/")
+        whole = (
+            "stdin"
+            if name == STDIN
+            else os.path.basename(name)
+            if folder is None
+            else name[len(folder) :].lstrip("/")
+        )
         page, number = f"{whole}.html", 1
         while page in taken:
             number += 1
@@ -210,8 +266,18 @@ def _show_folder(options: Options, scores: _Scores, names: list[str]) -> None:
     for checked, data in scores.all(names):
         shown = scores.shown(checked, data, "")
         page = pages[checked.name]
-        _put(folder / page, page_of([shown], shown.picture.name or shown.name, back="../" * page.count("/") + _INDEX), folder)
-        kinds, codes = Counter(it.kind for it in checked.messages), Counter(it.code for it in checked.messages)
-        entries.append(Entry(shown.name, shown.picture.name, quote(os.fsencode(page)), kinds, codes))
+        _put(
+            folder / page,
+            page_of(
+                [shown], shown.picture.name or shown.name, back="../" * page.count("/") + _INDEX
+            ),
+            folder,
+        )
+        kinds, codes = Counter(it.kind for it in checked.messages), Counter(
+            it.code for it in checked.messages
+        )
+        entries.append(
+            Entry(shown.name, shown.picture.name, quote(os.fsencode(page)), kinds, codes)
+        )
     _put(folder / _INDEX, index_of(entries, scores.failed), folder)
     tell(scores.summary())

@@ -10,11 +10,11 @@ from typing import NoReturn
 from watchdog.events import FileSystemEvent, FileSystemEventHandler
 from watchdog.observers import Observer
 
-from gregorio_chant.work.ignored import FILE as IGNORED
 from gregorio_chant.linting.selection import UnknownCode
+from gregorio_chant.show.showing import Options, show
+from gregorio_chant.work.ignored import FILE as IGNORED
 from gregorio_chant.work.settings import NAME as SETTINGS
 from gregorio_chant.work.settings import SettingsError
-from gregorio_chant.show.showing import Options, show
 from gregorio_chant.work.streams import CANNOT_READ_OR_WRITE, STDIN, reason_of, tell
 from gregorio_chant.work.walk import has_name_of_score
 
@@ -33,7 +33,11 @@ class _Watched:
         files = [it for it in whole if it not in self._folders]
         # A link changes in its own folder, and the file that it leads to in another one.
         self._files = {name for it in files for name in (it, os.path.realpath(it))}
-        self._output = None if options.output is None or options.into_folder else os.path.abspath(options.output)
+        self._output = (
+            None
+            if options.output is None or options.into_folder
+            else os.path.abspath(options.output)
+        )
 
     def places(self) -> Iterator[tuple[str, bool]]:
         """Yields each folder where something may change, and whether all below it is meant."""
@@ -45,7 +49,12 @@ class _Watched:
         base = os.path.basename(name)
         if name == self._output:
             return False
-        return name in self._files or base == SETTINGS or bool(self._folders) and (base == IGNORED or has_name_of_score(base))
+        return (
+            name in self._files
+            or base == SETTINGS
+            or bool(self._folders)
+            and (base == IGNORED or has_name_of_score(base))
+        )
 
 
 class _Handler(FileSystemEventHandler):

@@ -4,12 +4,12 @@ from __future__ import annotations
 from collections.abc import Iterator, Sequence
 from dataclasses import dataclass, field, fields
 
-from gregorio_chant.objects.dump import Score, ScoreError
-from gregorio_chant.export.volpiano import volpiano_of
-from gregorio_chant.objects.passages import Word
 from gregorio_chant._native.results import Kind
-from gregorio_chant.tables.searching import degree_of, degrees_of
+from gregorio_chant.export.volpiano import volpiano_of
 from gregorio_chant.linting.selection import UnknownCode
+from gregorio_chant.objects.dump import Score, ScoreError
+from gregorio_chant.objects.passages import Word
+from gregorio_chant.tables.searching import degree_of, degrees_of
 from gregorio_chant.tables.tables import PLACE, Row
 
 # How much of a score an index shows.
@@ -40,7 +40,9 @@ class IndexEntry:
 
 
 # The columns of the command, but for the headers that are asked for.
-COLUMNS = tuple(it.name for it in fields(IndexEntry) if it.name not in ("line", "column", "headers", "fault"))
+COLUMNS = tuple(
+    it.name for it in fields(IndexEntry) if it.name not in ("line", "column", "headers", "fault")
+)
 
 
 def _incipit(words: Sequence[Word]) -> str | None:
@@ -58,11 +60,20 @@ def entry_of(score: Score, headers: Sequence[str] = ()) -> IndexEntry:
     words = score.words[:_WORDS]
     fault = next((it for it in score.messages if it.kind is Kind.FATAL), None)
     return IndexEntry(
-        first.source.line if first else 1, first.source.column if first else 1,
-        score.header("name"), score.header("office-part"), score.header("mode"), " ".join(it.text for it in words), degrees_of(notes[:_NOTES]),
-        degree_of(notes[-1]) if notes else None, degree_of(reach.low) if reach else None, degree_of(reach.high) if reach else None,
-        (reach.high.step or 0) - (reach.low.step or 0) if reach else None, _incipit(words),
-        {it: score.header(it) for it in headers}, None if fault is None else str(ScoreError(fault)),
+        first.source.line if first else 1,
+        first.source.column if first else 1,
+        score.header("name"),
+        score.header("office-part"),
+        score.header("mode"),
+        " ".join(it.text for it in words),
+        degrees_of(notes[:_NOTES]),
+        degree_of(notes[-1]) if notes else None,
+        degree_of(reach.low) if reach else None,
+        degree_of(reach.high) if reach else None,
+        (reach.high.step or 0) - (reach.low.step or 0) if reach else None,
+        _incipit(words),
+        {it: score.header(it) for it in headers},
+        None if fault is None else str(ScoreError(fault)),
     )
 
 
@@ -76,7 +87,9 @@ class Index:
     def of(cls, words: Sequence[str]) -> Index:
         """Takes names with commas between them. Raises `UnknownCode` for what can be no name, and
         for one that the index has already."""
-        headers = tuple(dict.fromkeys(it.strip() for word in words for it in word.split(",") if it.strip()))
+        headers = tuple(
+            dict.fromkeys(it.strip() for word in words for it in word.split(",") if it.strip())
+        )
         if words and not headers:
             raise UnknownCode("--header needs the name of a header, as in --header book")
         for it in headers:
@@ -93,4 +106,6 @@ class Index:
     def __call__(self, score: Score) -> Iterator[Row]:
         """Yields one row."""
         it = entry_of(score, self.headers)
-        yield Row(it.line, it.column, (*(getattr(it, name) for name in COLUMNS), *it.headers.values()))
+        yield Row(
+            it.line, it.column, (*(getattr(it, name) for name in COLUMNS), *it.headers.values())
+        )

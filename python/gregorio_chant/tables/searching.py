@@ -9,23 +9,49 @@ from collections.abc import Iterator, Sequence
 from dataclasses import dataclass
 from typing import Protocol
 
-from gregorio_chant.objects.dump import Glyph, Note, Score, Syllable
 from gregorio_chant.export.volpiano import LETTERS, letter_of
-from gregorio_chant.text.nearest import did_you_mean
-from gregorio_chant.objects.passages import text_of_syllables
 from gregorio_chant.linting.selection import UnknownCode
+from gregorio_chant.objects.dump import Glyph, Note, Score, Syllable
+from gregorio_chant.objects.passages import text_of_syllables
 from gregorio_chant.tables.tables import Row
+from gregorio_chant.text.nearest import did_you_mean
 
 _JOINED = (
-    "pes", "clivis", "torculus", "porrectus", "scandicus", "scandicus-flexus", "torculus-resupinus", "porrectus-flexus", "torculus-resupinus-flexus",
+    "pes",
+    "clivis",
+    "torculus",
+    "porrectus",
+    "scandicus",
+    "scandicus-flexus",
+    "torculus-resupinus",
+    "porrectus-flexus",
+    "torculus-resupinus-flexus",
 )
 _SHAPES = (
-    "punctum", "virga", "virga-reversa", "bivirga", "trivirga", "stropha", "distropha", "tristropha", "oriscus", "oriscus-scapus", "quilisma",
-    "quilisma-quadratum", "quadratum", "cavum", "lined", "linea",
+    "punctum",
+    "virga",
+    "virga-reversa",
+    "bivirga",
+    "trivirga",
+    "stropha",
+    "distropha",
+    "tristropha",
+    "oriscus",
+    "oriscus-scapus",
+    "quilisma",
+    "quilisma-quadratum",
+    "quadratum",
+    "cavum",
+    "lined",
+    "linea",
 )
 # All kinds of neumes.
 KINDS = (
-    *(f"{it}{end}" for it in _JOINED for end in ("", "-subpunctis", "-subpunctis-resupinus")), "climacus", "climacus-resupinus", "inclinata", *_SHAPES,
+    *(f"{it}{end}" for it in _JOINED for end in ("", "-subpunctis", "-subpunctis-resupinus")),
+    "climacus",
+    "climacus-resupinus",
+    "inclinata",
+    *_SHAPES,
 )
 _SIGNS = {"none": "", "natural": "", "flat": "\u266d", "sharp": "\u266f"}
 # What a melody in Volpiano has beside its letters.
@@ -63,7 +89,12 @@ def counted_neumes(score: Score) -> Iterator[Row]:
     for syllable, it in _neumes(score):
         first.setdefault(it.kind, (syllable, it))
     for kind, (syllable, it) in first.items():
-        yield Row(it.source.line, it.source.column, (kind, count[kind], it.spelling, syllable.plain), count[kind])
+        yield Row(
+            it.source.line,
+            it.source.column,
+            (kind, count[kind], it.spelling, syllable.plain),
+            count[kind],
+        )
 
 
 @dataclass(frozen=True, slots=True)
@@ -83,13 +114,16 @@ class Search(Protocol):
 
 @dataclass(frozen=True)
 class Together:
-    """Makes the rows of what the first search finds, if it shares a note with something that each of the others finds."""
+    """Makes the rows of what the first search finds, if it shares a note with something that each
+    of the others finds."""
 
     first: Search
     others: tuple[Search, ...] = ()
 
     def __call__(self, score: Score) -> Iterator[Row]:
-        of_others = [{note for it in search.matches(score) for note in it.notes} for search in self.others]
+        of_others = [
+            {note for it in search.matches(score) for note in it.notes} for search in self.others
+        ]
         for it in self.first.matches(score):
             if all(not notes.isdisjoint(it.notes) for notes in of_others):
                 yield it.row
@@ -106,13 +140,17 @@ class NeumeSearch:
         """Raises `UnknownCode` where no kind matches."""
         pattern = word.casefold()
         if not fnmatch.filter(KINDS, pattern):
-            raise UnknownCode(f"{word} is no kind of neume: {did_you_mean(word, KINDS, 'docs/LANGUAGE.md lists them')}")
+            raise UnknownCode(
+                f"{word} is no kind of neume: {did_you_mean(word, KINDS, 'docs/LANGUAGE.md lists them')}"
+            )
         return cls(pattern)
 
     def matches(self, score: Score) -> Iterator[Match]:
         for syllable, it in _neumes(score):
             if fnmatch.fnmatchcase(it.kind, self.pattern):
-                yield Match(it.notes, Row.at(it.source, it.spelling, degrees_of(it.notes), syllable.plain))
+                yield Match(
+                    it.notes, Row.at(it.source, it.spelling, degrees_of(it.notes), syllable.plain)
+                )
 
 
 @dataclass(frozen=True)
@@ -134,7 +172,9 @@ class IntervalSearch:
         of_notes = [(syllable, note) for syllable in score.syllables for note in syllable.notes]
         heights = [note.semitones if self.in_semitones else note.step for _, note in of_notes]
         count = len(self.wanted)
-        rises = tuple(None if a is None or b is None else b - a for a, b in zip(heights, heights[1:]))
+        rises = tuple(
+            None if a is None or b is None else b - a for a, b in zip(heights, heights[1:])
+        )
         for at in range(len(rises) - count + 1):
             if rises[at : at + count] == self.wanted:
                 yield _match_of(of_notes[at : at + count + 1])
@@ -144,12 +184,21 @@ def _match_of(found: Sequence[tuple[Syllable, Note]]) -> Match:
     """Returns the match of notes that follow each other, each with its syllable."""
     notes = tuple(note for _, note in found)
     syllables = list({it.number: it for it, _ in found}.values())
-    return Match(notes, Row.at(notes[0].source, "".join(it.pitch for it in notes), degrees_of(notes), text_of_syllables(syllables)))
+    return Match(
+        notes,
+        Row.at(
+            notes[0].source,
+            "".join(it.pitch for it in notes),
+            degrees_of(notes),
+            text_of_syllables(syllables),
+        ),
+    )
 
 
 @dataclass(frozen=True)
 class VolpianoSearch:
-    """Finds a melody by its letters in Volpiano: the clef, hyphens, bars, flats and liquescence do not count."""
+    """Finds a melody by its letters in Volpiano: the clef, hyphens, bars, flats and liquescence do
+    not count."""
 
     letters: str
 
@@ -162,7 +211,12 @@ class VolpianoSearch:
         return cls(letters)
 
     def matches(self, score: Score) -> Iterator[Match]:
-        sung = [(syllable, note) for syllable in score.syllables for note in syllable.notes for _ in range(note.times)]
+        sung = [
+            (syllable, note)
+            for syllable in score.syllables
+            for note in syllable.notes
+            for _ in range(note.times)
+        ]
         melody = "".join(letter_of(note) or "?" for _, note in sung)
         at = melody.find(self.letters)
         while at >= 0:
@@ -172,7 +226,9 @@ class VolpianoSearch:
 
 def folded(text: str) -> str:
     """Returns `text` in small letters without accents and without the signs at both ends."""
-    letters = "".join(it for it in unicodedata.normalize("NFD", text) if not unicodedata.combining(it)).casefold()
+    letters = "".join(
+        it for it in unicodedata.normalize("NFD", text) if not unicodedata.combining(it)
+    ).casefold()
     inside = [at for at, it in enumerate(letters) if it.isalnum()]
     return letters[inside[0] : inside[-1] + 1] if inside else ""
 
@@ -187,7 +243,12 @@ class TextSearch:
     @classmethod
     def of(cls, words: str) -> TextSearch:
         """Raises `UnknownCode` where there is no word."""
-        patterns = tuple("".join(c for c in unicodedata.normalize("NFD", it) if not unicodedata.combining(c)).casefold() for it in words.split())
+        patterns = tuple(
+            "".join(
+                c for c in unicodedata.normalize("NFD", it) if not unicodedata.combining(c)
+            ).casefold()
+            for it in words.split()
+        )
         if not patterns:
             raise UnknownCode('--text needs a word, as in "Kyri*"')
         return cls(patterns)
@@ -199,4 +260,12 @@ class TextSearch:
             if all(fnmatch.fnmatchcase(text, it) for text, it in zip(texts[at:], self.patterns)):
                 found = words[at : at + len(self.patterns)]
                 notes = tuple(note for it in found for note in it.notes)
-                yield Match(notes, Row.at(found[0].source, "".join(it.pitch for it in notes), degrees_of(notes), " ".join(it.text for it in found)))
+                yield Match(
+                    notes,
+                    Row.at(
+                        found[0].source,
+                        "".join(it.pitch for it in notes),
+                        degrees_of(notes),
+                        " ".join(it.text for it in found),
+                    ),
+                )

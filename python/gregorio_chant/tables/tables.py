@@ -9,15 +9,24 @@ from dataclasses import dataclass
 from functools import partial
 from typing import Protocol, Union
 
+from gregorio_chant._native.results import Kind, Message, Status
 from gregorio_chant.objects.dump import Score, ScoreError
+from gregorio_chant.report.reports import counted, json_of
+from gregorio_chant.text.source import Source
 from gregorio_chant.work.files import Reader
 from gregorio_chant.work.processes import by_processes
 from gregorio_chant.work.progress import bar
-from gregorio_chant.report.reports import counted, json_of
-from gregorio_chant._native.results import Kind, Message, Status
 from gregorio_chant.work.settings import Finder
-from gregorio_chant.text.source import Source
-from gregorio_chant.work.streams import CANNOT_READ_OR_WRITE, STDIN, is_terminal, printable, reason_of, tell, write, write_data
+from gregorio_chant.work.streams import (
+    CANNOT_READ_OR_WRITE,
+    STDIN,
+    is_terminal,
+    printable,
+    reason_of,
+    tell,
+    write,
+    write_data,
+)
 from gregorio_chant.work.walk import find_scores
 
 FORMS = ("text", "csv", "json")
@@ -137,7 +146,8 @@ class Text:
 
 
 class Csv:
-    """CSV as RFC 4180 has it, with the names of the columns in its first line, and a byte order mark before it if that is wanted."""
+    """CSV as RFC 4180 has it, with the names of the columns in its first line, and a byte order
+    mark before it if that is wanted."""
 
     def __init__(self, columns: Sequence[str], has_mark: bool = False) -> None:
         self._columns, self._mark = columns, "\ufeff" * has_mark
@@ -146,7 +156,9 @@ class Csv:
         return self._mark + _csv_line((*PLACE, *self._columns))
 
     def add(self, made: Made) -> str:
-        return "".join(_csv_line((made.shown_name, it.line, it.column, *it.cells)) for it in made.rows)
+        return "".join(
+            _csv_line((made.shown_name, it.line, it.column, *it.cells)) for it in made.rows
+        )
 
     def end(self) -> str:
         return ""
@@ -171,7 +183,9 @@ class Json:
     def add(self, made: Made) -> str:
         written = []
         for it in made.rows:
-            row = dict(zip((*PLACE, *self._columns), (made.shown_name, it.line, it.column, *it.cells)))
+            row = dict(
+                zip((*PLACE, *self._columns), (made.shown_name, it.line, it.column, *it.cells))
+            )
             written.append(("\n" if self._is_first else ",\n") + json_of(row))
             self._is_first = False
         return "".join(written)
@@ -193,7 +207,8 @@ def form_of(options: Options, columns: Sequence[str]) -> Form:
 
 
 def put_for(options: Options) -> Callable[[str], None]:
-    """Returns what writes rows. A cell of CSV may hold whatever a score does; a terminal shows its lines without their CR."""
+    """Returns what writes rows. A cell of CSV may hold whatever a score does; a terminal shows its
+    lines without their CR."""
     if options.form != "csv":
         return write
     return (lambda text: write(text.replace(_CSV_END, "\n"))) if is_terminal() else write_data
@@ -201,8 +216,8 @@ def put_for(options: Options) -> Callable[[str], None]:
 
 def for_each(options: Options, make: Maker, take: Callable[[Made], str]) -> int:
     """Makes the rows of all files by all processors, writes what `take` returns for each in order,
-    and returns the worst status. Raises `WriteError`, and `SettingsError` or `MissingDependency` before any
-    score is read."""
+    and returns the worst status. Raises `WriteError`, and `SettingsError` or `MissingDependency`
+    before any score is read."""
     status = count = number = 0
     put = put_for(options)
 
@@ -212,9 +227,15 @@ def for_each(options: Options, make: Maker, take: Callable[[Made], str]) -> int:
         tell(f"cannot read {name}: {reason_of(error)}")
 
     names = options.settings.kept(find_scores(options.paths, fail, options.exclude), options.paths)
-    with by_processes(partial(made_of, make=make, reader=Reader.of(options.paths)), names, options.jobs) as all_made, bar("reading", len(names)) as shown:
+    with by_processes(
+        partial(made_of, make=make, reader=Reader.of(options.paths)), names, options.jobs
+    ) as all_made, bar("reading", len(names)) as shown:
         for it in all_made:
-            status, count, number = max(status, it.status), count + sum(row.count for row in it.rows), number + (it.failure is None)
+            status, count, number = (
+                max(status, it.status),
+                count + sum(row.count for row in it.rows),
+                number + (it.failure is None),
+            )
             text, told = take(it), it.told()
             with shown.aside(told=told is not None) if text or told else nullcontext():
                 put(text)

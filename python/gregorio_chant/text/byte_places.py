@@ -1,4 +1,5 @@
-"""Where the bytes of a score stand: in characters, and in lines and columns as messages count them."""
+"""Where the bytes of a score stand: in characters, and in lines and columns as messages count
+them."""
 from __future__ import annotations
 
 import bisect
@@ -21,7 +22,8 @@ def _beginnings(part: bytes) -> int:
 
 
 class BytePlaces:
-    """The places of the bytes of a score. It counts once, by steps of 512 bytes, and then less than a step for each place."""
+    """The places of the bytes of a score. It counts once, by steps of 512 bytes, and then less than
+    a step for each place."""
 
     __slots__ = ("_lines", "_silent", "_source", "_steps")
 
@@ -39,7 +41,8 @@ class BytePlaces:
         return self._steps[step] + _beginnings(self._source[step * _STEP : offset])
 
     def place(self, offset: int) -> Place:
-        """Returns the place of the character at the byte `offset`: how many characters stand before it, its line and its column."""
+        """Returns the place of the character at the byte `offset`: how many characters stand before
+        it, its line and its column."""
         line = bisect.bisect_right(self._lines, offset)
         begin = self._lines[line - 1]
         before = self.characters(offset)

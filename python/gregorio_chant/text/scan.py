@@ -1,4 +1,5 @@
-"""Finds in the text of a score where its headers, syllables and comments stand. It is told what the compiler left out, and reads by that."""
+"""Finds in the text of a score where its headers, syllables and comments stand. It is told what the
+compiler left out, and reads by that."""
 from __future__ import annotations
 
 import bisect
@@ -27,7 +28,8 @@ def without_blanks(text: str) -> str:
 
 
 def letters_of(text: str) -> str:
-    """Returns `text` without blanks, line ends and tags of styles: what another spelling of a syllable may not change, and that of a header but for each `;`."""
+    """Returns `text` without blanks, line ends and tags of styles: what another spelling of a
+    syllable may not change, and that of a header but for each `;`."""
     return without_blanks(_STYLE.sub("", text))
 
 
@@ -54,7 +56,8 @@ class SyllableSpan(Span):
 
 
 class SyllableSpans(Sequence[SyllableSpan]):
-    """The syllables of a text, in order. A large score has millions, so each is three numbers, and an object when it is asked for."""
+    """The syllables of a text, in order. A large score has millions, so each is three numbers, and
+    an object when it is asked for."""
 
     def __init__(self) -> None:
         self._begins, self._ends, self._notes = array("I"), array("I"), array("I")
@@ -69,12 +72,18 @@ class SyllableSpans(Sequence[SyllableSpan]):
         return len(self._begins)
 
     @overload
-    def __getitem__(self, number: int) -> SyllableSpan: ...
+    def __getitem__(self, number: int) -> SyllableSpan:
+        ...
+
     @overload
-    def __getitem__(self, number: slice) -> list[SyllableSpan]: ...
+    def __getitem__(self, number: slice) -> list[SyllableSpan]:
+        ...
+
     def __getitem__(self, number: int | slice) -> SyllableSpan | list[SyllableSpan]:
         if isinstance(number, slice):
-            return list(map(SyllableSpan, self._begins[number], self._ends[number], self._notes[number]))
+            return list(
+                map(SyllableSpan, self._begins[number], self._ends[number], self._notes[number])
+            )
         return SyllableSpan(self._begins[number], self._ends[number], self._notes[number])
 
     def __iter__(self) -> Iterator[SyllableSpan]:
@@ -98,7 +107,8 @@ class Scan:
     score: int = 0
 
     def without_comments(self, span: Span) -> list[int]:
-        """Returns the offsets of the characters of `span` that are no blanks and stand in no comment."""
+        """Returns the offsets of the characters of `span` that are no blanks and stand in no
+        comment."""
         offsets: list[int] = []
         at = span.begin
         first = bisect.bisect_right(self.comments, span.begin, key=lambda it: it.end)
@@ -119,7 +129,8 @@ class Scan:
 
 
 def scan(text: str, left_out: Collection[int] = ()) -> Scan:
-    """Returns where all stands in `text`, of which the compiler left out the characters with the offsets `left_out`."""
+    """Returns where all stands in `text`, of which the compiler left out the characters with the
+    offsets `left_out`."""
     found = Scan(text)
     _scan_headers(found)
     _scan_score(found, left_out)
@@ -187,7 +198,8 @@ def _scan_score(found: Scan, left_out: Collection[int]) -> None:
 
 
 def _keeps_something(found: Scan, last: Span, left_out: Collection[int]) -> bool:
-    """Returns whether the compiler keeps something of the text after the last notes: of tags of styles and of a `}` by themselves it keeps nothing."""
+    """Returns whether the compiler keeps something of the text after the last notes: of tags of
+    styles and of a `}` by themselves it keeps nothing."""
     kept = "".join(found.text[it] for it in found.without_comments(last) if it not in left_out)
     return bool(_STYLE.sub("", kept).replace("}", ""))
 
@@ -236,7 +248,8 @@ def _scan_notes(found: Scan, begin: int, left_out: Collection[int]) -> int:
 
 
 def _is_after_fusion(text: str, at: int, left_out: Collection[int], comment: Span) -> bool:
-    """Returns whether the last character kept before `at` is an `@`; `comment` is the nearest one before."""
+    """Returns whether the last character kept before `at` is an `@`; `comment` is the nearest one
+    before."""
     at -= 1
     while at in left_out or comment.begin <= at < comment.end:
         at = comment.begin - 1 if comment.begin <= at < comment.end else at - 1

@@ -11,7 +11,8 @@ _COUNTED = re.compile(f"\r\n|[^{_MARK}]", re.DOTALL)
 
 
 class Place(NamedTuple):
-    """Where something stands in a text: `line` and `column` count from 1, `offset` counts the characters before it."""
+    """Where something stands in a text: `line` and `column` count from 1, `offset` counts the
+    characters before it."""
 
     offset: int
     line: int
@@ -45,13 +46,15 @@ class Source:
 
 
 def text_of(score: bytes) -> str:
-    """Returns the text of `score`: each line end is one LF, and a U+FEFF is nothing. Bytes that are no UTF-8 come out as U+FFFD."""
+    """Returns the text of `score`: each line end is one LF, and a U+FEFF is nothing. Bytes that are
+    no UTF-8 come out as U+FFFD."""
     text = score.decode("utf-8", "replace")
     return text.replace("\r\n", "\n").replace("\r", "\n").replace(_MARK, "")
 
 
 def raw_offsets(score: str) -> list[int]:
-    """Returns where each character of the text of `score` stands in `score` itself, and last where that ends."""
+    """Returns where each character of the text of `score` stands in `score` itself, and last where
+    that ends."""
     return [it.start() for it in _COUNTED.finditer(score)] + [len(score)]
 
 
@@ -74,7 +77,8 @@ class Lines:
         return self.text[self._starts[number - 1] : end]
 
     def column_after(self, line: int, column: int) -> int:
-        """Returns the column after the character at this place; the same column where no character stands there."""
+        """Returns the column after the character at this place; the same column where no character
+        stands there."""
         return column + 1 if column <= len(self.line(line)) else column
 
     def offset(self, line: int, column: int) -> int:

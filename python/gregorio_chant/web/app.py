@@ -24,21 +24,39 @@ from gregorio_chant.web.guard import STILL, Guard, TooLong, too_long
 _MOST_TYPED = 100_000
 # The header in which the page says which tab of the browser it is.
 _TAB = "tab"
-_TYPES = {".html": "text/html", ".css": "text/css", ".js": "text/javascript", ".svg": "image/svg+xml"}
+_TYPES = {
+    ".html": "text/html",
+    ".css": "text/css",
+    ".js": "text/javascript",
+    ".svg": "image/svg+xml",
+}
 _LEAST_WIDTH, _MOST_WIDTH, _MOST_DIGITS = 280, 1200, 6
 _ICON = f'<svg xmlns="http://www.w3.org/2000/svg" viewBox="-8 -11 22 22"><path fill="#a43" fill-rule="evenodd" d="{SHAPES["c-clef"].path}"/></svg>'
 
 
 def _files() -> dict[str, str]:
     """Returns the files of the page by their paths."""
-    page, script, style = (Path(__file__).with_name(it).read_text(encoding="utf-8") for it in ("page.html", "page.js", "page.css"))
+    page, script, style = (
+        Path(__file__).with_name(it).read_text(encoding="utf-8")
+        for it in ("page.html", "page.js", "page.css")
+    )
     page = page.replace("MOST_BYTES", str(MOST_BYTES)).replace("MOST_TYPED", str(_MOST_TYPED))
-    return {"/": page, "/page.js": script, "/sing.js": SINGER, "/page.css": STYLE + style, "/icon.svg": _ICON}
+    return {
+        "/": page,
+        "/page.js": script,
+        "/sing.js": SINGER,
+        "/page.css": STYLE + style,
+        "/icon.svg": _ICON,
+    }
 
 
 def _to_learn() -> dict[str, str]:
-    """Returns the tutorial and the cheat sheet by their paths. Each is one file, with its style and its pictures."""
-    return {f"/{it.name}": it.read_text(encoding="utf-8") for it in sorted(Path(__file__).with_name("learn").glob("*.html"))}
+    """Returns the tutorial and the cheat sheet by their paths. Each is one file, with its style and
+    its pictures."""
+    return {
+        f"/{it.name}": it.read_text(encoding="utf-8")
+        for it in sorted(Path(__file__).with_name("learn").glob("*.html"))
+    }
 
 
 def _route_of(path: str, content: str, headers: Mapping[str, str] | None = None) -> Route:
@@ -63,7 +81,11 @@ async def _body_of(request: Request) -> bytes:
 def _width_of(request: Request) -> float:
     """Returns how wide a picture is asked for, within bounds."""
     word = request.query_params.get("width", "")
-    width = int(word) if word.isascii() and word.isdecimal() and len(word) < _MOST_DIGITS else int(USUAL_WIDTH)
+    width = (
+        int(word)
+        if word.isascii() and word.isdecimal() and len(word) < _MOST_DIGITS
+        else int(USUAL_WIDTH)
+    )
     return float(min(max(width, _LEAST_WIDTH), _MOST_WIDTH))
 
 
@@ -79,7 +101,11 @@ def app_of(answers: Answers, names: Collection[str]) -> ASGIApp:
         tab = request.headers.get(_TAB)
         try:
             data = await _body_of(request)
-            made = await computations.answer(None if tab is None else (tab, request.url.path), lambda: _json_of(make(data)), request.receive)
+            made = await computations.answer(
+                None if tab is None else (tab, request.url.path),
+                lambda: _json_of(make(data)),
+                request.receive,
+            )
         except TooLong:
             return too_long()
         except GivenUp:
@@ -99,7 +125,11 @@ def app_of(answers: Answers, names: Collection[str]) -> ASGIApp:
 
     routes = [
         *(_route_of(path, content) for path, content in _files().items()),
-        *(_route_of(path, content, {"Content-Security-Policy": STILL}) for path, content in _to_learn().items()),
-        Route("/score", score, methods=["POST"]), Route("/sounds", sounds, methods=["POST"]),
+        *(
+            _route_of(path, content, {"Content-Security-Policy": STILL})
+            for path, content in _to_learn().items()
+        ),
+        Route("/score", score, methods=["POST"]),
+        Route("/sounds", sounds, methods=["POST"]),
     ]
     return Guard(Starlette(routes=routes), names)

@@ -1,4 +1,5 @@
-"""What is made of a score by a process of its own, so that it can be given up: at most one for each tab of a browser."""
+"""What is made of a score by a process of its own, so that it can be given up: at most one for each
+tab of a browser."""
 from __future__ import annotations
 
 import asyncio
@@ -40,7 +41,9 @@ class _Computation:
         """Returns the answer, and nothing where the process was ended. Raises `MemoryError`."""
         reader = asyncio.StreamReader()
         loop = asyncio.get_running_loop()
-        transport, _ = await loop.connect_read_pipe(lambda: asyncio.StreamReaderProtocol(reader), os.fdopen(self._source, "rb"))
+        transport, _ = await loop.connect_read_pipe(
+            lambda: asyncio.StreamReaderProtocol(reader), os.fdopen(self._source, "rb")
+        )
         try:
             made = await reader.read()
         finally:
@@ -77,8 +80,8 @@ class Computations:
         self._running: dict[object, _Computation] = {}
 
     async def answer(self, tab: tuple[str, str] | None, work: Work, receive: Receive) -> bytes:
-        """Returns what `work` makes. What is made for the same tab is given up. `receive` says when the tab goes. Raises `GivenUp`, `TooMany` and
-        `MemoryError`."""
+        """Returns what `work` makes. What is made for the same tab is given up. `receive` says when
+        the tab goes. Raises `GivenUp`, `TooMany` and `MemoryError`."""
         key: object = object() if tab is None else tab
         before = self._running.pop(key, None)
         if before is not None:

@@ -23,4 +23,8 @@ def is_of_this_place(hosts: Sequence[str], origins: Sequence[str], names: Collec
     >>> is_of_this_place(["localhost.example:80"], [], own_names(80))
     False
     """
-    return len(hosts) == 1 and hosts[0].lower() in names and all(it == f"http://{hosts[0]}" for it in origins)
+    return (
+        len(hosts) == 1
+        and hosts[0].lower() in names
+        and all(it == f"http://{hosts[0]}" for it in origins)
+    )

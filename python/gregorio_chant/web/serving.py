@@ -8,13 +8,12 @@ from multiprocessing import active_children
 
 import uvicorn
 
-from gregorio_chant.work.ending import undone
-from gregorio_chant.web.loopback import ADDRESS, own_names
-from gregorio_chant.work.processes import end_all
-from gregorio_chant.work.streams import CANNOT_READ_OR_WRITE, reason_of, tell, write
 from gregorio_chant.web.answers import Answers
 from gregorio_chant.web.app import app_of
-
+from gregorio_chant.web.loopback import ADDRESS, own_names
+from gregorio_chant.work.ending import undone
+from gregorio_chant.work.processes import end_all
+from gregorio_chant.work.streams import CANNOT_READ_OR_WRITE, reason_of, tell, write
 
 # As many bytes as uvicorn takes of a head.
 _MOST_DIGITS = 1 << 16
@@ -46,7 +45,15 @@ def serve(port: int, answers: Answers) -> int:
         bound: int = listening.getsockname()[1]
         app = app_of(answers, own_names(bound))
         config = uvicorn.Config(
-            app, http="h11", ws="none", lifespan="off", log_config=None, log_level="error", access_log=False, proxy_headers=False, server_header=False,
+            app,
+            http="h11",
+            ws="none",
+            lifespan="off",
+            log_config=None,
+            log_level="error",
+            access_log=False,
+            proxy_headers=False,
+            server_header=False,
         )
         write(f"http://{ADDRESS}:{bound}/\n")
         # Else h11 raises an exception at the length of a body that has more digits.

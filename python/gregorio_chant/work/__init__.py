@@ -1,1 +1,2 @@
-"""The work on files: which are read, how they are written, settings, streams, processes, signals."""
+"""The work on files: which are read, how they are written, settings, streams, processes,
+signals."""

@@ -1,6 +1,8 @@
-"""How the command ends at Control-C, SIGTERM and SIGHUP: at once, with no traceback, and with nothing half written.
+"""How the command ends at Control-C, SIGTERM and SIGHUP: at once, with no traceback, and with
+nothing half written.
 
-No exception is raised for them, since one may come wherever Python is, and then be lost or leave a lock behind.
+No exception is raised for them, since one may come wherever Python is, and then be lost or leave a
+lock behind.
 """
 from __future__ import annotations
 
@@ -22,7 +24,8 @@ os.register_at_fork(after_in_child=_undo.clear)
 
 @contextmanager
 def undone(undo: Callable[[], None]) -> Iterator[None]:
-    """Has `undo` called if the process is ended by a signal meanwhile, after those that were given later."""
+    """Has `undo` called if the process is ended by a signal meanwhile, after those that were given
+    later."""
     _undo.append(undo)
     try:
         yield
@@ -31,25 +34,29 @@ def undone(undo: Callable[[], None]) -> Iterator[None]:
 
 
 def end_at_signals() -> None:
-    """Makes the process end at a signal with the status 128 and its number, as a shell counts. One that was ignored before, as `nohup` does, stays so."""
+    """Makes the process end at a signal with the status 128 and its number, as a shell counts. One
+    that was ignored before, as `nohup` does, stays so."""
     for it in _SIGNALS:
         if signal.getsignal(it) is not signal.SIG_IGN:
             signal.signal(it, _end)
 
 
 def leave_signals() -> None:
-    """Leaves signals unheard from now on: all is done, and Python, while it ends, would not do with them what is wanted here."""
+    """Leaves signals unheard from now on: all is done, and Python, while it ends, would not do with
+    them what is wanted here."""
     signal.pthread_sigmask(signal.SIG_BLOCK, _SIGNALS)
 
 
 def leave_interrupts() -> None:
-    """Leaves what comes from the keyboard to the process that made this one, which ends it by SIGTERM."""
+    """Leaves what comes from the keyboard to the process that made this one, which ends it by
+    SIGTERM."""
     for it in (signal.SIGINT, signal.SIGHUP):
         signal.signal(it, signal.SIG_IGN)
 
 
 def end_with_parent() -> None:
-    """Has this process killed when the one that made it ends, however that ends. Only Linux can do so."""
+    """Has this process killed when the one that made it ends, however that ends. Only Linux can do
+    so."""
     if sys.platform == "linux":
         parent = os.getppid()
         ctypes.CDLL(None).prctl(_SET_SIGNAL_AT_END_OF_PARENT, signal.SIGKILL)

@@ -1,7 +1,8 @@
 """The files that are read and written, and no others: `walk` finds those below folders.
 
-What is read is opened without waiting, and up to a bound. What is written stands beside its place first, and is put there in one step. All of that goes by
-descriptors, since in a folder that somebody else may write a name may lead elsewhere at any moment.
+What is read is opened without waiting, and up to a bound. What is written stands beside its place
+first, and is put there in one step. All of that goes by descriptors, since in a folder that
+somebody else may write a name may lead elsewhere at any moment.
 """
 from __future__ import annotations
 
@@ -28,7 +29,8 @@ _OUTSIDE = "it leads out of the folder"
 _READ = os.O_RDONLY | os.O_NONBLOCK | os.O_NOCTTY | os.O_CLOEXEC
 _FOLDER = os.O_RDONLY | os.O_DIRECTORY | os.O_CLOEXEC
 _WRITABLE = stat.S_IWUSR | stat.S_IWGRP | stat.S_IWOTH
-# The extended attributes that are a file's own, and no label of the system: those of users, and lists of who may do what.
+# The extended attributes that are a file's own, and no label of the system: those of users, and
+# lists of who may do what.
 _OWN_ATTRIBUTES = ("user.", "system.")
 
 
@@ -48,7 +50,8 @@ class Content:
 
 
 def read(name: str) -> Content:
-    """Returns what the file holds, or standard input. A pipe or a device that the user has named is read too. Raises `OSError`, also above 256 MB."""
+    """Returns what the file holds, or standard input. A pipe or a device that the user has named is
+    read too. Raises `OSError`, also above 256 MB."""
     if name == STDIN:
         with open(0, "rb", closefd=False) as file:
             return Content(_all_of(file, _MOST_BYTES))
@@ -71,7 +74,8 @@ def _opened_plain(name: str, flags: int = 0) -> BinaryIO:
 
 
 def _all_of(file: BinaryIO, most: int) -> bytes:
-    """Returns what is left of a file, which is awaited in its length and may be longer. Raises `OSError` where that is more than `most` bytes."""
+    """Returns what is left of a file, which is awaited in its length and may be longer. Raises
+    `OSError` where that is more than `most` bytes."""
     pieces = [file.read(min(os.fstat(file.fileno()).st_size, most) + 1)]
     count = len(pieces[0])
     while count <= most and (piece := file.read(min(_PIECE, most + 1 - count))):
@@ -88,7 +92,8 @@ def is_below(path: str, folder: str) -> bool:
 
 
 def _path_of(descriptor: int, name: str) -> str:
-    """Returns the path of an open file without links: by the system, where it says that, since `name` may lead elsewhere by now."""
+    """Returns the path of an open file without links: by the system, where it says that, since
+    `name` may lead elsewhere by now."""
     try:
         return os.readlink(f"/proc/self/fd/{descriptor}")
     except OSError:
@@ -97,7 +102,8 @@ def _path_of(descriptor: int, name: str) -> str:
 
 @dataclass(frozen=True)
 class Reader:
-    """Reads the files that a command names, and what is found below the folders that it names, as long as that stands there."""
+    """Reads the files that a command names, and what is found below the folders that it names, as
+    long as that stands there."""
 
     named: frozenset[str]
     folders: tuple[str, ...]
@@ -105,7 +111,12 @@ class Reader:
     @classmethod
     def of(cls, paths: Iterable[str]) -> Reader:
         paths = frozenset(paths)
-        return cls(paths, tuple(os.path.realpath(it) for it in sorted(paths) if it != STDIN and os.path.isdir(it)))
+        return cls(
+            paths,
+            tuple(
+                os.path.realpath(it) for it in sorted(paths) if it != STDIN and os.path.isdir(it)
+            ),
+        )
 
     def read(self, name: str) -> Content:
         """Returns what the file holds. Raises `OSError`."""
@@ -125,9 +136,10 @@ def replace(name: str, content: Content, data: bytes) -> None:
     """Puts `data` in place of what was read of the file, in one step: at every moment the file is
     whole, the old or the new one.
 
-    The file that a link leads to is replaced. It keeps its mode and its extended attributes, also lists of who may do what, and its owner and group where
-    that is allowed. Raises `FileChanged` where the file was changed meanwhile, and `OSError` where it has other names (hard links), which would keep the old
-    content, may not be written, or cannot be.
+    The file that a link leads to is replaced. It keeps its mode and its extended attributes, also
+    lists of who may do what, and its owner and group where that is allowed. Raises `FileChanged`
+    where the file was changed meanwhile, and `OSError` where it has other names (hard links), which
+    would keep the old content, may not be written, or cannot be.
     """
     state = content.state
     if state is None or not stat.S_ISREG(state.st_mode):
@@ -153,14 +165,26 @@ def replace(name: str, content: Content, data: bytes) -> None:
 def _refuse_changed(now: os.stat_result, content: Content) -> None:
     """Raises `FileChanged` where a file in this state is not the one that was read."""
     then = content.state
-    if then is None or (now.st_dev, now.st_ino, now.st_size, now.st_mtime_ns) != (then.st_dev, then.st_ino, then.st_size, then.st_mtime_ns):
+    if then is None or (now.st_dev, now.st_ino, now.st_size, now.st_mtime_ns) != (
+        then.st_dev,
+        then.st_ino,
+        then.st_size,
+        then.st_mtime_ns,
+    ):
         raise FileChanged("it was changed meanwhile")
 
 
-def write(name: str, pieces: Iterable[bytes], is_named: bool = False, is_forced: bool = True, below: str | None = None) -> None:
-    """Writes a file anew, in one step, as `replace` does; a new one has the usual mode. If the user has named it, a link is followed, and a pipe or a device is
-    written into; else both are replaced. Raises `OSError`, `FileExistsError` where the file is there and that is not forced, and where it would not stand in or
-    below the folder `below`, if one is given."""
+def write(
+    name: str,
+    pieces: Iterable[bytes],
+    is_named: bool = False,
+    is_forced: bool = True,
+    below: str | None = None,
+) -> None:
+    """Writes a file anew, in one step, as `replace` does; a new one has the usual mode. If the user
+    has named it, a link is followed, and a pipe or a device is written into; else both are
+    replaced. Raises `OSError`, `FileExistsError` where the file is there and that is not forced,
+    and where it would not stand in or below the folder `below`, if one is given."""
     if is_named and _is_no_plain_file(name):
         with open(os.open(name, os.O_WRONLY | os.O_NOCTTY | os.O_CLOEXEC), "wb") as file:
             file.writelines(pieces)
@@ -178,7 +202,9 @@ def write(name: str, pieces: Iterable[bytes], is_named: bool = False, is_forced:
     if not is_forced and os.path.lexists(path):
         raise FileExistsError(errno.EEXIST, os.strerror(errno.EEXIST))
     with _folder_of(path) as folder, _old_file(folder, base) as old:
-        if below is not None and not is_below(os.path.join(_path_of(folder, os.path.dirname(path)), base), os.path.realpath(below)):
+        if below is not None and not is_below(
+            os.path.join(_path_of(folder, os.path.dirname(path)), base), os.path.realpath(below)
+        ):
             raise OSError(0, _OUTSIDE)
         _write_beside(folder, pieces, old, put)
 
@@ -203,7 +229,8 @@ def _folder_of(path: str) -> Iterator[int]:
 
 @contextmanager
 def _old_file(folder: int, name: str) -> Iterator[int | None]:
-    """Gives a descriptor of the plain file that is to be replaced, or nothing where there is none. Raises `OSError` where it may not be written."""
+    """Gives a descriptor of the plain file that is to be replaced, or nothing where there is none.
+    Raises `OSError` where it may not be written."""
     try:
         descriptor = os.open(name, _READ | os.O_NOFOLLOW, dir_fd=folder)
     except OSError as error:
@@ -220,8 +247,15 @@ def _old_file(folder: int, name: str) -> Iterator[int | None]:
         os.close(descriptor)
 
 
-def _write_beside(folder: int, pieces: Iterable[bytes], old: int | None, put: Callable[[int, str], None], is_synced: bool = False) -> None:
-    """Writes a file with a name of its own, with the rights of the `old` one, and has it `put` into its place. Whatever goes wrong, it goes."""
+def _write_beside(
+    folder: int,
+    pieces: Iterable[bytes],
+    old: int | None,
+    put: Callable[[int, str], None],
+    is_synced: bool = False,
+) -> None:
+    """Writes a file with a name of its own, with the rights of the `old` one, and has it `put` into
+    its place. Whatever goes wrong, it goes."""
     name = BESIDE + secrets.token_hex(8)
 
     def remove() -> None:
@@ -244,9 +278,15 @@ def _write_beside(folder: int, pieces: Iterable[bytes], old: int | None, put: Ca
 
 
 def _made_beside(folder: int, name: str, mode: int) -> int:
-    """Returns the descriptor of a new file, which is locked as long as it is open: `_sweep` leaves it alone."""
+    """Returns the descriptor of a new file, which is locked as long as it is open: `_sweep` leaves
+    it alone."""
     while True:
-        descriptor = os.open(name, os.O_WRONLY | os.O_CREAT | os.O_EXCL | os.O_NOFOLLOW | os.O_CLOEXEC, mode, dir_fd=folder)
+        descriptor = os.open(
+            name,
+            os.O_WRONLY | os.O_CREAT | os.O_EXCL | os.O_NOFOLLOW | os.O_CLOEXEC,
+            mode,
+            dir_fd=folder,
+        )
         with suppress(OSError):
             fcntl.flock(descriptor, fcntl.LOCK_EX)
         if os.fstat(descriptor).st_nlink:
@@ -258,11 +298,14 @@ def _made_beside(folder: int, name: str, mode: int) -> int:
 
 
 def _copy_rights(old: int, new: int) -> None:
-    """Gives the new file the owner, the group, the mode and the attributes of the old one. If the group cannot be kept, another one may do no more than
-    everybody. Raises `OSError` where the attributes cannot be kept."""
+    """Gives the new file the owner, the group, the mode and the attributes of the old one. If the
+    group cannot be kept, another one may do no more than everybody. Raises `OSError` where the
+    attributes cannot be kept."""
     state = os.fstat(old)
     mode = stat.S_IMODE(state.st_mode)
-    keeps_owner, keeps_group = _change_owner(new, state.st_uid, -1), _change_owner(new, -1, state.st_gid)
+    keeps_owner, keeps_group = _change_owner(new, state.st_uid, -1), _change_owner(
+        new, -1, state.st_gid
+    )
     if not keeps_group:
         mode &= ~stat.S_IRWXG | (mode & stat.S_IRWXO) << 3
     if not keeps_owner or not keeps_group:
@@ -280,7 +323,8 @@ def _change_owner(descriptor: int, owner: int, group: int) -> bool:
 
 
 def _copy_attributes(old: int, new: int) -> None:
-    """Gives the new file the attributes of the old one alone: it may have got some from its folder."""
+    """Gives the new file the attributes of the old one alone: it may have got some from its
+    folder."""
     if sys.platform != "linux":
         return
     wanted = {it: os.getxattr(old, it) for it in _attributes_of(old)}
@@ -304,7 +348,8 @@ _swept: set[tuple[int, int]] = set()
 
 
 def sweep(folder: str) -> None:
-    """Removes what an earlier run of the same user has left in a folder, which was ended while it wrote there."""
+    """Removes what an earlier run of the same user has left in a folder, which was ended while it
+    wrote there."""
     with suppress(OSError), _folder_of(os.path.join(folder, "")):
         pass
 

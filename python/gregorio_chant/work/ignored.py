@@ -5,9 +5,9 @@ import os
 from collections.abc import Callable, Sequence
 from dataclasses import dataclass
 
+from gregorio_chant.linting.selection import UnknownCode
 from gregorio_chant.work.files import read_plain
 from gregorio_chant.work.patterns import MOST, NoPattern, Patterns, TooCostly
-from gregorio_chant.linting.selection import UnknownCode
 
 FILE = ".gitignore"
 _GIT = ".git"
@@ -71,7 +71,9 @@ class LeftOut:
             return True
         ending = f"{name}/" if is_folder else name
         verdicts = (it.verdict(ending) for it in reversed(self.levels))
-        return self.exclude.verdict(ending) is True or next((it for it in verdicts if it is not None), False)
+        return self.exclude.verdict(ending) is True or next(
+            (it for it in verdicts if it is not None), False
+        )
 
 
 def _ways_from_top(folder: str) -> list[str]:
@@ -94,7 +96,11 @@ def _patterns_in(folder: str, most: int, tell: Tell) -> Patterns:
     if os.path.isdir(name):
         return Patterns()
     try:
-        lines = read_plain(name, _MOST_BYTES, follows_links=False).decode("utf-8", "surrogateescape").split("\n")
+        lines = (
+            read_plain(name, _MOST_BYTES, follows_links=False)
+            .decode("utf-8", "surrogateescape")
+            .split("\n")
+        )
         return Patterns(_patterns_of(lines, most))
     except FileNotFoundError:
         return Patterns()
@@ -115,7 +121,10 @@ def _patterns_of(lines: Sequence[str], most: int) -> list[str]:
         except NoPattern:
             continue
         if is_pattern and len(patterns) == most:
-            raise OSError(0, f"line {number}: there are at most {MOST:,} patterns, with those of the folders above")
+            raise OSError(
+                0,
+                f"line {number}: there are at most {MOST:,} patterns, with those of the folders above",
+            )
         patterns += [line] * is_pattern
     return patterns
 

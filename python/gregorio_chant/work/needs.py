@@ -6,8 +6,14 @@ from importlib import import_module
 
 # How Debian calls them.
 _DEBIAN = {
-    "fonttools": "python3-fonttools", "mido": "python3-mido", "pathspec": "python3-pathspec", "rich": "python3-rich", "starlette": "python3-starlette",
-    "tomli": "python3-tomli", "uvicorn": "python3-uvicorn", "watchdog": "python3-watchdog",
+    "fonttools": "python3-fonttools",
+    "mido": "python3-mido",
+    "pathspec": "python3-pathspec",
+    "rich": "python3-rich",
+    "starlette": "python3-starlette",
+    "tomli": "python3-tomli",
+    "uvicorn": "python3-uvicorn",
+    "watchdog": "python3-watchdog",
 }
 # The modules that are not called as their packages.
 _MODULES = {"fonttools": "fontTools"}
@@ -17,12 +23,14 @@ class MissingDependency(Exception):
     """A package that was needed is not installed."""
 
     def __init__(self, part: str, package: str) -> None:
-        super().__init__(f"{part} needs the package {package}: apt install {_DEBIAN[package]} in Debian, else pip install {package}")
+        super().__init__(
+            f"{part} needs the package {package}: apt install {_DEBIAN[package]} in Debian, else pip install {package}"
+        )
 
 
 def need(part: str, *packages: str) -> None:
-    """Raises `MissingDependency` for the first of these packages that a part of the command needs and that
-    is not installed."""
+    """Raises `MissingDependency` for the first of these packages that a part of the command needs
+    and that is not installed."""
     for it in packages:
         try:
             import_module(_MODULES.get(it, it))

@@ -24,7 +24,9 @@ _work: Callable[[str], Any]
 
 
 @contextmanager
-def by_processes(work: Callable[[str], _Made], names: Sequence[str], jobs: int) -> Iterator[Iterator[_Made]]:
+def by_processes(
+    work: Callable[[str], _Made], names: Sequence[str], jobs: int
+) -> Iterator[Iterator[_Made]]:
     """Gives what `work` makes of each name, in order, by at most `jobs` processes. All of them
     are made before anything else goes on, so that no thread of the caller's is copied. Where the
     caller is done before the end, nothing more is begun. Standard input is not theirs. Raises

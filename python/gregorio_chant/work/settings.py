@@ -1,4 +1,5 @@
-"""The settings of a project: the file `gregorio-chant.toml` that lies nearest to a score, in its folder or above."""
+"""The settings of a project: the file `gregorio-chant.toml` that lies nearest to a score, in its
+folder or above."""
 from __future__ import annotations
 
 import importlib
@@ -11,25 +12,28 @@ from functools import cached_property
 from pathlib import Path
 from typing import Any
 
+from gregorio_chant.linting.selection import Selection, UnknownCode, codes_in
 from gregorio_chant.work.files import read_plain
 from gregorio_chant.work.keys import FORMAT, FORMAT_KEYS, KEYS, Key, Kind
 from gregorio_chant.work.needs import MissingDependency
 from gregorio_chant.work.patterns import MOST, NoPattern, Patterns
-from gregorio_chant.linting.selection import Selection, UnknownCode, codes_in
 from gregorio_chant.work.streams import STDIN, printable, reason_of
 
 NAME = "gregorio-chant.toml"
 _MOST_BYTES = 65_536
 _MOST_DOTS = 8
 # The texts and comments of TOML, in which dots mean nothing, and what stands between keys.
-_TEXTS = re.compile(r'''"""(?:\\.|[^\\])*?"""|\'\'\'.*?\'\'\'|"(?:\\.|[^"\\\n])*"|'[^'\n]*'|#[^\n]*''', re.DOTALL)
+_TEXTS = re.compile(
+    r'''"""(?:\\.|[^\\])*?"""|\'\'\'.*?\'\'\'|"(?:\\.|[^"\\\n])*"|'[^'\n]*'|#[^\n]*''', re.DOTALL
+)
 _NO_KEY = re.compile(r"""[^\w"'. \t-]+""")
 # By the name of a key its field and its reader.
 _Readers = dict[str, tuple[str, Callable[[str, Any], object]]]
 
 
 class SettingsError(ValueError):
-    """Settings that cannot be read. It names the file and, where they are known, the line and the key."""
+    """Settings that cannot be read. It names the file and, where they are known, the line and the
+    key."""
 
 
 @dataclass(frozen=True)
@@ -62,11 +66,18 @@ class Settings:
     @cached_property
     def _ignoring(self) -> tuple[Patterns, tuple[tuple[Patterns, frozenset[str]], ...]]:
         """All patterns of files in which codes are ignored, and each by itself."""
-        return Patterns(it for it, _ in self.ignores_of_files), tuple((Patterns((it,)), codes) for it, codes in self.ignores_of_files)
+        return Patterns(it for it, _ in self.ignores_of_files), tuple(
+            (Patterns((it,)), codes) for it, codes in self.ignores_of_files
+        )
 
     def _way_to(self, name: str) -> str | None:
-        """Returns the path of a file from the folder of the settings on; nothing for what is none."""
-        return None if self.folder is None or name == STDIN else os.path.relpath(os.path.abspath(name), self.folder)
+        """Returns the path of a file from the folder of the settings on; nothing for what is
+        none."""
+        return (
+            None
+            if self.folder is None or name == STDIN
+            else os.path.relpath(os.path.abspath(name), self.folder)
+        )
 
     def excludes(self, name: str) -> bool:
         way = self._way_to(name)
@@ -79,12 +90,19 @@ class Settings:
         return frozenset[str]().union(*(codes for patterns, codes in each if patterns.has(way)))
 
     def selection(self, name: str, chosen: Chosen = Chosen()) -> Selection:
-        """Returns what is reported of a file. What the settings ignore in it comes to what is ignored anyway."""
+        """Returns what is reported of a file. What the settings ignore in it comes to what is
+        ignored anyway."""
+
         def first(word: frozenset[str] | None, setting: frozenset[str] | None) -> frozenset[str]:
             return word if word is not None else setting or frozenset()
 
         select = chosen.select if chosen.select is not None else self.select
-        return Selection(select, first(chosen.ignore, self.ignore) | self._ignored_in(name), first(chosen.fail_on, self.fail_on), self.canonical is True)
+        return Selection(
+            select,
+            first(chosen.ignore, self.ignore) | self._ignored_in(name),
+            first(chosen.fail_on, self.fail_on),
+            self.canonical is True,
+        )
 
 
 class _Reader:
@@ -94,14 +112,22 @@ class _Reader:
         self._path, self._text, self._known = path, text, known
 
     def fail(self, key: str, what: str) -> SettingsError:
-        found = re.search(rf"""^[ \t]*(?:\[[^\n]*)?["']?{re.escape(key)}["']?[ \t]*[=\].]""", self._text, re.MULTILINE)
+        found = re.search(
+            rf"""^[ \t]*(?:\[[^\n]*)?["']?{re.escape(key)}["']?[ \t]*[=\].]""",
+            self._text,
+            re.MULTILINE,
+        )
         line = f":{self._text.count(chr(10), 0, found.start()) + 1}" if found else ""
         return SettingsError(f"{printable(str(self._path))}{line}: {printable(key)}: {what}")
 
     def _readers(self, keys: Iterable[Key]) -> _Readers:
         """Returns the field of each key, and its reader."""
         by_kind: dict[Kind, Callable[[str, Any], object]] = {
-            Kind.CODES: self._codes, Kind.PATTERNS: self._patterns, Kind.CODES_OF_FILES: self._ignores, Kind.FLAG: self._flag, Kind.NUMBER: self._number,
+            Kind.CODES: self._codes,
+            Kind.PATTERNS: self._patterns,
+            Kind.CODES_OF_FILES: self._ignores,
+            Kind.FLAG: self._flag,
+            Kind.NUMBER: self._number,
         }
         return {it.name: (it.field, by_kind[it.kind]) for it in keys}
 
@@ -162,7 +188,9 @@ class _Reader:
         table = self._table(key, value)
         for it in self._patterns(key, list(table)):
             if it.startswith("!"):
-                raise self.fail(it, "a pattern of files in which codes are ignored takes nothing back")
+                raise self.fail(
+                    it, "a pattern of files in which codes are ignored takes nothing back"
+                )
         return tuple((pattern, self._codes(pattern, codes)) for pattern, codes in table.items())
 
     def settings(self, table: dict[str, Any]) -> Settings:
@@ -192,10 +220,15 @@ def _read(path: Path, known: Collection[str]) -> Settings:
 
 
 def _refuse_long_keys(path: Path, text: str) -> None:
-    """Raises `SettingsError` where a key has many dots: the memory that the reader of TOML takes for it grows with their square."""
-    for number, line in enumerate(_TEXTS.sub(lambda found: '"' + "\n" * found[0].count("\n"), text).split("\n"), 1):
+    """Raises `SettingsError` where a key has many dots: the memory that the reader of TOML takes
+    for it grows with their square."""
+    for number, line in enumerate(
+        _TEXTS.sub(lambda found: '"' + "\n" * found[0].count("\n"), text).split("\n"), 1
+    ):
         if any(it.count(".") > _MOST_DOTS for it in _NO_KEY.split(line)):
-            raise SettingsError(f"{printable(str(path))}:{number}: a key has at most {_MOST_DOTS} dots")
+            raise SettingsError(
+                f"{printable(str(path))}:{number}: a key has at most {_MOST_DOTS} dots"
+            )
 
 
 class Finder:
@@ -207,7 +240,8 @@ class Finder:
         self._found: dict[Path, Settings] = {}
 
     def of(self, name: str) -> Settings:
-        """Returns the settings of a file, or of the working folder for standard input. Raises `SettingsError`."""
+        """Returns the settings of a file, or of the working folder for standard input. Raises
+        `SettingsError`."""
         folder = Path.cwd() if name == STDIN else Path(os.path.abspath(name)).parent
         passed = []
         for it in (folder, *folder.parents):
@@ -224,7 +258,8 @@ class Finder:
         return settings
 
     def kept(self, names: Iterable[str], paths: Collection[str]) -> list[str]:
-        """Returns the names without those that settings exclude; each of the `paths` themselves stays. Raises `SettingsError`."""
+        """Returns the names without those that settings exclude; each of the `paths` themselves
+        stays. Raises `SettingsError`."""
         named = set(paths)
         return [it for it in names if not self.of(it).excludes(it) or it in named]
 

@@ -18,7 +18,9 @@ class GitError(Exception):
 
 def _git(*words: str, data: bytes = b"") -> bytes:
     try:
-        ran = subprocess.run(["git", *words], input=data, stdout=subprocess.PIPE, stderr=subprocess.PIPE, check=False)
+        ran = subprocess.run(
+            ["git", *words], input=data, stdout=subprocess.PIPE, stderr=subprocess.PIPE, check=False
+        )
     except OSError as error:
         raise GitError(f"git cannot be run: {reason_of(error)}") from None
     if ran.returncode != 0:
@@ -28,10 +30,21 @@ def _git(*words: str, data: bytes = b"") -> bytes:
 
 
 def _changed(paths: Iterable[str]) -> Iterator[tuple[str, str]]:
-    """Yields the path from the top of the repository, and the name of the content, of each plain file that is staged and is not taken away."""
+    """Yields the path from the top of the repository, and the name of the content, of each plain
+    file that is staged and is not taken away."""
     listed = _git(
-        "--literal-pathspecs", "diff", "--cached", "--raw", "-z", "--no-abbrev", "--no-renames", "--no-relative", "--no-ext-diff", "--diff-filter=AMT",
-        "--", *paths,
+        "--literal-pathspecs",
+        "diff",
+        "--cached",
+        "--raw",
+        "-z",
+        "--no-abbrev",
+        "--no-renames",
+        "--no-relative",
+        "--no-ext-diff",
+        "--diff-filter=AMT",
+        "--",
+        *paths,
     )
     fields = iter(listed.split(b"\0")[:-1])
     for about in fields:
@@ -42,7 +55,8 @@ def _changed(paths: Iterable[str]) -> Iterator[tuple[str, str]]:
 
 
 class StagedFiles:
-    """What is staged at or below `paths`, or all: of each path that is no folder the file, and below a folder the scores.
+    """What is staged at or below `paths`, or all: of each path that is no folder the file, and
+    below a folder the scores.
 
     Names are those from the working folder. What is staged is read once, at the beginning.
     """
@@ -69,7 +83,9 @@ class StagedFiles:
 
 def _contents(names: dict[str, str]) -> dict[str, bytes]:
     """Returns the bytes of each content, by the names of the files."""
-    told = _git("cat-file", "--batch", data="".join(f"{it}\n" for it in names.values()).encode("ascii"))
+    told = _git(
+        "cat-file", "--batch", data="".join(f"{it}\n" for it in names.values()).encode("ascii")
+    )
     found, at = {}, 0
     for name, content in names.items():
         line_end = told.index(b"\n", at)

@@ -1,5 +1,6 @@
-"""Standard streams, and no other place writes to them: what cannot be written is a clear line and a status, and never a traceback. A line is printable, whatever
-stands in a name, a setting or a score."""
+"""Standard streams, and no other place writes to them: what cannot be written is a clear line and a
+status, and never a traceback. A line is printable, whatever stands in a name, a setting or a
+score."""
 from __future__ import annotations
 
 import errno
@@ -23,7 +24,8 @@ class WriteError(Exception):
 
 
 class Styled(str):
-    """Lines with the colours of a terminal, in which each text was made printable before it got them."""
+    """Lines with the colours of a terminal, in which each text was made printable before it got
+    them."""
 
 
 def reason_of(error: OSError) -> str:
@@ -58,24 +60,28 @@ def write(text: str) -> None:
 
 
 def write_data(text: str) -> None:
-    """Writes a score, a page, a table or a difference to standard output, as it is; a terminal shows its lines. Raises `WriteError` where it takes no more."""
+    """Writes a score, a page, a table or a difference to standard output, as it is; a terminal
+    shows its lines. Raises `WriteError` where it takes no more."""
     _put_out(_bytes_of(printable_lines(text) if is_terminal() else text))
 
 
 def write_bytes(content: bytes) -> None:
-    """Writes bytes that are no text to standard output. Raises `WriteError` where it takes no more, as a terminal takes none."""
+    """Writes bytes that are no text to standard output. Raises `WriteError` where it takes no more,
+    as a terminal takes none."""
     if is_terminal():
         raise WriteError(OSError(0, "it is no text, and standard output is a terminal"))
     _put_out(content)
 
 
 def tell(line: str) -> None:
-    """Writes a line of the command's own to standard error. Where that takes nothing, nobody can be told."""
+    """Writes a line of the command's own to standard error. Where that takes nothing, nobody can be
+    told."""
     _tell_bytes(_bytes_of(f"{NAME}: {printable(line)}\n"))
 
 
 def show_cursor() -> None:
-    """Clears the line of a terminal at standard error, where a bar stands, and shows its cursor again."""
+    """Clears the line of a terminal at standard error, where a bar stands, and shows its cursor
+    again."""
     _tell_bytes(_SHOWS_CURSOR)
 
 
@@ -97,11 +103,14 @@ def is_error_terminal() -> bool:
 
 
 def printable(name: str) -> str:
-    """Returns the name of a file as a terminal can show it: `\\xff` for a byte that is no UTF-8, and no control characters."""
+    """Returns the name of a file as a terminal can show it: `\\xff` for a byte that is no UTF-8,
+    and no control characters."""
     if name.isascii() and name.isprintable():
         return name
     text = _bytes_of(name).decode("utf-8", "backslashreplace")
-    return "".join(it if it.isprintable() else it.encode("unicode_escape").decode("ascii") for it in text)
+    return "".join(
+        it if it.isprintable() else it.encode("unicode_escape").decode("ascii") for it in text
+    )
 
 
 def printable_lines(text: str) -> str:

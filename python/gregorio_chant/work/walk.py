@@ -21,8 +21,9 @@ def find_scores(paths: Iterable[str], tell: Tell, exclude: Sequence[str] = ()) -
 
     Of a folder these are left out: what is no plain file, what a `.gitignore` or a pattern of
     `exclude` names, and the folder `.git`. Links to files are taken as long as they lead below the
-    folder, and others are told; links to folders are not followed. Raises `MissingDependency` where there are such patterns and no package that reads them, and
-    `UnknownCode` for an `exclude` that is no pattern.
+    folder, and others are told; links to folders are not followed. Raises `MissingDependency` where
+    there are such patterns and no package that reads them, and `UnknownCode` for an `exclude` that
+    is no pattern.
     """
     names: list[str] = []
     for path in paths:
@@ -46,8 +47,16 @@ def _below(folder: str, top: LeftOut, tell: Tell) -> Iterator[str]:
             left_out = left_out.with_file_of(where, tell)
         if any(it.name.startswith(BESIDE) for it in entries):
             sweep(where)
-        yield from (it.path for it in entries if _is_score(it) and not left_out.names(it.name) and _stays_below(it, root))
-        inner = [it for it in entries if it.is_dir(follow_symlinks=False) and not left_out.names(it.name, is_folder=True)]
+        yield from (
+            it.path
+            for it in entries
+            if _is_score(it) and not left_out.names(it.name) and _stays_below(it, root)
+        )
+        inner = [
+            it
+            for it in entries
+            if it.is_dir(follow_symlinks=False) and not left_out.names(it.name, is_folder=True)
+        ]
         waiting += [(it.path, left_out.below(it.name), depth + 1) for it in reversed(inner)]
 
 
@@ -84,5 +93,7 @@ def _stays_below(entry: os.DirEntry[str], root: str) -> bool:
     path = os.path.realpath(entry.path)
     if is_below(path, root) or not os.path.exists(path):
         return True
-    tell_user(f"{entry.path} is passed by: this link leads out of the folder; name it to have it read")
+    tell_user(
+        f"{entry.path} is passed by: this link leads out of the folder; name it to have it read"
+    )
     return False
