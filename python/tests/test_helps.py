@@ -1,13 +1,18 @@
 """Tries the line of help of each message: it names the thing, and what to write."""
 from __future__ import annotations
 
+import json
 import unittest
+from pathlib import Path
+from string import Formatter
 
 from support import EXAMPLES, scores_of_tables
 
 from gregorio_chant import check
+from gregorio_chant.linting import helps
 from gregorio_chant.linting.codes import CODES
-from gregorio_chant.linting.helps import helps_for, named
+from gregorio_chant.linting.facts import FACTS, named
+from gregorio_chant.linting.helps import helps_for
 from gregorio_chant.text.source import text_of
 
 _NABC = "name: a;\nnabc-lines: 1;\n%%\n(c4) "
@@ -182,17 +187,34 @@ class Helps(unittest.TestCase):
             with self.subTest(score):
                 self.assertIn((code, wanted), helps_of(score.encode()))
 
+    def test_table(self) -> None:
+        """The table names the facts that there are, and each of them is named in a row."""
+        table = json.loads((Path(helps.__file__).with_name("helps.json")).read_text("utf-8"))
+        used = {it for row in table["helps"] for it in row.get("if", ())}
+        used |= {
+            name
+            for text in (table["again"], *(row["help"] for row in table["helps"]))
+            for _, name, _, _ in Formatter().parse(text)
+            if name
+        }
+        self.assertEqual(used, {*FACTS, "first"})
+        self.assertEqual(set(table["facts"]), used)
+        fields = {"codes", "node", "after", "before", "at", "is", "if", "once", "help"}
+        for row in table["helps"]:
+            self.assertLessEqual(set(row), fields, row)
+            self.assertLessEqual({"codes", "help"}, set(row), row)
+
     def test_each_code_has_one(self) -> None:
         for code in CODES.values():
             if code.is_tried:
                 with self.subTest(code.name):
-                    helps = [
+                    told = [
                         help
                         for name, help in helps_of(code.score_with(code.wrong))
                         if name == code.name
                     ]
-                    self.assertNotIn(None, helps)
-                    self.assertGreater(len(helps), 0)
+                    self.assertNotIn(None, told)
+                    self.assertGreater(len(told), 0)
 
     def test_scores(self) -> None:
         """Each message of the tables and the examples has a help of one line that can be

@@ -225,8 +225,9 @@ class Tree:
     def place(self, offset: int) -> Place:
         """Returns the place of the byte `offset`: the characters before it, its line and its
         column, as in messages."""
-        return self._places.place(offset)
+        return self.places.place(offset)
 
     @cached_property
-    def _places(self) -> BytePlaces:
+    def places(self) -> BytePlaces:
+        """The places of the score's bytes."""
         return BytePlaces(self.source)

@@ -16,7 +16,7 @@ from itertools import accumulate
 
 from gregorio_chant._native.results import Kind, Message
 from gregorio_chant.linting.codes import CODES
-from gregorio_chant.linting.helps import named
+from gregorio_chant.linting.facts import named
 from gregorio_chant.linting.problems import Change, ProblemRepair
 from gregorio_chant.linting.repairs import REPAIRS, Edit, Edits, Repair
 from gregorio_chant.linting.rules import RULES, messages_with_rules, unsilenced

@@ -7,7 +7,10 @@ from collections.abc import Iterable
 from dataclasses import dataclass
 from functools import cached_property
 
+from gregorio_chant._native.node_kinds import NodeKind
+from gregorio_chant._native.nodes import Node, Tree
 from gregorio_chant._native.results import Message
+from gregorio_chant._native.trees import tree
 from gregorio_chant.linting.guesses import Bracket, lost_closer, lost_opener
 from gregorio_chant.text.nearest import nearest
 from gregorio_chant.text.scan import HeaderSpan, Scan, Span, SyllableSpan, scan
@@ -52,6 +55,20 @@ class Subject:
     @cached_property
     def scan(self) -> Scan:
         return scan(self.text, self.left_out)
+
+    @cached_property
+    def tree(self) -> Tree:
+        return tree(self.text)
+
+    def node_at(self, offset: int) -> Node | None:
+        """Returns the innermost node that holds the character at this offset, if there is one."""
+        at = self.tree.places.byte(offset)
+        return self.tree.at(at) if 0 <= offset and at < len(self.tree.source) else None
+
+    def kind_at(self, offset: int) -> NodeKind | None:
+        """Returns the kind of that node."""
+        node = self.node_at(offset)
+        return None if node is None else node.kind
 
     def offset(self, message: Message) -> int:
         return self.lines.offset(message.line, message.column)

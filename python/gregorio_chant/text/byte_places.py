@@ -40,6 +40,17 @@ class BytePlaces:
         step = offset // _STEP
         return self._steps[step] + _beginnings(self._source[step * _STEP : offset])
 
+    def counted(self, offset: int) -> int:
+        """Returns how many characters of the text as the compiler counts it, without what takes no
+        column, begin before the byte `offset`."""
+        return self.characters(offset) - bisect.bisect_left(self._silent, offset)
+
+    def byte(self, counted: int) -> int:
+        """Returns the byte at which the character begins that has `counted` others before it in the
+        text as the compiler counts it; the number of bytes if there is none."""
+        every = range(len(self._source) + 1)
+        return bisect.bisect_right(every, counted, key=self.counted) - 1
+
     def place(self, offset: int) -> Place:
         """Returns the place of the character at the byte `offset`: how many characters stand before
         it, its line and its column."""
