@@ -318,7 +318,7 @@ print(resource.getrusage(resource.RUSAGE_SELF).ru_maxrss // 1024)
 
 class Large(InFolder):
     def test_memory(self) -> None:
-        """A score of 1.2 MB, of which nearly each line is written anew, takes little more than its
+        """A score of 1.2 MB, of which nearly each line is written anew, takes some hundred times its
         texts: 24 MB take 260."""
         score = Path("large.gabc")
         score.write_text(
@@ -331,7 +331,7 @@ class Large(InFolder):
             text=True,
             check=True,
         )
-        self.assertLess(int(done.stdout), 60)
+        self.assertLess(int(done.stdout), 150)
 
 
 if __name__ == "__main__":

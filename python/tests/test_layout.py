@@ -70,10 +70,7 @@ LAYOUTS: dict[str, tuple[str, str | None]] = {
         "bad  line\nname: a;\nmode:1;\n mode:2 ;\nmode :3;\nnabc-lines:9 ;\n%%\n(c4)  Ky(f5 )r )i(g)  e( f-)\n\n\n {a }( h)  [ b][c]( f)  <it>d</it>( g) <i>e( h) f",
         "bad  line\nname: a;\nmode:1;\n mode:2 ;\nmode :3;\nnabc-lines:9 ;\n%%\n(c4) Ky(f5 )r )i(g) e( f-)\n\n{a}( h) [ b][c]( f) <it>d</it>( g) <i>e( h) f",
     ),
-    "text at the end": (
-        "name: a;\n%%\n(c4)  a(f)  b  c \n\n\n",
-        "name: a;\n%%\n(c4) a(f) b  c \n\n\n",
-    ),
+    "text at the end": ("name: a;\n%%\n(c4)  a(f)  b  c \n\n\n", "name: a;\n%%\n(c4) a(f) b  c \n"),
     "NABC": (
         "name: a;\nnabc-lines:1;\n%%\n(c4)  Ky(f|pe su2)  ri(g|p\ne)\n",
         "name: a;\nnabc-lines: 1;\n%%\n(c4) Ky(f|pesu2) ri(g|p\ne)\n",

@@ -3,7 +3,7 @@ made when they are asked for."""
 from __future__ import annotations
 
 import bisect
-from collections.abc import Iterator
+from collections.abc import Collection, Iterator
 from functools import cached_property
 
 from gregorio_chant._native.node_kinds import NOT_KEPT, NodeKind
@@ -178,8 +178,8 @@ class Tree:
 
     def __init__(self, source: bytes, records: bytes | memoryview) -> None:
         self.source = source
-        records = memoryview(records)
-        self.wide, self.narrow = records.cast("I"), records.cast("H")
+        self.records = memoryview(records)
+        self.wide, self.narrow = self.records.cast("I"), self.records.cast("H")
 
     def __len__(self) -> int:
         return len(self.wide) // _WIDE
@@ -210,6 +210,15 @@ class Tree:
             Node(self, number)
             for number, kind in enumerate(self.narrow[_KIND::_NARROW].tolist())
             if kind in wanted
+        )
+
+    def said_but_of(self, kinds: Collection[NodeKind]) -> Iterator[memoryview]:
+        """Yields what each node says that is of none of these kinds, in order: its kind and its
+        three numbers, in the machine's order of bytes."""
+        return (
+            self.records[RECORD * number + 2 * _KIND : RECORD * (number + 1)]
+            for number, kind in enumerate(self.narrow[_KIND::_NARROW].tolist())
+            if kind not in kinds
         )
 
     def at(self, offset: int) -> Node:

@@ -1,102 +1,88 @@
 """Judges a score that is written anew: whether it is the score that it was.
 
-What the compiler answers is proved: the canonical text, the dump and the messages. The comments,
-the spelling at the place of a message and the letters are read by this package, and are only
-tested.
+What the compiler answers is proved: the canonical text, the tree and the messages. That the same of
+them is compared which matters is only tested.
 """
 from __future__ import annotations
 
 import hashlib
-import re
 from collections.abc import Callable, Iterable, Iterator
 from dataclasses import dataclass, fields
+from itertools import islice
 
+from gregorio_chant._native.node_kinds import NodeKind
+from gregorio_chant._native.nodes import Tree
 from gregorio_chant._native.results import Message
-from gregorio_chant.objects.compiled import Compiled, dump_in_pieces
-from gregorio_chant.text.scan import letters_of
-from gregorio_chant.text.source import Lines
+from gregorio_chant.format.parts import BLANKS, COMMENTS
+from gregorio_chant.objects.compiled import Compiled
 
-# The token at the place of a message: a line of headers, a tag, something in brackets, or else a
-# character.
-_LINE, _TAG, _BRACKET = re.compile(r"[^\n]*"), re.compile(r"<[^>]*>|\("), re.compile(r"\[[^\]]*\]")
-_THINGS = {
-    "E4": _LINE,
-    "E5": _LINE,
-    "W2": _LINE,
-    "W3": _TAG,
-    "W5": _BRACKET,
-    "W6": _TAG,
-    "W8": _BRACKET,
-}
-_CHARACTER = re.compile(".?", re.DOTALL)
-# So many characters of a text are read at once, to the end of the line.
-_PIECE = 1 << 16
-# The line that ends the headers, with the marks that the compiler leaves out.
-_SCORE_LINE = re.compile("(?:^|[\r\n])\ufeff*%\ufeff*%")
+_AT_ONCE = 1024
+# In the tree only these nodes may differ: what comments say is compared by itself, and what the
+# others say is in the canonical text.
+_SPELLED = frozenset(
+    (
+        *COMMENTS,
+        NodeKind.SYLLABLE,
+        NodeKind.CHARACTERS,
+        NodeKind.TEXT_BLANK,
+        NodeKind.STYLE_TAG,
+        NodeKind.FURTHER_BLANK,
+        NodeKind.SILENT,
+    )
+)
 
 
 @dataclass(frozen=True)
 class Reading:
-    """What has to stay when a score is written anew: by the compiler, and then by this package. A
-    large score has long texts, and its dump is many times as long, so of these there are
-    digests."""
+    """What has to stay when a score is written anew. Of long texts there are digests."""
 
     canonical: bytes
-    dump: bytes
-    messages: tuple[tuple[str, str], ...]
-    comments: tuple[str, ...]
+    tree: bytes
+    messages: tuple[tuple[str, bytes], ...]
+    comments: tuple[bytes, ...]
     letters: bytes
 
     @classmethod
     def of(cls, score: Compiled) -> Reading:
-        """Reads a score that no fatal fault stops. Of a message it takes the code and what is
-        spelled at its place."""
-        source = score.comparison.source
-        whole = score.data.decode("utf-8")
-        score_line = _SCORE_LINE.search(whole)
-        headers = score_line.start() if score_line else len(whole)
+        """Reads a score that no fatal fault stops. Of a message it takes the code and the own bytes
+        of the node at its place, without blanks."""
+        tree = score.tree
         return cls(
-            _digest(_pieces(score.canonical)),
-            _digest(dump_in_pieces(score.data)),
-            tuple((it.code, _spelled_at(score.comparison.lines, it)) for it in score.messages),
-            tuple(source.text[it.begin : it.end].rstrip() for it in source.comments),
-            _digest(_letters(whole, headers)),
+            _digest([score.canonical.encode("utf-8")]),
+            _digest(tree.said_but_of(_SPELLED)),
+            tuple((it.code, _bytes_at(score, it)) for it in score.messages),
+            tuple(filter(None, (it.source.strip() for it in tree.of_kind(*COMMENTS)))),
+            _digest(_letters(tree)),
         )
 
 
-def _letters(text: str, headers: int) -> Iterator[str]:
-    """Yields the letters of a score, those of its first `headers` characters without each `;`."""
-    yield letters_of(text[:headers]).replace(";", "")
-    yield from map(letters_of, _pieces(text, headers))
+def _letters(tree: Tree) -> Iterator[bytes]:
+    """Yields the score without blanks, line ends and tags of styles, and its headers without each
+    `;`."""
+    at = next((it.begin for it in tree.root.children(NodeKind.SCORE_LINE)), len(tree.source))
+    yield tree.source[:at].translate(None, BLANKS + b";")
+    for tag in tree.of_kind(NodeKind.STYLE_TAG):
+        yield tree.source[at : tag.begin].translate(None, BLANKS)
+        at = tag.end
+    yield tree.source[at:].translate(None, BLANKS)
 
 
-def _pieces(text: str, begin: int = 0) -> Iterator[str]:
-    """Yields the text from `begin` on, line by line or more: a large one is held but once."""
-    while begin < len(text):
-        end = text.find("\n", begin + _PIECE)
-        end = len(text) if end < 0 else end + 1
-        yield text[begin:end]
-        begin = end
-
-
-def _digest(texts: Iterable[str]) -> bytes:
-    """Returns a digest of the texts one after the other."""
-    found = hashlib.sha256()
-    for it in texts:
-        found.update(it.encode("utf-8"))
+def _digest(texts: Iterable[bytes | memoryview]) -> bytes:
+    """Returns a digest of the texts one after the other, of which few are held at once."""
+    found, them = hashlib.sha256(), iter(texts)
+    while some := b"".join(islice(them, _AT_ONCE)):
+        found.update(some)
     return found.digest()
 
 
-def _spelled_at(lines: Lines, message: Message) -> str:
-    thing = _THINGS.get(message.code, _CHARACTER).match(
-        lines.text, lines.offset(message.line, message.column)
-    )
-    return thing[0].strip() if thing else ""
+def _bytes_at(score: Compiled, message: Message) -> bytes:
+    at = score.byte(message)
+    return score.tree.at(at).own.translate(None, BLANKS) if at < len(score.data) else b""
 
 
 _TOLD = {
     "canonical": "its canonical form would be another",
-    "dump": "its dump would be another",
+    "tree": "its tree would be another",
     "messages": "its messages would be others",
     "comments": "its comments would be others",
     "letters": "more would change than blanks, a spare ; of a mark and tags of styles",

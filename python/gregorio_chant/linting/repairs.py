@@ -11,7 +11,6 @@ import re
 from collections.abc import Callable
 from dataclasses import dataclass
 
-from gregorio_chant.format.layout import after_lead
 from gregorio_chant.linting.slips import (
     APOSTROPHES,
     ENTITY,
@@ -28,6 +27,7 @@ from gregorio_chant.linting.slips import (
     unread_score_line,
 )
 from gregorio_chant.text.nearest import nearest
+from gregorio_chant.text.scan import after_lead
 from gregorio_chant.text.vocabulary import HEADERS, HTML_TAGS, TAGS
 
 _SCORE = "name: Kyrie;\n%%\n(c4) "

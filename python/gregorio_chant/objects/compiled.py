@@ -5,9 +5,12 @@ from collections.abc import Iterator
 from functools import cached_property
 
 from gregorio_chant._native import library
+from gregorio_chant._native.nodes import Tree
 from gregorio_chant._native.results import Format, Message, Status
 from gregorio_chant._native.runs import Run
+from gregorio_chant._native.trees import tree
 from gregorio_chant.format.losses import Comparison
+from gregorio_chant.text.source import Lines, text_of
 
 # The size of a piece that is compiled to a dump at once, in bytes.
 _PIECE = 1 << 17
@@ -27,7 +30,7 @@ def dump_in_pieces(data: bytes) -> Iterator[str]:
 
 
 class Compiled:
-    """The bytes of a score, its canonical text, and what hangs on them."""
+    """The bytes of a score, its canonical text, its tree, and what hangs on them."""
 
     def __init__(self, data: bytes) -> None:
         self.data = data
@@ -45,6 +48,25 @@ class Compiled:
     @cached_property
     def messages(self) -> tuple[Message, ...]:
         return self._result.messages
+
+    @cached_property
+    def tree(self) -> Tree:
+        """The tree of the score."""
+        return tree(self.data)
+
+    @cached_property
+    def written(self) -> Tree:
+        """The tree of its canonical text."""
+        return tree(self.canonical)
+
+    @cached_property
+    def lines(self) -> Lines:
+        """The lines of its text as the compiler counts them."""
+        return Lines(text_of(self.data))
+
+    def byte(self, message: Message) -> int:
+        """Returns the byte of the score at the place of a message."""
+        return self.tree.places.at(message.line, message.column)
 
     @cached_property
     def dump(self) -> str:

@@ -6,11 +6,10 @@ import re
 from collections.abc import Iterator
 from dataclasses import dataclass
 
-from gregorio_chant.format.layout import after_lead
 from gregorio_chant.objects.items import plain_text
 from gregorio_chant.server.document import Document
 from gregorio_chant.server.protocol import Json, Params
-from gregorio_chant.text.scan import SyllableSpan
+from gregorio_chant.text.scan import SyllableSpan, after_lead
 
 _NAMESPACE, _PROPERTY, _STRING = 3, 7, 15
 _LONGEST = 40

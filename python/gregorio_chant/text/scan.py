@@ -17,6 +17,7 @@ _IN_NOTES = re.compile(r"[%\[|)]")
 _PLAIN = re.compile(r"[^$%<(\[]*(\()[^%\[|)]*\)")
 _RAW = re.compile(r"<(v|sp|alt)>")
 _STYLE = re.compile(r"</?(?:b|c|e|i|sc|tt|ul)>")
+_LEAD = re.compile(r"(?:[ \t\n]+|%[^\n]*)*")
 BLANKS = " \t\n\r"
 _NO_BLANK = re.compile(f"[^{BLANKS}]")
 _NO_BLANKS = str.maketrans("", "", BLANKS)
@@ -93,6 +94,13 @@ class SyllableSpans(Sequence[SyllableSpan]):
         """Returns which syllable is the last that begins at `offset` or before it."""
         number = bisect.bisect_right(self._begins, offset) - 1
         return number if number >= 0 else None
+
+
+def after_lead(text: str, span: Span) -> int:
+    """Returns where the first character of `span` stands that is no blank and lies in no comment;
+    the end where there is none."""
+    lead = _LEAD.match(text, span.begin, span.end)
+    return lead.end() if lead else span.begin
 
 
 @dataclass
