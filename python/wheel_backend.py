@@ -44,7 +44,7 @@ def _files() -> dict[str, bytes]:
         it for it in (HERE / PACKAGE).rglob("*") if it.suffix in SUFFIXES or it.name == "py.typed"
     )
     files = {it.relative_to(HERE).as_posix(): it.read_bytes() for it in sources}
-    for it in (LIBRARY, LIBRARY.with_name("BUILD")):
+    for it in (LIBRARY, LIBRARY.with_name("BUILD"), ROOT / "VERSION"):
         if it.exists():
             files[f"{PACKAGE}/{it.name}"] = it.read_bytes()
     return files

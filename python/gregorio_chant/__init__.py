@@ -102,9 +102,9 @@ __all__ = [
 def __getattr__(name: str) -> object:
     """Returns what is asked for by this name for the first time."""
     if name == "__version__":
-        from importlib.metadata import version
+        from gregorio_chant._native.built import version
 
-        value: object = version("gregorio-chant")
+        value: object = version()
     elif name in _MODULES:
         value = getattr(import_module(f"gregorio_chant.{_MODULES[name]}"), name)
     else:

@@ -91,12 +91,12 @@ class Node:
     def children(self, *kinds: NodeKind) -> Iterator[Node]:
         """Yields the nodes that lie directly in it, in order; if `kinds` are given, those of these
         kinds."""
+        wide, narrow = self.tree.wide, self.tree.narrow
         number, past = self.number + 1, self.past
         while number < past:
-            node = Node(self.tree, number)
-            if not kinds or node.kind in kinds:
-                yield node
-            number = node.past
+            if not kinds or narrow[_NARROW * number + _KIND] in kinds:
+                yield Node(self.tree, number)
+            number += 1 + wide[_WIDE * number + _INNER]
 
     @property
     def source(self) -> bytes:

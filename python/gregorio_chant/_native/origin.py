@@ -7,6 +7,7 @@ from pathlib import Path
 
 from gregorio_chant import __version__
 from gregorio_chant._native import library
+from gregorio_chant._native.built import built
 
 _UNKNOWN = "unknown"
 
@@ -28,7 +29,7 @@ def origin() -> Origin:
     version = ctypes.string_at(
         ctypes.addressof(ctypes.c_char.in_dll(library.LIBRARY, "gregorio_version"))
     )
-    lines = _lines_of(Path(__file__).parents[1] / "BUILD")
+    lines = _lines_of(built("BUILD"))
     return Origin(
         __version__, version.decode(), lines.get("commit", _UNKNOWN), lines.get("kit", _UNKNOWN)
     )

@@ -6,7 +6,6 @@ in a row one stays, and of blanks one.
 """
 from __future__ import annotations
 
-import io
 import re
 from collections.abc import Iterator
 from dataclasses import dataclass
@@ -33,9 +32,23 @@ class _Word:
         return "".join(self.parts)
 
 
+def _is_laid_out(score: Compiled) -> bool:
+    """Returns whether a score is its canonical text but that LF and blank are alike after the
+    headers: then it stays as it is."""
+    canonical = score.canonical.encode("utf-8")
+    begin = canonical.find(b"%%\n") + 3
+    return (
+        score.data.startswith(canonical[:begin])
+        and score.data.endswith(b"\n")
+        and score.data.replace(b"\n", b" ") == canonical.replace(b"\n", b" ")
+    )
+
+
 def laid_out(score: Compiled, width: int | None = None) -> bytes:
-    """Returns the score as it is laid out. With a `width` a line longer than this many characters
-    is broken where words begin."""
+    """Returns a score that no fatal fault stops as it is laid out. With a `width` a line longer
+    than this many characters is broken where words begin."""
+    if width is None and _is_laid_out(score):
+        return score.data
     line_end = "\n"
     if b"\r" in score.data:
         found = _LINE_END.search(score.data)
@@ -44,10 +57,8 @@ def laid_out(score: Compiled, width: int | None = None) -> bytes:
     words = _words(score)
     if width is not None:
         words = _wrapped(words, width)
-    data = io.StringIO()
-    for it in words:
-        data.write(f"{it.lead}{it.text}".replace("\n", line_end))
-    return data.getvalue().encode("utf-8")
+    data = "".join([f"{it.lead}{it.text}" for it in words])
+    return data.replace("\n", line_end).encode("utf-8")
 
 
 def _words(score: Compiled) -> Iterator[_Word]:

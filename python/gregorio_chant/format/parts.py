@@ -141,8 +141,9 @@ def _header_letters(text: bytes) -> bytes:
 def _after_lead(syllable: Node) -> int:
     """Returns where the first byte of a syllable stands that is no blank and lies in no comment."""
     at = syllable.begin
-    for it in syllable.children():
-        if it.kind not in _LEAD or it.begin != at:
+    for number in range(syllable.number + 1, syllable.past):
+        it = Node(syllable.tree, number)
+        if it.begin != at or it.kind not in _LEAD:
             break
         at = it.end
     return at
