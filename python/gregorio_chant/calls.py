@@ -20,7 +20,7 @@ from gregorio_chant.linting.checking import told_of
 from gregorio_chant.linting.problems import Change, Problem, ProblemRepair, problems_of
 from gregorio_chant.linting.repairing import Guess, How, repair, repair_of_each
 from gregorio_chant.objects.compiled import Compiled
-from gregorio_chant.objects.dump import Score, ScoreError
+from gregorio_chant.objects.score import Score, ScoreError
 from gregorio_chant.tables.indexing import IndexEntry, entry_of
 from gregorio_chant.work.settings import Settings
 from gregorio_chant.work.streams import STDIN
@@ -84,7 +84,8 @@ def lint(text: Text, settings: Settings = Settings()) -> list[Problem]:
     A problem that shares its repair with one before it has none, and repairs are looked for as long
     as `fix` looks for them."""
     data, with_rules = bytes(bytes_of(text)), settings.rules is True
-    told = told_of(data, settings.selection(STDIN), with_rules)
+    compiled = Compiled(data)
+    told = told_of(compiled, settings.selection(STDIN), with_rules)
     if not told.messages:
         return []
     return [
@@ -92,7 +93,7 @@ def lint(text: Text, settings: Settings = Settings()) -> list[Problem]:
             told.text,
             told.messages,
             told.helps,
-            repair_of_each(Compiled(data), told.found, told.messages, with_rules),
+            repair_of_each(compiled, told.found, told.messages, with_rules),
         )
     ]
 
@@ -118,8 +119,9 @@ def draw(text: Text, width: float = USUAL_WIDTH, settings: Settings = Settings()
     from gregorio_chant import picture
 
     data = bytes(bytes_of(text))
-    told = told_of(data, settings.selection(STDIN), settings.rules is True)
-    made = picture.draw(data, told.messages, look=picture.Look(width=width))
+    compiled = Compiled(data)
+    told = told_of(compiled, settings.selection(STDIN), settings.rules is True)
+    made = picture.draw(compiled, told.messages, look=picture.Look(width=width))
     return DrawnScore(made.name, made.svg)
 
 

@@ -2,46 +2,35 @@
 modules of `gregorio_chant.objects`."""
 from __future__ import annotations
 
-from gregorio_chant.objects.dump import (
+from gregorio_chant._native.runs import Limits
+from gregorio_chant.objects.edits import EditError, Edited
+from gregorio_chant.objects.headers import Header
+from gregorio_chant.objects.heights import Interval, Range, interval, intervals
+from gregorio_chant.objects.item import Item
+from gregorio_chant.objects.items import (
     Alteration,
     Attribute,
     Bar,
     Break,
     Clef,
     Custos,
-    Descriptor,
-    DumpError,
-    Edited,
-    EditError,
-    Element,
     Fusion,
-    Glyph,
-    Header,
-    Interval,
-    Item,
-    LeftOut,
-    Limits,
-    NabcGlyph,
-    NabcLetters,
-    NabcPart,
-    NabcPoints,
-    NabcSnippet,
     Note,
-    NoteSnippet,
-    Phrase,
-    Place,
-    Range,
-    Score,
-    ScoreError,
-    Snippet,
-    Source,
     Space,
-    Syllable,
-    Word,
-    interval,
-    intervals,
-    plain_text,
 )
+from gregorio_chant.objects.left_out import LeftOut
+from gregorio_chant.objects.nabc import Descriptor, NabcGlyph, NabcLetters, NabcPart, NabcPoints
+from gregorio_chant.objects.passages import Phrase, Word
+from gregorio_chant.objects.score import Score, ScoreError
+from gregorio_chant.objects.syllables import (
+    Element,
+    Glyph,
+    NabcSnippet,
+    NoteSnippet,
+    Snippet,
+    Syllable,
+)
+from gregorio_chant.text.source import Place, Source
 
 __all__ = [
     "Alteration",
@@ -51,7 +40,6 @@ __all__ = [
     "Clef",
     "Custos",
     "Descriptor",
-    "DumpError",
     "EditError",
     "Edited",
     "Element",
@@ -81,5 +69,4 @@ __all__ = [
     "Word",
     "interval",
     "intervals",
-    "plain_text",
 ]

@@ -4,7 +4,8 @@ from __future__ import annotations
 
 from collections.abc import Iterable, Sequence
 
-from gregorio_chant.objects.items import Attribute, Fusion, Item, Note
+from gregorio_chant.objects.item import Item
+from gregorio_chant.objects.items import Attribute, Fusion, Note
 from gregorio_chant.objects.signs import Episema
 
 
@@ -21,19 +22,19 @@ def morae_of(notes: Sequence[Note]) -> list[int]:
     return morae
 
 
-def episemata_of(items: Iterable[Item]) -> dict[int, tuple[Episema, ...]]:
+def episemata_of(items: Iterable[Item]) -> dict[Note, tuple[Episema, ...]]:
     """Returns the episemata that cover each note among `items`, by the offset of the note: first
     its own, then those of later notes that reach back to it. None reaches back over anything that
     is no note, but for attributes and marks of fusion. A note that no episema covers is left
     out."""
-    covered: dict[int, tuple[Episema, ...]] = {}
+    covered: dict[Note, tuple[Episema, ...]] = {}
     row: list[Note] = []
     for it in items:
         if isinstance(it, Note):
             row.append(it)
             for episema in it.episemata:
                 for note in row[-episema.count :]:
-                    covered[note.place.offset] = (*covered.get(note.place.offset, ()), episema)
+                    covered[note] = (*covered.get(note, ()), episema)
         elif not isinstance(it, (Attribute, Fusion)):
             row.clear()
     return covered

@@ -3,6 +3,8 @@ made when they are asked for."""
 from __future__ import annotations
 
 import bisect
+import re
+import sys
 from collections.abc import Collection, Iterator
 from functools import cached_property
 
@@ -14,7 +16,12 @@ from gregorio_chant.text.source import Place
 RECORD = 20
 _WIDE, _NARROW = RECORD // 4, RECORD // 2
 _INNER, _KIND = 2, 6
+# The byte of a record with the low half of its kind; no kind has a high one.
+_KIND_BYTE = 2 * _KIND + (sys.byteorder == "big")
 _KINDS = tuple(NodeKind)
+# What stands before a syllable, and is none of it.
+_BLANKS = bytes(NOT_KEPT - {NodeKind.LEFT_OUT} | {NodeKind.TEXT_BLANK})
+_NOT_KEPT = re.compile(b"[%s]" % re.escape(bytes(NOT_KEPT)))
 
 
 class Node:
@@ -91,12 +98,10 @@ class Node:
     def children(self, *kinds: NodeKind) -> Iterator[Node]:
         """Yields the nodes that lie directly in it, in order; if `kinds` are given, those of these
         kinds."""
-        wide, narrow = self.tree.wide, self.tree.narrow
-        number, past = self.number + 1, self.past
-        while number < past:
-            if not kinds or narrow[_NARROW * number + _KIND] in kinds:
+        kinds_of = self.tree.kinds
+        for number in self.tree.children(self.number):
+            if not kinds or kinds_of[number] in kinds:
                 yield Node(self.tree, number)
-            number += 1 + wide[_WIDE * number + _INNER]
 
     @property
     def source(self) -> bytes:
@@ -121,14 +126,7 @@ class Node:
     @property
     def kept(self) -> str:
         """What was kept of it: its text without what the compiler does not keep, each CR as LF."""
-        if not len(self):
-            return self.text.replace("\r", "\n")
-        spans = self._between(self._not_kept())
-        return (
-            b"".join(self.tree.source[begin:end] for begin, end in spans)
-            .decode("utf-8", "replace")
-            .replace("\r", "\n")
-        )
+        return self.tree.kept(self.number)
 
     @property
     def place(self) -> Place:
@@ -156,17 +154,6 @@ class Node:
             at = it.end
         yield at, self.end
 
-    def _not_kept(self) -> Iterator[Node]:
-        """Yields the nodes in it that are not kept, the outermost ones."""
-        number, past = self.number + 1, self.past
-        while number < past:
-            node = Node(self.tree, number)
-            if node.kind in NOT_KEPT:
-                yield node
-                number = node.past
-            else:
-                number += 1
-
 
 class Tree:
     """The tree of a score: a list of nodes, in the order of the file, each before those that lie in
@@ -180,6 +167,8 @@ class Tree:
         self.source = source
         self.records = memoryview(records)
         self.wide, self.narrow = self.records.cast("I"), self.records.cast("H")
+        # The number of the kind of each node, in a byte.
+        self.kinds = bytes(self.records[_KIND_BYTE::RECORD])
 
     def __len__(self) -> int:
         return len(self.wide) // _WIDE
@@ -206,20 +195,60 @@ class Tree:
     def of_kind(self, *kinds: NodeKind) -> Iterator[Node]:
         """Yields the nodes of these kinds, in order."""
         wanted = frozenset(map(int, kinds))
-        return (
-            Node(self, number)
-            for number, kind in enumerate(self.narrow[_KIND::_NARROW].tolist())
-            if kind in wanted
-        )
+        return (Node(self, number) for number, kind in enumerate(self.kinds) if kind in wanted)
 
     def said_but_of(self, kinds: Collection[NodeKind]) -> Iterator[memoryview]:
         """Yields what each node says that is of none of these kinds, in order: its kind and its
         three numbers, in the machine's order of bytes."""
         return (
             self.records[RECORD * number + 2 * _KIND : RECORD * (number + 1)]
-            for number, kind in enumerate(self.narrow[_KIND::_NARROW].tolist())
+            for number, kind in enumerate(self.kinds)
             if kind not in kinds
         )
+
+    def children(self, number: int) -> Iterator[int]:
+        """Yields the numbers of the nodes that lie directly in the node `number`, in order."""
+        past = number + 1 + self.wide[_WIDE * number + _INNER]
+        number += 1
+        while number < past:
+            yield number
+            number += 1 + self.wide[_WIDE * number + _INNER]
+
+    def core(self, number: int) -> tuple[int, int]:
+        """Returns the bytes of the syllable `number` without blanks and comments at both ends."""
+        begin, end = self.wide[_WIDE * number : _WIDE * number + 2]
+        inner = list(self.children(number))
+        for it in inner:
+            if self.wide[_WIDE * it] != begin or self.kinds[it] not in _BLANKS:
+                break
+            begin = self.wide[_WIDE * it + 1]
+        for it in reversed(inner):
+            if self.wide[_WIDE * it + 1] != end or self.kinds[it] not in _BLANKS:
+                break
+            end = self.wide[_WIDE * it]
+        return begin, end
+
+    def kept(self, number: int) -> str:
+        """Returns what was kept of the node `number`."""
+        begin, end, inner = self.wide[_WIDE * number : _WIDE * number + _INNER + 1]
+        return self.kept_text(number + 1, number + 1 + inner, begin, end)
+
+    def kept_text(self, first: int, past: int, begin: int, end: int) -> str:
+        """Returns what was kept of the bytes from `begin` up to `end`, in which no nodes lie but
+        those from `first` up to `past`."""
+        kept = self.kept_spans(first, past, begin, end)
+        parts = b"".join([self.source[begin:end] for begin, end in kept])
+        return parts.decode("utf-8", "replace").replace("\r", "\n")
+
+    def kept_spans(self, first: int, past: int, begin: int, end: int) -> Iterator[tuple[int, int]]:
+        """Yields where these bytes stand."""
+        for found in _NOT_KEPT.finditer(self.kinds, first, past):
+            number = found.start()
+            if self.wide[_WIDE * number] >= end:
+                break
+            yield begin, self.wide[_WIDE * number]
+            begin = self.wide[_WIDE * number + 1]
+        yield begin, end
 
     def at(self, offset: int) -> Node:
         """Returns the innermost node that holds the byte `offset`: that to which the byte belongs.

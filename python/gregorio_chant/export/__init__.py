@@ -5,7 +5,8 @@ from __future__ import annotations
 from collections.abc import Callable
 from dataclasses import dataclass
 
-from gregorio_chant.objects.dump import Note, Score
+from gregorio_chant.objects.items import Note
+from gregorio_chant.objects.score import Score
 
 Write = Callable[[Score], bytes]
 

@@ -7,7 +7,7 @@ from pathlib import Path
 from gregorio_chant._native.results import Kind
 from gregorio_chant.export import Way
 from gregorio_chant.export.losses import losses
-from gregorio_chant.objects.dump import Score, ScoreError
+from gregorio_chant.objects.score import Score, ScoreError
 from gregorio_chant.report.reports import counted
 from gregorio_chant.work.files import Reader, write
 from gregorio_chant.work.settings import Finder

@@ -3,17 +3,10 @@ from __future__ import annotations
 
 from collections.abc import Iterator
 
-from gregorio_chant.objects.dump import (
-    Attribute,
-    Bar,
-    Break,
-    Custos,
-    Item,
-    NabcSnippet,
-    Note,
-    Score,
-    Syllable,
-)
+from gregorio_chant.objects.item import Item
+from gregorio_chant.objects.items import Attribute, Bar, Break, Custos, Note
+from gregorio_chant.objects.score import Score
+from gregorio_chant.objects.syllables import NabcSnippet, Syllable
 from gregorio_chant.text.source import Source
 
 NABC, STYLES, TRANSLATIONS, ATTRIBUTES, BREAKS, CUSTODES = (

@@ -6,20 +6,11 @@ from xml.etree import ElementTree
 
 from gregorio_chant.export import NoHeight, Way
 from gregorio_chant.export.losses import ATTRIBUTES, MORAE, NABC, STYLES, TRANSLATIONS
-from gregorio_chant.objects.dump import (
-    Alteration,
-    Bar,
-    Break,
-    Clef,
-    Custos,
-    Glyph,
-    Item,
-    Note,
-    NoteSnippet,
-    Score,
-    Syllable,
-)
-from gregorio_chant.objects.items import PITCHES
+from gregorio_chant.objects.item import Item
+from gregorio_chant.objects.items import Alteration, Bar, Break, Clef, Custos, Note
+from gregorio_chant.objects.score import Score
+from gregorio_chant.objects.syllables import Glyph, NoteSnippet, Syllable
+from gregorio_chant.objects.item import PITCHES
 
 _MEI = "http://www.music-encoding.org/ns/mei"
 _PITCHES = "cdefgab"
@@ -112,8 +103,8 @@ class _Layer:
     def add(self, syllable: Syllable) -> None:
         """Adds a syllable. Raises `NoHeight`."""
         made: ElementTree.Element | None = None
-        of_glyphs: dict[int, Glyph] = {
-            note.place.offset: glyph for glyph in syllable.glyphs for note in glyph.notes
+        of_glyphs: dict[Item, Glyph] = {
+            note: glyph for glyph in syllable.glyphs for note in glyph.notes
         }
         last: Glyph | None = None
         neume: ElementTree.Element | None = None
@@ -124,7 +115,7 @@ class _Layer:
             for item in snippet.items:
                 if isinstance(item, Note):
                     made = self._begin(syllable, text) if made is None else made
-                    glyph = of_glyphs.get(item.place.offset)
+                    glyph = of_glyphs.get(item)
                     if neume is None or glyph is not last:
                         neume = _child(
                             made, "neume", **({"type": glyph.kind} if glyph is not None else {})

@@ -6,7 +6,7 @@ import io
 
 import mido
 
-from gregorio_chant.objects.dump import Score
+from gregorio_chant.objects.score import Score
 from gregorio_chant.objects.sounds import TICKS, sounds_of
 
 _VELOCITY = 80

@@ -17,7 +17,9 @@ from gregorio_chant.export.losses import (
     STYLES,
     TRANSLATIONS,
 )
-from gregorio_chant.objects.dump import Bar, Note, NoteSnippet, Score, Syllable
+from gregorio_chant.objects.items import Bar, Note
+from gregorio_chant.objects.score import Score
+from gregorio_chant.objects.syllables import NoteSnippet, Syllable
 from gregorio_chant.rhythm import morae_of
 
 _STEPS = "CDEFGAB"

@@ -18,7 +18,8 @@ from gregorio_chant.export.losses import (
     TRANSLATIONS,
     VIRGULAE,
 )
-from gregorio_chant.objects.dump import Bar, Note, Syllable
+from gregorio_chant.objects.items import Bar, Note
+from gregorio_chant.objects.syllables import Syllable
 
 # The letters from the f below the staff on. The one at `_UT` is that of step 0, the c in which a
 # melody of the first mode has its lowest c.
@@ -76,18 +77,14 @@ def _parts(syllables: Iterable[Syllable]) -> Iterator[tuple[str, str]]:
         hyphens = "---" if syllable.begins_word else "--"
         if syllable.begins_word:
             altered.begin_word()
-        of_glyphs = {
-            note.place.offset: at
-            for at, glyph in enumerate(syllable.glyphs)
-            for note in glyph.notes
-        }
+        of_glyphs = {note: at for at, glyph in enumerate(syllable.glyphs) for note in glyph.notes}
         last = None
         for item in syllable.items:
             if isinstance(item, Bar) and item.name in _BARS:
                 yield "---", _BARS[item.name]
                 hyphens, last = "---", None
             elif isinstance(item, Note):
-                glyph = of_glyphs.get(item.place.offset)
+                glyph = of_glyphs.get(item)
                 yield ("" if glyph is not None and glyph == last else hyphens), _note(item, altered)
                 hyphens, last = "-", glyph
 

@@ -9,11 +9,11 @@ from dataclasses import dataclass
 from functools import partial
 
 from gregorio_chant import __version__
-from gregorio_chant._native import library
 from gregorio_chant._native.results import Kind, Message
 from gregorio_chant.linting.helps import helps_for
 from gregorio_chant.linting.rules import messages_with_rules, unsilenced
 from gregorio_chant.linting.selection import Selection
+from gregorio_chant.objects.compiled import Compiled
 from gregorio_chant.report.reports import Annotations, Checked, Json, Lines, Reporter, summary_of
 from gregorio_chant.report.sarif import Sarif
 from gregorio_chant.text.source import text_of
@@ -45,12 +45,10 @@ class Options:
     settings: Finder = NoSettings()
 
 
-def check_data(data: bytes, with_rules: bool) -> tuple[Message, ...]:
+def found_in(compiled: Compiled, with_rules: bool) -> tuple[Message, ...]:
     """Returns all that is found in a score, by the compiler and, if they are wanted, by the
     rules, and that no comment of it silences."""
-    if with_rules:
-        return messages_with_rules(data)
-    return unsilenced(data, library.check(data).messages)
+    return messages_with_rules(compiled) if with_rules else unsilenced(compiled)
 
 
 @dataclass(frozen=True)
@@ -64,14 +62,14 @@ class Told:
     helps: tuple[str | None, ...] = ()
 
 
-def told_of(data: bytes, selection: Selection, with_rules: bool) -> Told:
+def told_of(compiled: Compiled, selection: Selection, with_rules: bool) -> Told:
     """Returns what is reported of a score."""
-    found = check_data(data, with_rules)
+    found = found_in(compiled, with_rules)
     messages = selection.of(found)
     if not messages:
         return Told(found)
-    text = text_of(data)
-    return Told(found, messages, text, helps_for(text, found, messages))
+    text = text_of(compiled.data)
+    return Told(found, messages, text, helps_for(compiled, messages))
 
 
 _Read = Callable[[str], Content]
@@ -79,21 +77,21 @@ _Read = Callable[[str], Content]
 
 def check_file(name: str, options: Options, read_it: _Read) -> Checked:
     """Returns what is found in the file, or why it was not read."""
-    settings = options.settings.of(name)
-    selection = settings.selection(name, options.chosen)
     try:
-        told = told_of(read_it(name).data, selection, options.with_rules or settings.rules is True)
+        return check_score(name, Compiled(read_it(name).data), options)
     except OSError as error:
         return Checked(name, failure=reason_of(error), status=CANNOT_READ_OR_WRITE)
     except MemoryError:
         return Checked(name, failure="there is no memory for it", status=NO_MEMORY)
-    return Checked(
-        name,
-        told.messages,
-        told.text,
-        status=int(selection.status_of(told.messages)),
-        helps=told.helps,
-    )
+
+
+def check_score(name: str, compiled: Compiled, options: Options) -> Checked:
+    """Returns what is found in a score of this name."""
+    settings = options.settings.of(name)
+    selection = settings.selection(name, options.chosen)
+    told = told_of(compiled, selection, options.with_rules or settings.rules is True)
+    status = int(selection.status_of(told.messages))
+    return Checked(name, told.messages, told.text, status=status, helps=told.helps)
 
 
 @contextmanager

@@ -178,7 +178,7 @@ def _earlier_line(subject: Subject, at: int) -> str | None:
     header = subject.header_at(at)
     if header is None:
         return None
-    same = [it for it in subject.scan.headers if it.name == header.name and it.begin < at]
+    same = [it for it in subject.parts.headers if it.name == header.name and it.begin < at]
     return str(subject.lines.place(same[-1].begin).line) if same else None
 
 
@@ -273,13 +273,13 @@ def _styles_closed(subject: Subject, at: int) -> str:
 
 
 def _last_text(subject: Subject, at: int) -> str:
-    it = subject.scan.syllables[-1] if subject.scan.syllables else None
+    it = subject.parts.syllables[-1] if subject.parts.syllables else None
     return named(subject.text[it.begin : it.end].strip() if it else "")
 
 
 def _open_spans(subject: Subject, at: int) -> str:
     found = {}
-    for it in subject.scan.syllables:
+    for it in subject.parts.syllables:
         for tag in re.finditer(r"<(/?)(eu|nlba)>", subject.text[it.begin : it.notes]):
             found[tag[2]] = None if tag[1] else it.begin + tag.start()
     return " and the ".join(

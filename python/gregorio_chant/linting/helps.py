@@ -20,6 +20,7 @@ from gregorio_chant._native.node_kinds import NodeKind
 from gregorio_chant._native.results import Kind, Message
 from gregorio_chant.linting.facts import FACTS
 from gregorio_chant.linting.slips import Subject
+from gregorio_chant.objects.compiled import Compiled
 
 _TABLE = Path(__file__).with_name("helps.json")
 _CLASSES = {"digit": str.isdigit, "letter": str.isalpha}
@@ -139,9 +140,7 @@ def _each_help(subject: Subject, told: Iterable[Message]) -> Iterator[str | None
             yield help.text
 
 
-def helps_for(
-    text: str, found: Iterable[Message], told: Iterable[Message]
-) -> tuple[str | None, ...]:
-    """Returns the help for each message that is reported, of all that are found in this text. Where
-    several messages have one slip, as a lost bracket, all but the first say so."""
-    return tuple(_each_help(Subject(text, found), told))
+def helps_for(compiled: Compiled, told: Iterable[Message]) -> tuple[str | None, ...]:
+    """Returns the help for each message that is reported of a score. Where several messages have
+    one slip, as a lost bracket, all but the first say so."""
+    return tuple(_each_help(Subject(compiled), told))

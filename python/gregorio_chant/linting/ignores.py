@@ -3,19 +3,20 @@ ignore-file W6` in the score."""
 from __future__ import annotations
 
 import re
-from collections.abc import Collection, Iterable, Iterator
+from collections.abc import Collection, Iterator
 from dataclasses import dataclass
 from typing import Optional
 
+from gregorio_chant._native.node_kinds import NodeKind
+from gregorio_chant._native.nodes import Tree
 from gregorio_chant._native.results import Kind, Message
 from gregorio_chant.linting.selection import KINDS, RULES, group_of
-from gregorio_chant.text.scan import scan
-from gregorio_chant.text.source import Lines, Place, text_of
+from gregorio_chant.objects.compiled import Compiled
+from gregorio_chant.text.source import Place
 
 _WORD = b"gregorio:"
-IGNORE = re.compile(r"%[ \t]*gregorio:[ \t]*(ignore-file|ignore)(?![\w-])([^%\n]*)")
-_CODE = re.compile(r"[^\s,]+")
-_LEFT_OUT = frozenset(("E1", "E2", "E3"))
+IGNORE = re.compile(rb"%[ \t]*gregorio:[ \t]*(ignore-file|ignore)(?![\w-])([^%]*)")
+_CODE = re.compile(rb"[^\s,]+")
 
 
 # Where something is silenced, on a line or in the whole score, and what: a code, its kind, or the
@@ -66,26 +67,27 @@ class Unused:
     text: str
 
 
-def _ignores_in(data: bytes, messages: Iterable[Message]) -> Iterator[_Ignore]:
-    lines = Lines(text_of(data))
-    left_out = {lines.offset(it.line, it.column) for it in messages if it.code in _LEFT_OUT}
-    for comment in scan(lines.text, left_out).comments:
-        for found in IGNORE.finditer(lines.text, comment.begin, comment.end):
-            in_file = found[1] == "ignore-file"
-            codes = list(_CODE.finditer(lines.text, *found.span(2)))
-            yield from (_Ignore(lines.place(it.start()), it[0], in_file) for it in codes)
+def _ignores_in(tree: Tree) -> Iterator[_Ignore]:
+    for comment in tree.of_kind(NodeKind.COMMENT, NodeKind.HEADER_COMMENT):
+        text = comment.source
+        for found in IGNORE.finditer(text):
+            in_file = found[1] == b"ignore-file"
+            codes = list(_CODE.finditer(text, *found.span(2)))
+            for it in codes:
+                code = it[0].decode("utf-8", "replace")
+                yield _Ignore(tree.place(comment.begin + it.start()), code, in_file)
             if not codes:
-                yield _Ignore(lines.place(found.start()), None, in_file)
+                yield _Ignore(tree.place(comment.begin + found.start()), None, in_file)
 
 
 def silenced(
-    data: bytes, messages: tuple[Message, ...], known: Collection[str]
+    compiled: Compiled, messages: tuple[Message, ...], known: Collection[str]
 ) -> tuple[tuple[Message, ...], tuple[Unused, ...]]:
     """Returns the messages that are not silenced by comments of the score, and the ignores that
     silence nothing. `known` has all codes."""
-    if _WORD not in data:
+    if _WORD not in compiled.data:
         return messages, ()
-    ignores = list(_ignores_in(data, messages))
+    ignores = list(_ignores_in(compiled.tree))
     wanted = {it.key for it in ignores}
     kept: list[Message] = []
     used: set[_Key] = set()

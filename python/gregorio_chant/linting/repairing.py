@@ -14,6 +14,7 @@ from collections.abc import Callable, Iterable, Iterator, Sequence
 from dataclasses import dataclass
 from itertools import accumulate
 
+from gregorio_chant._native.node_kinds import NodeKind
 from gregorio_chant._native.results import Kind, Message
 from gregorio_chant.linting.codes import CODES
 from gregorio_chant.linting.facts import named
@@ -23,9 +24,10 @@ from gregorio_chant.linting.rules import RULES, messages_with_rules, unsilenced
 from gregorio_chant.linting.selection import Selection
 from gregorio_chant.linting.slips import Subject, readings
 from gregorio_chant.objects.compiled import Compiled
-from gregorio_chant.objects.dump import Pause, go_on, plain_text
-from gregorio_chant.text.scan import Scan, Span, SyllableSpan
-from gregorio_chant.text.source import raw_offsets, text_of
+from gregorio_chant.objects.pauses import Pause, go_on
+from gregorio_chant.objects.score import Score
+from gregorio_chant.objects.syllables import Syllable
+from gregorio_chant.text.source import raw_offsets
 
 # How many bytes of scores are compiled for one score at most, so that its repairs take seconds;
 # with rules a byte takes so many times longer.
@@ -87,7 +89,7 @@ class _Moved:
 
 
 def _found(score: Compiled, with_rules: bool) -> tuple[Message, ...]:
-    return messages_with_rules(score.data) if with_rules else unsilenced(score.data, score.messages)
+    return messages_with_rules(score) if with_rules else unsilenced(score)
 
 
 _Placed = Counter[tuple[str, int]]
@@ -96,20 +98,15 @@ _Placed = Counter[tuple[str, int]]
 def _messages_at(
     score: Compiled, found: Iterable[Message], place: Callable[[int], int] = lambda offset: offset
 ) -> _Placed:
-    lines = score.comparison.lines
-    return Counter(
-        (it.code, place(lines.offset(it.line, it.column))) for it in {*found, *score.messages}
-    )
+    """Returns the messages of the rules and of the compiler by their codes and offsets."""
+    subject = Subject(score)
+    return Counter((it.code, place(subject.offset(it))) for it in {*found, *score.messages})
 
 
-def _comments(score: Compiled) -> list[str]:
-    source = score.comparison.source
-    return [source.text[it.begin : it.end] for it in source.comments]
-
-
-def _is_touched(span: Span, places: Sequence[int]) -> bool:
-    first = bisect.bisect_left(places, span.begin)
-    return first < len(places) and places[first] <= span.end
+def _comments(score: Compiled) -> list[bytes]:
+    """Returns the comments of a score, with what a U+FEFF parts each in."""
+    comments = score.tree.of_kind(NodeKind.COMMENT, NodeKind.HEADER_COMMENT)
+    return [it.source for it in comments]
 
 
 def _alike(olds: Sequence[str], news: Sequence[str]) -> int:
@@ -119,44 +116,51 @@ def _alike(olds: Sequence[str], news: Sequence[str]) -> int:
     )
 
 
-def _headers(written: Scan) -> list[str]:
-    return [written.text[it.begin : it.end] for it in written.headers]
+def _headers(score: Score) -> list[str]:
+    return [it.spelling for it in score.headers]
 
 
 def _differs_there_alone(old: Compiled, new: Compiled, places: Sequence[int]) -> bool:
     """Returns whether the canonical forms differ in headers and syllables alone that hold one of
     the `places` of the old text."""
-    source, before, after = old.comparison.source, old.comparison.written, new.comparison.written
-    if _headers(before) != _headers(after) and not any(it <= source.score for it in places):
+    before, after = old.score, new.score
+    places_of = before.tree.places
+    begin_of_score = places_of.counted(next(before.tree.of_kind(NodeKind.SCORE_LINE)).begin)
+    if _headers(before) != _headers(after) and not any(it <= begin_of_score for it in places):
         return False
-    olds = [before.text[it.begin : it.end] for it in before.syllables]
-    news = [after.text[it.begin : it.end] for it in after.syllables]
+    olds = [it.spelling for it in before.syllables]
+    news = [it.spelling for it in after.syllables]
     begin = _alike(olds, news)
     end = min(_alike(olds[::-1], news[::-1]), len(olds) - begin, len(news) - begin)
-    changed = source.syllables[begin : len(olds) - end]
+    changed = before.syllables[begin : len(olds) - end]
     if len(olds) == len(news):
-        changed = [it for it, a, b in zip(source.syllables, olds, news) if a != b]
+        changed = tuple(it for it, a, b in zip(before.syllables, olds, news) if a != b)
     return all(_is_touched(it, places) for it in changed)
 
 
-def _sings_the_same(old: Compiled, new: Compiled) -> bool:
+def _is_touched(syllable: Syllable, places: Sequence[int]) -> bool:
+    """Returns whether one of the places lies in a syllable, or directly before or after it."""
+    count = syllable.score.tree.places.counted
+    first = bisect.bisect_left(places, count(syllable.node.begin))
+    return first < len(places) and places[first] <= count(syllable.node.end)
+
+
+def _sings_the_same(old: Score, new: Score) -> bool:
     """Returns whether the canonical forms have the same headers, notes and NABC, and the letters
     that are sung are the same."""
-    before, after = old.comparison.written, new.comparison.written
     return (
-        len(before.syllables) == len(after.syllables)
-        and _headers(before) == _headers(after)
+        len(old.syllables) == len(new.syllables)
+        and _headers(old) == _headers(new)
         and all(
-            before.text[a.notes : a.end] == after.text[b.notes : b.end]
-            and _sung(before, a) == _sung(after, b)
-            for a, b in zip(before.syllables, after.syllables)
+            before.written_notes == after.written_notes and _sung(before) == _sung(after)
+            for before, after in zip(old.syllables, new.syllables)
         )
     )
 
 
-def _sung(written: Scan, syllable: SyllableSpan) -> str:
+def _sung(syllable: Syllable) -> str:
     """Returns the letters and digits of a syllable's text."""
-    return _NO_LETTERS.sub("", plain_text(written.text[syllable.begin : syllable.notes]))
+    return _NO_LETTERS.sub("", syllable.plain)
 
 
 class _Draft:
@@ -202,16 +206,15 @@ class _Draft:
             return False
         before = _messages_at(old, self._found)
         after = _messages_at(new, _found(new, self.with_rules), _Moved(edits).before)
-        lines = old.comparison.lines
-        wanted = {
-            (it.message.code, lines.offset(it.message.line, it.message.column)) for it in proposals
-        }
+        subject = Subject(old)
+        wanted = {(it.message.code, subject.offset(it.message)) for it in proposals}
         if after - before or any(it in after for it in wanted):
             return False
         places = sorted([*(offset for _, offset in before - after), *(it.offset for it in edits)])
         if _comments(old) != _comments(new) or not _differs_there_alone(old, new, places):
             return False
-        return not all(it.repair.is_safe for it in proposals) or _sings_the_same(old, new)
+        is_safe = all(it.repair.is_safe for it in proposals)
+        return not is_safe or _sings_the_same(old.score, new.score)
 
 
 class _Judge:
@@ -276,7 +279,7 @@ def proposals_for(
     if not is_text(score.data):
         return
     draft = _Draft(score, _found(score, with_rules), with_rules)
-    for them in _proposals(Subject(text_of(score.data), score.messages), messages, lambda _: True):
+    for them in _proposals(Subject(score), messages, lambda _: True):
         for it in them:
             pause()
             if draft.takes([it]):
@@ -294,7 +297,7 @@ def repair_of_each(
         return {}
     draft, judge = _Draft(score, found, with_rules), _Judge()
     told = messages if score.fault is None else (score.fault,)
-    subject = Subject(text_of(score.data), score.messages)
+    subject = Subject(score)
     repairs = {}
     for them in _proposals(subject, told, lambda _: True):
         it = next((it for it in them if judge.takes(draft, [it])), None)
@@ -349,7 +352,7 @@ class _Repairing:
         old = Compiled(data)
         found = _found(old, self._how.with_rules)
         told = self._how.selection.of(found) if old.fault is None else (old.fault,)
-        subject = Subject(text_of(data), old.messages)
+        subject = Subject(old)
         waiting = list(_proposals(subject, told, lambda it: it.is_safe == is_safe))
         draft = _Draft(old, found, self._how.with_rules)
         while waiting:

@@ -27,7 +27,6 @@ from gregorio_chant.linting.slips import (
     unread_score_line,
 )
 from gregorio_chant.text.nearest import nearest
-from gregorio_chant.text.scan import after_lead
 from gregorio_chant.text.vocabulary import HEADERS, HTML_TAGS, TAGS
 
 _SCORE = "name: Kyrie;\n%%\n(c4) "
@@ -123,8 +122,8 @@ def _may_end_tag(subject: Subject, at: int) -> bool:
 def _style_in_each_syllable(subject: Subject, at: int) -> Edits:
     """Closes the styles that are open where a text ends, and opens them again in each text up to
     the one that closes them. Where one is opened once more before that, its end is lost."""
-    syllables = subject.scan.syllables
-    number = syllables.number_at(at)
+    syllables = subject.parts.syllables
+    number = subject.parts.number_at(at)
     if number is None or subject.text[at : at + 1] != "(":
         return ()
     first = syllables[number]
@@ -133,7 +132,7 @@ def _style_in_each_syllable(subject: Subject, at: int) -> Edits:
         edits.append(Edit(first.notes, "", f"</{name}>"))
         tag = re.compile(rf"<(/?){name}>")
         for it in syllables[number + 1 : number + 1 + _MOST_SYLLABLES]:
-            begin = after_lead(subject.text, it)
+            begin = it.text
             if begin == it.notes:
                 continue
             edits.append(Edit(begin, "", f"<{name}>"))
@@ -242,13 +241,13 @@ def _nabc_header(subject: Subject, at: int) -> Edits:
     if (
         subject.text[at : at + 1] != "|"
         or bars_for(subject, at)
-        or any(it.name == "nabc-lines" for it in subject.scan.headers)
+        or any(it.name == "nabc-lines" for it in subject.parts.headers)
     ):
         return ()
-    notes = [subject.text[it.notes : it.end] for it in subject.scan.syllables]
+    notes = [subject.text[it.notes : it.end] for it in subject.parts.syllables]
     with_notes = sum(_HAS_NOTE.search(it) is not None for it in notes)
     return (
-        (Edit(subject.scan.score, "", "nabc-lines: 1;\n"),)
+        (Edit(subject.parts.score, "", "nabc-lines: 1;\n"),)
         if 3 * sum("|" in it for it in notes) >= with_notes
         else ()
     )

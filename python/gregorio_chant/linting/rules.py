@@ -2,12 +2,9 @@
 are asked for."""
 from __future__ import annotations
 
-import bisect
 from collections.abc import Iterator
 
-from gregorio_chant._native import library
-from gregorio_chant._native.results import Format, Kind, Message, Status
-from gregorio_chant.format.losses import Comparison
+from gregorio_chant._native.results import Kind, Message
 from gregorio_chant.linting.codes import CODES
 from gregorio_chant.linting.ignores import silenced
 from gregorio_chant.linting.rule import Found, Rule, Subject
@@ -37,7 +34,8 @@ from gregorio_chant.linting.rules_text import (
     unknown_mode,
     unknown_special,
 )
-from gregorio_chant.objects.dump import Pause, Score, go_on
+from gregorio_chant.objects.compiled import Compiled
+from gregorio_chant.objects.pauses import Pause, go_on
 
 _BEGUN, _BODY = "name: Kyrie;\n", "\n%%\n(c4) Ky(f)\n"
 
@@ -220,25 +218,18 @@ RULES: dict[str, Rule] = {it.name: it for it in _ALL}
 _KNOWN = frozenset((*CODES, *RULES))
 
 
-def messages_with_rules(data: bytes, pause: Pause = go_on) -> tuple[Message, ...]:
+def messages_with_rules(compiled: Compiled, pause: Pause = go_on) -> tuple[Message, ...]:
     """Returns what the compiler and the rules find in a score, in the order of their places,
     without what is silenced. Where a fatal fault stops it, no rule is tried. There is a pause
-    before each rule, and more while the score is read."""
-    result = library.compile(data)
-    if result.status is Status.FATAL:
-        return unsilenced(data, result.messages)
-    score = Score.read(library.compile(data, Format.DUMP).output, pause)
-    messages = result.messages
-    subject = Subject(score, Comparison(data, result.output, messages), messages)
-    found = []
-    for rule in _ALL:
-        pause()
-        for it in rule.find(subject):
-            place = subject.comparison.lines.place(it.offset)
-            found.append(Message(place.line, place.column, rule.kind, rule.name, it.text))
+    before each rule."""
+    if compiled.fault is not None:
+        return unsilenced(compiled)
+    subject = Subject(compiled.score)
+    found = list(_found(subject, pause))
+    messages = compiled.messages
     if any(it.code == "nabc-without-header" for it in found):
         messages = _without_nabc(subject)
-    kept, unused = silenced(data, (*messages, *found), _KNOWN)
+    kept, unused = silenced(compiled, (*messages, *found), _KNOWN)
     kept += tuple(
         Message(it.place.line, it.place.column, Kind.WARNING, "unused-ignore", it.text)
         for it in unused
@@ -246,19 +237,27 @@ def messages_with_rules(data: bytes, pause: Pause = go_on) -> tuple[Message, ...
     return tuple(sorted(kept, key=lambda it: (it.line, it.column)))
 
 
-def unsilenced(data: bytes, messages: tuple[Message, ...]) -> tuple[Message, ...]:
+def _found(subject: Subject, pause: Pause) -> Iterator[Message]:
+    """Yields what all rules find."""
+    for rule in _ALL:
+        pause()
+        for it in rule.find(subject):
+            place = subject.tree.place(it.byte)
+            yield Message(place.line, place.column, rule.kind, rule.name, it.text)
+
+
+def unsilenced(compiled: Compiled) -> tuple[Message, ...]:
     """Returns those of the compiler's messages that no comment of the score silences."""
-    return silenced(data, messages, _KNOWN)[0]
+    return silenced(compiled, compiled.messages, _KNOWN)[0]
 
 
 def _without_nabc(subject: Subject) -> tuple[Message, ...]:
     """Returns the messages without each `E1` after a `|` in its syllable."""
-    after = nabc_after_bars(subject)
-    begins = [begin for begin, _ in after]
+    tree = subject.tree
+    after = [tuple(map(tree.place, it)) for it in nabc_after_bars(subject)]
 
     def is_after(message: Message) -> bool:
-        at = subject.comparison.lines.offset(message.line, message.column)
-        nearest = bisect.bisect_right(begins, at) - 1
-        return nearest >= 0 and at < after[nearest][1]
+        at = message.line, message.column
+        return any(begin[1:] <= at < end[1:] for begin, end in after)
 
-    return tuple(it for it in subject.messages if it.code != "E1" or not is_after(it))
+    return tuple(it for it in subject.score.messages if it.code != "E1" or not is_after(it))

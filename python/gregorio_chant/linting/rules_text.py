@@ -5,9 +5,12 @@ import html
 import re
 from collections.abc import Iterator, Sequence
 
+from gregorio_chant._native.node_kinds import NOT_KEPT, NodeKind
 from gregorio_chant.linting.rule import Found, Subject
 from gregorio_chant.linting.slips import ENTITY, MODES
-from gregorio_chant.objects.dump import Bar, Note, Syllable
+from gregorio_chant.objects.headers import Header
+from gregorio_chant.objects.items import Bar, Note
+from gregorio_chant.objects.syllables import Syllable
 from gregorio_chant.text.nearest import nearest
 from gregorio_chant.text.vocabulary import HEADERS, OLD_HEADERS, SPECIALS
 
@@ -17,62 +20,66 @@ _NUMBER = re.compile(r"[0-9]+")
 _MODE = re.compile(r"[1-8](?![0-9])")
 # Modes that are no number: single letters, and what the words for the other tones begin with.
 _OTHER_MODE = re.compile(r"[1-8a-zN]\b|[0-9]|per|irr|ton|dir|$", re.IGNORECASE)
-_TAG = re.compile(r"<[^>]*>")
-_SPECIAL = re.compile(r"\$.|<(v|alt)>.*?</\1>|<sp>(.*?)</sp>", re.DOTALL)
 _PUNCTUATION = (",", ";", ":", ".", "!", "?")
 # Punctuation at the end of a text; the ; of a character's name in HTML is none.
 _ENDS_SENTENCE = re.compile(r"(?!.*&#?\w+;$).*[,;:.!?]$", re.DOTALL)
-_NOTES_IN_BRACKETS = re.compile(r"(?<=\w)\[([a-mA-M](?:[a-mA-MvVwWsoq~<>.'_/!]*))\](?=\w)")
-_BAR_AS_TEXT = re.compile(r"[ \t\n]*([;:,])[ \t\n]+\w")
-_SECOND_LINE = re.compile(r"^%%", re.MULTILINE)
+_NOTES_IN_BRACKETS = re.compile(rb"\[([a-mA-M](?:[a-mA-MvVwWsoq~<>.'_/!]*))\]")
+_BAR_AS_TEXT = re.compile(rb"[ \t\r\n]*([;:,])[ \t\r\n]+[\w\x80-\xff]")
+_LETTER = re.compile(rb"[\w\x80-\xff]")
+_BLANKS = b" \t\r\n"
+_SPECIAL = 1
+# What stands beside letters in a text, and is no letter.
+_NO_LETTERS = NOT_KEPT - {NodeKind.LEFT_OUT} | {
+    NodeKind.TEXT_BLANK,
+    NodeKind.TAG,
+    NodeKind.SPAN_MARK,
+    NodeKind.STYLE_TAG,
+}
 
 
 def comment(subject: Subject) -> Iterator[Found]:
-    for it in subject.comparison.source.comments:
+    for it in subject.comments:
         yield Found(it.begin, "the canonical form does not keep this comment")
 
 
-def unknown_mode(subject: Subject) -> Iterator[Found]:
-    value = subject.score.header("mode") or ""
-    if _NUMBER.match(value) and not _MODE.match(value):
-        header = [it for it in subject.comparison.source.headers if it.name == "mode"][-1]
-        yield Found(header.begin, f"there is no mode {value[:20]}: modes go from 1 to 8")
-
-
 def blank_before_notes(subject: Subject) -> Iterator[Found]:
-    text = subject.comparison.lines.text
-    for it in subject.comparison.source.syllables:
-        word = text[it.begin : it.notes].rstrip(" \t\n")
-        begin = it.begin + len(word)
-        if begin < it.notes < it.end and _TAG.sub("", word).strip(" \t\n") and "%" not in word:
-            yield Found(
-                begin, "there is a blank between a word and its notes: the compiler drops it"
-            )
+    told = "there is a blank between a word and its notes: the compiler drops it"
+    source, wide = subject.source, subject.tree.wide
+    for syllable in subject.score.syllables:
+        _, _, notes, _ = syllable.nodes_before(0)
+        end = notes - 1
+        if source[end - 1] in _BLANKS and source[end : end + 1] == b"(":
+            begin = len(source[wide[5 * syllable.node.number] : end].rstrip())
+            if begin and _is_word(syllable):
+                yield Found(syllable.node.begin + begin, told)
+
+
+def _is_word(syllable: Syllable) -> bool:
+    """Returns whether a syllable has letters, and no comment among them."""
+    kinds = {it.kind for it in syllable.node.children()} - {NodeKind.SNIPPET}
+    return NodeKind.COMMENT not in kinds and not kinds <= _NO_LETTERS
 
 
 def unknown_special(subject: Subject) -> Iterator[Found]:
-    for syllable in subject.score.syllables:
-        for it in _SPECIAL.finditer(syllable.text):
-            if it[2] is not None and it[2] not in SPECIALS:
-                yield subject.found(
-                    syllable,
-                    f"<sp>{it[2]}</sp> is none of GregorioTeX's special characters",
-                    it.start(),
-                )
+    for it in subject.tree.of_kind(NodeKind.RAW):
+        name = it.kept[len("<sp>") : -len("</sp>")]
+        if it.b == _SPECIAL and name not in SPECIALS:
+            told = "is none of GregorioTeX's special characters"
+            yield Found(it.begin, f"<sp>{name}</sp> {told}")
 
 
 def asterisk_without_bar(subject: Subject) -> Iterator[Found]:
     """Finds an asterisk where no bar stands, if one stands after the next word instead."""
+    if b"*" not in subject.source:
+        return
     syllables = subject.score.syllables
-    for number, syllable in enumerate(syllables):
-        if "*" not in syllable.plain or _has_bar(syllable):
+    for number, plain in enumerate(subject.plains):
+        if "*" not in plain or _has_bar(syllables[number]):
             continue
         after = syllables[number + 1 :]
         if after and not _begins_with_bar(after[0]) and _bar_after_word(after):
-            at = max(syllable.text.find("*"), 0)
-            yield subject.found(
-                syllable, "no bar follows this asterisk, but one follows the next word", at
-            )
+            byte = subject.source.find(b"*", syllables[number].begin)
+            yield Found(byte, "no bar follows this asterisk, but one follows the next word")
 
 
 def _has_bar(syllable: Syllable) -> bool:
@@ -99,121 +106,116 @@ def _bar_after_word(syllables: Sequence[Syllable]) -> bool:
 # ---- headers
 
 
-def misspelled_header(subject: Subject) -> Iterator[Found]:
-    for it in subject.comparison.source.headers:
-        if it.name and it.name not in HEADERS and it.name.lower() not in OLD_HEADERS:
-            near = nearest(it.name, HEADERS, _ALIKE)
-            if near:
-                yield Found(
-                    it.begin, f"GregorioTeX knows no header {it.name}: did you mean {near}?"
-                )
+def _mode_of(subject: Subject) -> Header | None:
+    """Returns the header `mode` that counts."""
+    headers = subject.score.headers
+    return next((it for it in reversed(headers) if it.name == "mode"), None)
+
+
+def unknown_mode(subject: Subject) -> Iterator[Found]:
+    header = _mode_of(subject)
+    if header is not None and _NUMBER.match(header.value) and not _MODE.match(header.value):
+        told = f"there is no mode {header.value[:20]}: modes go from 1 to 8"
+        yield subject.found(header, told)
 
 
 def mode_without_number(subject: Subject) -> Iterator[Found]:
-    value = subject.score.header("mode") or ""
-    if not _OTHER_MODE.match(value):
-        header = [it for it in subject.comparison.source.headers if it.name == "mode"][-1]
-        number = MODES.get(value.rstrip(". ").upper())
-        yield Found(
-            header.begin,
-            f"the mode {value[:20]} is no number: write "
-            + (f"mode: {number};" if number else "one of 1 to 8"),
-        )
+    header = _mode_of(subject)
+    if header is not None and not _OTHER_MODE.match(header.value):
+        number = MODES.get(header.value.rstrip(". ").upper())
+        wanted = f"mode: {number};" if number else "one of 1 to 8"
+        told = f"the mode {header.value[:20]} is no number: write {wanted}"
+        yield subject.found(header, told)
+
+
+def misspelled_header(subject: Subject) -> Iterator[Found]:
+    for it in subject.score.all_headers:
+        name = it.name
+        if name not in HEADERS and name.lower() not in OLD_HEADERS:
+            near = nearest(name, HEADERS, _ALIKE)
+            if near:
+                told = f"GregorioTeX knows no header {name}: did you mean {near}?"
+                yield subject.found(it, told)
 
 
 # ---- punctuation
 
 
 def late_punctuation(subject: Subject) -> Iterator[Found]:
-    for it in subject.score.syllables:
-        if not it.begins_word and it.plain.startswith(_PUNCTUATION):
-            yield subject.found(
-                it, f"'{it.plain[0]}' follows the notes of its word: write it before their ("
-            )
+    for it, plain in zip(subject.score.syllables, subject.plains):
+        if plain.startswith(_PUNCTUATION) and not it.begins_word:
+            told = f"'{plain[0]}' follows the notes of its word: write it before their ("
+            yield subject.found(it, told)
 
 
 def missing_blank(subject: Subject) -> Iterator[Found]:
-    before: Syllable | None = None
-    for it in subject.score.syllables:
-        is_inside = before is not None and not it.begins_word and bool(before.notes)
-        if (
-            is_inside
-            and before is not None
-            and _ENDS_SENTENCE.match(before.plain)
-            and it.plain[:1].isalpha()
-        ):
-            yield subject.found(
-                it,
-                f"there is no blank between '{before.plain.strip()}' and '{it.plain.strip()}', so both are one word: write a blank after the )",
-            )
-        before = it
+    syllables, plains = subject.score.syllables, subject.plains
+    for before, after, ended, begun in zip(syllables, syllables[1:], plains, plains[1:]):
+        is_near = ended.endswith(_PUNCTUATION) and begun[:1].isalpha() and not after.begins_word
+        if is_near and before.notes and _ENDS_SENTENCE.match(ended):
+            between = f"there is no blank between '{ended.strip()}' and '{begun.strip()}'"
+            told = f"{between}, so both are one word: write a blank after the )"
+            yield subject.found(after, told)
 
 
 def bar_as_text(subject: Subject) -> Iterator[Found]:
-    for it in subject.comparison.source.syllables:
-        found = _BAR_AS_TEXT.match(subject.comparison.lines.text, it.begin, it.notes)
+    for it in subject.score.syllables:
+        _, _, notes, _ = it.nodes_before(0)
+        found = _BAR_AS_TEXT.match(subject.source, it.node.begin, notes)
         if found is not None:
-            yield Found(
-                found.start(1),
-                f"'{found[1]}' is alone in a text: did you mean the bar ({found[1]})?",
-            )
+            mark = found[1].decode()
+            told = f"'{mark}' is alone in a text: did you mean the bar ({mark})?"
+            yield Found(found.start(1), told)
 
 
 # ---- words
 
 
 def typed_hyphen(subject: Subject) -> Iterator[Found]:
-    syllables = subject.score.syllables
-    for it, after in zip(syllables, syllables[1:]):
-        if (
-            it.plain.endswith(("-", "\u2013"))
-            and len(it.plain.strip()) > 1
-            and not after.begins_word
-            and after.plain[:1].isalpha()
-        ):
-            yield subject.found(
-                it,
-                f"'{it.plain.strip()}' ends with a hyphen: leave it out, since GregorioTeX writes hyphens by itself",
-            )
+    syllables, plains = subject.score.syllables, subject.plains
+    for it, after, plain, begun in zip(syllables, syllables[1:], plains, plains[1:]):
+        is_typed = plain.endswith(("-", "\u2013")) and len(plain.strip()) > 1
+        if is_typed and begun[:1].isalpha() and not after.begins_word:
+            told = "ends with a hyphen: leave it out, since GregorioTeX writes hyphens by itself"
+            yield subject.found(it, f"'{plain.strip()}' {told}")
 
 
 def html_entity(subject: Subject) -> Iterator[Found]:
-    for syllable in subject.comparison.source.syllables:
-        for it in ENTITY.finditer(subject.comparison.lines.text, syllable.begin, syllable.notes):
+    if b"&" not in subject.source:
+        return
+    for node in subject.tree.of_kind(NodeKind.CHARACTERS):
+        text = node.text
+        for it in ENTITY.finditer(text):
             character = html.unescape(it[0])
             if character != it[0]:
-                yield Found(
-                    it.start(),
-                    f"{it[0]} is a name of HTML, and is sung letter for letter: write {character}",
-                )
+                byte = node.begin + len(text[: it.start()].encode())
+                told = "is a name of HTML, and is sung letter for letter"
+                yield Found(byte, f"{it[0]} {told}: write {character}")
 
 
 def syllable_without_notes(subject: Subject) -> Iterator[Found]:
-    for it in subject.score.syllables:
-        if (
-            it.position in ("beginning", "middle")
-            and not it.items
-            and any(c.isalpha() for c in it.plain)
-        ):
-            yield subject.found(it, f"'{it.plain.strip()}' has no notes within its word")
+    for it, plain in zip(subject.score.syllables, subject.plains):
+        if it.position in ("beginning", "middle") and not it.items:
+            if any(map(str.isalpha, plain)):
+                yield subject.found(it, f"'{plain.strip()}' has no notes within its word")
 
 
 def notes_in_translation(subject: Subject) -> Iterator[Found]:
-    for syllable in subject.comparison.source.syllables:
-        for it in _NOTES_IN_BRACKETS.finditer(
-            subject.comparison.lines.text, syllable.begin, syllable.notes
-        ):
-            yield Found(
-                it.start(),
-                f"[{it[1]}] is a translation, and looks like notes: did you mean ({it[1]})?",
-            )
+    source = subject.source
+    for it in subject.tree.of_kind(NodeKind.TRANSLATION):
+        found = _NOTES_IN_BRACKETS.fullmatch(source, it.begin, it.end)
+        is_within = _LETTER.match(source, it.begin - 1) and _LETTER.match(source, it.end)
+        if found is not None and is_within:
+            notes = found[1].decode()
+            told = f"is a translation, and looks like notes: did you mean ({notes})?"
+            yield Found(it.begin, f"[{notes}] {told}")
 
 
 def second_score_line(subject: Subject) -> Iterator[Found]:
-    text = subject.comparison.lines.text
-    for it in subject.comparison.source.comments:
-        if it.begin > subject.comparison.source.score + 2 and _SECOND_LINE.match(text, it.begin):
-            yield Found(
-                it.begin,
-                "a second line %% is a comment: remove it, or look whether another score begins there",
-            )
+    source = subject.source
+    line = next(subject.tree.of_kind(NodeKind.SCORE_LINE))
+    for it in subject.comments:
+        begins_line = source[it.begin - 1 : it.begin] in (b"\n", b"\r")
+        if it.begin > line.end and begins_line and source.startswith(b"%%", it.begin):
+            told = "a second line %% is a comment: remove it"
+            yield Found(it.begin, f"{told}, or look whether another score begins there")

@@ -10,11 +10,11 @@ from functools import cached_property
 from gregorio_chant._native.node_kinds import NodeKind
 from gregorio_chant._native.nodes import Node, Tree
 from gregorio_chant._native.results import Message
-from gregorio_chant._native.trees import tree
 from gregorio_chant.linting.guesses import Bracket, lost_closer, lost_opener
+from gregorio_chant.objects.compiled import Compiled
 from gregorio_chant.text.nearest import nearest
-from gregorio_chant.text.scan import HeaderSpan, Scan, Span, SyllableSpan, scan
-from gregorio_chant.text.source import Lines
+from gregorio_chant.text.parts import HeaderSpan, Parts, Span, SyllableSpan
+from gregorio_chant.text.source import Lines, text_of
 from gregorio_chant.text.vocabulary import HEADERS
 
 LEFT_OUT = frozenset(("E1", "E2", "E3"))
@@ -41,24 +41,31 @@ _WITHOUT_COLON = re.compile(r"([\w-]+)(?:[ \t]*[-=.,;\u2013][ \t]*|[ \t]+)(\S[^;
 
 
 class Subject:
-    """The text of a score, and where its messages stand."""
+    """A score, and where its messages stand, as characters of the text as the compiler counts
+    it."""
 
-    def __init__(self, text: str, messages: Iterable[Message]) -> None:
-        self.lines = Lines(text)
-        self.text = text
-        self._messages = tuple(messages)
+    def __init__(self, compiled: Compiled) -> None:
+        self._compiled = compiled
+        self.text = text_of(compiled.data)
+        self.lines = Lines(self.text)
+
+    @property
+    def tree(self) -> Tree:
+        """The tree of the score."""
+        return self._compiled.tree
 
     @cached_property
     def left_out(self) -> frozenset[int]:
-        return frozenset(self.offset(it) for it in self._messages if it.code in LEFT_OUT)
+        """Where the characters stand that were left out."""
+        messages = self._compiled.messages
+        return frozenset(self.offset(it) for it in messages if it.code in LEFT_OUT)
 
     @cached_property
-    def scan(self) -> Scan:
-        return scan(self.text, self.left_out)
-
-    @cached_property
-    def tree(self) -> Tree:
-        return tree(self.text)
+    def parts(self) -> Parts:
+        """Its headers, syllables and comments."""
+        fault = self._compiled.fault
+        at = None if fault is None else self.offset(fault)
+        return Parts(self.tree, at if at is not None and self.text[at : at + 1] == "(" else None)
 
     def node_at(self, offset: int) -> Node | None:
         """Returns the innermost node that holds the character at this offset, if there is one."""
@@ -79,12 +86,13 @@ class Subject:
         return f"{place.line}:{place.column}"
 
     def syllable_at(self, offset: int) -> SyllableSpan | None:
-        number = self.scan.syllables.number_at(offset)
-        return None if number is None else self.scan.syllables[number]
+        number = self.parts.number_at(offset)
+        return None if number is None else self.parts.syllables[number]
 
     def header_at(self, offset: int) -> HeaderSpan | None:
-        number = bisect.bisect_right(self.scan.headers, offset, key=lambda it: it.begin) - 1
-        return self.scan.headers[number] if number >= 0 else None
+        headers = self.parts.headers
+        number = bisect.bisect_right(headers, offset, key=lambda it: it.begin) - 1
+        return headers[number] if number >= 0 else None
 
     def unclosed(self, offset: int) -> int | None:
         """Returns where the `(` stands that probably lacks its `)`, if `offset` lies in notes that
@@ -171,7 +179,7 @@ def clef_for(subject: Subject, at: int) -> Meant | None:
     if found is None:
         return None
     kind, line = found["kind"] or found["letter"], found["turned"] or found["line"]
-    if notes[0] not in "cfCF12345" and it.notes != subject.scan.syllables[0].notes:
+    if notes[0] not in "cfCF12345" and it.notes != subject.parts.syllables[0].notes:
         return None
     return Meant(it.notes + 1, notes, f"{kind.lower()}{line}" if kind else "")
 
@@ -196,7 +204,9 @@ def bars_for(subject: Subject, at: int) -> Meant | None:
 def unread_score_line(subject: Subject) -> Span | None:
     """Returns where a line ` %%` stands in the headers: the blanks before it make it a comment."""
     found = _UNREAD_SCORE_LINE.search(subject.text)
-    return Span(*found.span()) if found is not None and found.start() < subject.scan.score else None
+    return (
+        Span(*found.span()) if found is not None and found.start() < subject.parts.score else None
+    )
 
 
 def struck_for_mark(line: str) -> str:

@@ -3,14 +3,19 @@ from __future__ import annotations
 
 from collections.abc import Iterator
 from functools import cached_property
+from typing import TYPE_CHECKING
 
 from gregorio_chant._native import library
+from gregorio_chant._native.node_kinds import NodeKind
 from gregorio_chant._native.nodes import Tree
-from gregorio_chant._native.results import Format, Message, Status
-from gregorio_chant._native.runs import Run
+from gregorio_chant._native.results import Format, Message, Report, Result, Status
+from gregorio_chant._native.runs import Limits, Run
 from gregorio_chant._native.trees import tree
 from gregorio_chant.format.losses import Comparison
 from gregorio_chant.text.source import Lines, text_of
+
+if TYPE_CHECKING:
+    from gregorio_chant.objects.score import Score
 
 # The size of a piece that is compiled to a dump at once, in bytes.
 _PIECE = 1 << 17
@@ -29,30 +34,73 @@ def dump_in_pieces(data: bytes) -> Iterator[str]:
         yield step.output
 
 
-class Compiled:
-    """The bytes of a score, its canonical text, its tree, and what hangs on them."""
+def _under(data: bytes, limits: Limits, format: Format) -> Result:
+    """Returns what a run under these limits makes of a score."""
+    steps = list(Run(format, limits=limits).steps([data]))
+    output, messages = "".join(it.output for it in steps), "".join(it.messages_text for it in steps)
+    return Result(output, steps[-1].status or Status.WHOLE, messages, format)
 
-    def __init__(self, data: bytes) -> None:
-        self.data = data
-        self._result = library.compile(data)
+
+class Compiled:
+    """The bytes of a score, and what the compiler says of it: its tree, its canonical text and its
+    messages, under these limits if they are given."""
+
+    def __init__(self, data: bytes, limits: Limits | None = None) -> None:
+        self.data, self._limits = data, limits
+
+    @cached_property
+    def tree(self) -> Tree:
+        """Its tree, under the usual limits."""
+        return tree(self.data)
+
+    @cached_property
+    def _result(self) -> Result:
+        if self._limits is None:
+            return library.compile(self.data)
+        return _under(self.data, self._limits, Format.GABC)
+
+    @property
+    def has_score(self) -> bool:
+        """Whether the headers are whole, so that something is read of the score."""
+        is_read = NodeKind.SCORE_LINE in self.tree.kinds
+        return is_read and (self._limits is None or bool(self.canonical))
+
+    @cached_property
+    def count(self) -> int | None:
+        """The number of syllables that are whole, if limits narrower than the usual ones may stop
+        the score before its end."""
+        if self._limits is None or self.fault is None:
+            return None
+        return _under(self.data, self._limits, Format.DUMP).output.count("\nsyllable ")
+
+    @cached_property
+    def _report(self) -> Report:
+        """The status and the messages, of which a call that writes no canonical text is enough."""
+        if self._limits is None and "_result" not in self.__dict__:
+            return library.check(self.data)
+        return Report(self._result.status, self._result.messages)
 
     @property
     def fault(self) -> Message | None:
         """The fatal fault that stops the score, if there is one."""
-        return self.messages[-1] if self._result.status is Status.FATAL else None
+        return self.messages[-1] if self._report.status is Status.FATAL else None
 
     @property
     def canonical(self) -> str:
+        """Its canonical text."""
         return self._result.output
 
-    @cached_property
+    @property
     def messages(self) -> tuple[Message, ...]:
-        return self._result.messages
+        """All messages of the compiler."""
+        return self._report.messages
 
     @cached_property
-    def tree(self) -> Tree:
-        """The tree of the score."""
-        return tree(self.data)
+    def score(self) -> Score:
+        """Its objects. Raises `ScoreError` for a fault in the headers."""
+        from gregorio_chant.objects.score import Score
+
+        return Score(self)
 
     @cached_property
     def written(self) -> Tree:

@@ -15,26 +15,19 @@ from collections.abc import Iterator, Sequence
 from dataclasses import dataclass
 from typing import TYPE_CHECKING
 
-from gregorio_chant._native.results import Kind
-from gregorio_chant.objects.items import (
-    PITCHES,
-    Alteration,
-    Custos,
-    Header,
-    Item,
-    Note,
-    Syllable,
-    header_spelling,
-)
-from gregorio_chant.text.source import Lines, Place, Source, raw_offsets, text_of
+from gregorio_chant._native.node_kinds import NodeKind
+from gregorio_chant._native.trees import tree
+from gregorio_chant.objects.headers import Header, header_spelling
+from gregorio_chant.objects.item import Item, PITCHES
+from gregorio_chant.objects.items import Alteration, Custos, Note
+from gregorio_chant.objects.syllables import NabcSnippet, Syllable
+from gregorio_chant.text.source import Source
 
 if TYPE_CHECKING:
-    from gregorio_chant.objects.dump import Score
+    from gregorio_chant.objects.score import Score
 
-_RAW = re.compile(r"\[[^\]]*\]")
-_ENDS = re.compile(r"[)%|]")
 _LINE_END = re.compile("\r\n|\n|\r")
-_SCORE_LINE = re.compile("(?:^|[\r\n])(\ufeff*)%\ufeff*%")
+_OF_NABC = frozenset(it for it in NodeKind if it.name.startswith(("DESCRIPTOR", "NABC_")))
 
 
 class EditError(ValueError):
@@ -85,28 +78,17 @@ class Edited:
             raise self._not_whole()
 
     def _not_whole(self) -> EditError:
-        fault = next((it for it in self._score.messages if it.kind is Kind.FATAL), None)
-        if fault is None:
-            return EditError(Source(Place(0, 1, 1), ""), "the score is not whole")
-        text = self._score.text
-        offset = raw_offsets(text)[
-            Lines(text_of(text.encode("utf-8", "surrogatepass"))).offset(fault.line, fault.column)
-        ]
-        return EditError(
-            Source(Place(offset, fault.line, fault.column), ""),
-            f"the score is not whole: {fault.code}: {fault.text}",
-        )
+        fault = self._score.messages[-1]
+        tree = self._score.tree
+        place = tree.place(tree.places.at(fault.line, fault.column))
+        return EditError(Source(place, ""), f"the score is not whole: {fault.code}: {fault.text}")
 
     def replace(self, item: Item, text: str) -> Edited:
         """Replaces `item` by `text`. Raises `EditError` if the text would end the snippet of the
         item, or if another change overlaps, and `ValueError` for an object of another score."""
         source = self._source_of(item)
-        begin, end, written, written_end = (
-            source.place.offset,
-            source.end,
-            item.place.offset,
-            item.place.offset + len(item.spelling),
-        )
+        begin, end, written = source.place.offset, source.end, item.place.offset
+        written_end = written + len(item.spelling)
         if isinstance(item, Header) and not text:
             begin, end = self._line_of(begin, end)
             written_end += 1
@@ -123,11 +105,9 @@ class Edited:
         """Inserts `text` directly before `item`, or directly after it. Raises `EditError` as
         `replace` does."""
         source = self._source_of(item)
-        at, written = (
-            (source.end, item.place.offset + len(item.spelling))
-            if after
-            else (source.place.offset, item.place.offset)
-        )
+        at, written = source.place.offset, item.place.offset
+        if after:
+            at, written = source.end, written + len(item.spelling)
         return self._add(item, Change(at, at, self._with_line_ends(text), written, written, source))
 
     def set_header(self, name: str, value: str | None) -> Edited:
@@ -137,21 +117,11 @@ class Edited:
         if header is not None:
             return self.replace(header, "" if value is None else header_spelling(name, value))
         if value is not None:
-            found = _SCORE_LINE.search(self._score.text)
-            at = found.end(1) if found else len(self._score.text)
-            last = self._score.headers[-1:]
-            written = last[0].place.offset + len(last[0].spelling) + 1 if last else 0
-            source = Source(Place(at, len(_LINE_END.findall(self._score.text, 0, at)) + 1, 1), "")
-            self._put(
-                Change(
-                    at,
-                    at,
-                    self._with_line_ends(f"{header_spelling(name, value)}\n"),
-                    written,
-                    written,
-                    source,
-                )
-            )
+            line = next(self._score.tree.of_kind(NodeKind.SCORE_LINE))
+            at = line.place.offset
+            written = self._score.written.score_line
+            text = self._with_line_ends(f"{header_spelling(name, value)}\n")
+            self._put(Change(at, at, text, written, written, Source(line.place, "")))
         return self
 
     def transpose(self, steps: int) -> Edited:
@@ -179,7 +149,7 @@ class Edited:
     # ---- one change
 
     def _source_of(self, item: Item) -> Source:
-        if item._sources is not self._score._sources:
+        if item.score is not self._score:
             raise ValueError("the object is one of another score")
         return item.source
 
@@ -188,9 +158,9 @@ class Edited:
 
     def _add(self, item: Item, change: Change) -> Edited:
         if not isinstance(item, (Header, Syllable)):
-            found = _ENDS.search(_RAW.sub(lambda it: " " * len(it[0]), change.text))
-            if found:
-                raise EditError(change.source, f"a {found[0]} would end what the text stands in")
+            end = _end_in(change.text, _is_of_nabc(item))
+            if end:
+                raise EditError(change.source, f"a {end} would end what the text stands in")
         return self._put(change)
 
     def _put(self, change: Change) -> Edited:
@@ -209,10 +179,10 @@ class Edited:
         number = PITCHES.index(pitch) + steps
         if not 0 <= number < len(PITCHES):
             raise EditError(item.source, f"there is no room for {item.spelling}")
-        at = item.spelling.startswith("-")
+        at = isinstance(item, Note) and item.is_initio_debilis
         letter = PITCHES[number].upper() if item.spelling[at].isupper() else PITCHES[number]
-        begin, written = self._score.source_offset(item.place.offset + at), item.place.offset + at
-        self._add(item, Change(begin, begin + 1, letter, written, written + 1, item.source))
+        begin, written = item.offset_of(at), item.place.offset + at
+        self._put(Change(begin, begin + 1, letter, written, written + 1, item.source))
 
     def _line_of(self, begin: int, end: int) -> tuple[int, int]:
         """Returns the bounds of the whole line, or lines, if only blanks stand beside what goes
@@ -227,6 +197,21 @@ class Edited:
         ):
             return begin, end
         return begin if "\ufeff" in text[first:begin] else first, found.end()
+
+
+def _is_of_nabc(item: Item) -> bool:
+    """Returns whether something stands in a snippet of NABC."""
+    return isinstance(item, NabcSnippet) or item.node.kind in _OF_NABC
+
+
+def _end_in(text: str, is_nabc: bool) -> str | None:
+    """Returns the character that would end a snippet with this text, or begin a comment in it, if
+    there is one."""
+    made = tree(f"nabc-lines: 1;\n%%\n({'|' * is_nabc}{text}\n)")
+    ends = [it.end for it in made.of_kind(NodeKind.SNIPPET)][is_nabc : is_nabc + 1]
+    ends += [it.begin for it in made.of_kind(NodeKind.COMMENT)]
+    end = min(ends, default=len(made.source))
+    return chr(made.source[end]) if end < len(made.source) - 1 else None
 
 
 def _applied(text: str, changes: Sequence[tuple[int, int, str]]) -> str:

@@ -5,7 +5,9 @@ import re
 from collections.abc import Collection, Iterator, Sequence
 from dataclasses import dataclass
 
-from gregorio_chant.objects.items import Bar, Glyph, Item, Note, Syllable
+from gregorio_chant.objects.item import Item
+from gregorio_chant.objects.items import Bar, Note
+from gregorio_chant.objects.syllables import Glyph, Syllable
 from gregorio_chant.text.source import Source
 
 _NUMBER = re.compile("[0-9]+")
@@ -91,6 +93,14 @@ def words_of(syllables: Sequence[Syllable]) -> tuple[Word, ...]:
     return tuple(
         Word(tuple(it)) for it in words if any(_has_letters(syllable.plain) for syllable in it)
     )
+
+
+def word_of(syllables: Sequence[Syllable], at: int) -> Word | None:
+    """Returns the word of the syllable `at`, from 0, of all those of a score, if it is in one."""
+    begin = next((it for it in range(at, 0, -1) if syllables[it].begins_word), 0)
+    ends = (it for it in range(at + 1, len(syllables)) if syllables[it].begins_word)
+    words = words_of(syllables[begin : next(ends, len(syllables))])
+    return words[0] if words else None
 
 
 def _divided(syllables: Sequence[Syllable], kinds: Collection[str] | None) -> Iterator[Phrase]:

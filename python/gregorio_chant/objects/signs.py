@@ -1,29 +1,18 @@
-"""The signs of a note: what its suffixes say beside its shape (GregorioRef, *One-Note Neumes*,
-*Oriscus Orientation*, *Additional Symbols*, *Rhythmic signs*). A spelling is read here once, and
-nowhere else."""
+"""The signs of a note: what its node says beside its height and shape (GregorioRef, *One-Note
+Neumes*, *Oriscus Orientation*, *Additional Symbols*, *Rhythmic signs*)."""
 from __future__ import annotations
 
-import re
 from dataclasses import dataclass
 from functools import lru_cache
 from typing import NamedTuple
 
-# What a sign of a bar or a note is, beside the letters of shapes: a letter or a run of `_`, with
-# its digits.
-_SIGN = re.compile(r"([.'~<>roO]|_+)([0-9]*)")
-_LIQUESCENCES = {"~": "deminutus", "<": "augmented", ">": "diminished"}
-_OVER_STAFF = {
-    "1": "accent",
-    "2": "grave",
-    "3": "circle",
-    "4": "lower-arc",
-    "5": "upper-arc",
-    "6": "flat",
-    "7": "natural",
-    "8": "sharp",
-}
-_SIZES = {"3": "left", "4": "centre", "5": "right"}
 AUTO, OVER, UNDER = "auto", "over", "under"
+_SIDES = (AUTO, OVER, UNDER)
+_ICTUS = (None, *_SIDES)
+_SIZES = ("whole", "left", "centre", "right")
+_LIQUESCENCES = (None, "deminutus", "augmented", "diminished")
+_OVER_STAFF = ("accent", "grave", "circle", "lower-arc", "upper-arc", "flat", "natural", "sharp")
+_POINTS_UP = (None, False, True)
 
 
 @dataclass(frozen=True, slots=True)
@@ -53,36 +42,19 @@ class NoteSigns(NamedTuple):
     points_up: bool | None
 
 
-def _side_of(digits: str) -> str:
-    """Returns the side that digits name: the last one counts."""
-    named = [it for it in digits if it in "01"]
-    return AUTO if not named else OVER if named[-1] == "1" else UNDER
-
-
-def _episema_of(bars: str, digits: str) -> Episema:
-    size = next((_SIZES[it] for it in reversed(digits) if it in _SIZES), "whole")
-    return Episema(len(bars), _side_of(digits), size, "2" not in digits)
-
-
 @lru_cache(maxsize=4096)
-def signs_of(spelling: str) -> NoteSigns:
-    """Returns the signs of a note that is spelled so. Those read last are kept."""
-    found = _SIGN.findall(spelling)
-    ictus = next((_side_of(digits) for sign, digits in found if sign == "'"), None)
-    hollow = [digits for sign, digits in found if sign == "r" and digits in ("", "0")]
-    told = next(
-        (digits[0] for sign, digits in found if sign in "oO" and digits[:1] in ("0", "1")), None
-    )
+def signs_of(a: int, b: int, c: int) -> NoteSigns:
+    """Returns the signs of a note with these numbers (docs/FORMATS.md, *The tree*)."""
+    size, is_bridged = _SIZES[b >> 11 & 3], not b >> 13 & 1
+    counts = zip(_SIDES, (c >> 7 & 7, c >> 10 & 7, c >> 13 & 7))
     return NoteSigns(
-        morae=sum(sign == "." for sign, _ in found),
-        ictus=ictus,
-        episemata=tuple(_episema_of(sign, digits) for sign, digits in found if sign[0] == "_"),
-        liquescence=next((name for sign, name in _LIQUESCENCES.items() if sign in spelling), None),
-        is_initio_debilis=spelling.startswith("-"),
-        is_hollow=bool(hollow),
-        is_lined="R" in spelling or "0" in hollow,
-        over_staff=tuple(
-            _OVER_STAFF[digits] for sign, digits in found if sign == "r" and digits in _OVER_STAFF
-        ),
-        points_up=None if told is None else told == "1",
+        morae=b >> 7 & 3,
+        ictus=_ICTUS[b >> 9 & 3],
+        episemata=tuple(Episema(count, side, size, is_bridged) for side, count in counts if count),
+        liquescence=_LIQUESCENCES[b >> 5 & 3],
+        is_initio_debilis=bool(c >> 5 & 1),
+        is_hollow=bool(a >> 12 & 1),
+        is_lined=bool(a >> 13 & 1),
+        over_staff=tuple(it for bit, it in enumerate(_OVER_STAFF) if a >> 4 + bit & 1),
+        points_up=_POINTS_UP[a >> 14],
     )

@@ -4,7 +4,9 @@ from __future__ import annotations
 from collections.abc import Iterable, Iterator
 from dataclasses import dataclass
 
-from gregorio_chant.objects.items import Bar, Note, NoteSnippet, Syllable
+from gregorio_chant.objects.compiled import Compiled
+from gregorio_chant.objects.items import Bar, Note
+from gregorio_chant.objects.syllables import NoteSnippet, Syllable
 from gregorio_chant.rhythm import morae_of
 
 # How many ticks a note has, and the key of step 0: the c below the one in the middle.
@@ -69,3 +71,12 @@ def sounds_of(syllables: Iterable[Syllable]) -> Iterator[Sound]:
                     )
                     text = None
                 number += 1
+
+
+def sounds_of_score(compiled: Compiled) -> tuple[Sound, ...]:
+    """Returns the sounds of a score; none if one of its notes has no height, or if nothing of it
+    was read."""
+    try:
+        return tuple(sounds_of(compiled.score.syllables)) if compiled.has_score else ()
+    except NoteBeforeClef:
+        return ()

@@ -10,11 +10,12 @@ from typing import TYPE_CHECKING
 from gregorio_chant._native.library import compile
 from gregorio_chant._native.results import Format, Kind, Message
 from gregorio_chant.objects.edits import Change, EditError
-from gregorio_chant.objects.items import Item, NabcSnippet, Note, NoteSnippet, Syllable
-from gregorio_chant.text.source import Lines, raw_offsets, text_of
+from gregorio_chant.objects.item import Item
+from gregorio_chant.objects.items import Note
+from gregorio_chant.objects.syllables import NabcSnippet, NoteSnippet, Syllable
 
 if TYPE_CHECKING:
-    from gregorio_chant.objects.dump import Score
+    from gregorio_chant.objects.score import Score
 
 
 def look_at(old: Score, changes: Sequence[Change], text: str, canonical: str) -> None:
@@ -31,7 +32,7 @@ def look_at(old: Score, changes: Sequence[Change], text: str, canonical: str) ->
 
 
 def _parsed(changes: Sequence[Change], text: str) -> Score:
-    from gregorio_chant.objects.dump import Score, ScoreError
+    from gregorio_chant.objects.score import Score, ScoreError
 
     try:
         new = Score.parse(text)
@@ -87,10 +88,10 @@ class _Moved:
 
 def _faults(score: Score) -> Iterator[tuple[int, Message]]:
     """Yields the errors of a score, and where in the file they stand."""
-    errors = [it for it in score.messages if it.kind is not Kind.WARNING]
-    if errors:
-        lines, offsets = Lines(text_of(score.text.encode("utf-8"))), raw_offsets(score.text)
-        yield from ((offsets[lines.offset(it.line, it.column)], it) for it in errors)
+    tree = score.tree
+    for it in score.messages:
+        if it.kind is not Kind.WARNING:
+            yield tree.place(tree.places.at(it.line, it.column)).offset, it
 
 
 def _look_at_messages(old: Score, new: Score, moved: _Moved) -> None:

@@ -5,6 +5,7 @@ from __future__ import annotations
 from collections.abc import Iterable, Iterator, Sequence
 from functools import cached_property
 
+from gregorio_chant.objects.item import Item
 from gregorio_chant.objects.items import (
     Alteration,
     Attribute,
@@ -13,14 +14,10 @@ from gregorio_chant.objects.items import (
     Clef,
     Custos,
     Fusion,
-    Glyph,
-    Item,
-    NabcSnippet,
     Note,
-    NoteSnippet,
     Space,
-    Syllable,
 )
+from gregorio_chant.objects.syllables import Glyph, NabcSnippet, NoteSnippet, Syllable
 from gregorio_chant.picture import staff
 from gregorio_chant.picture.attributes import At, add_attributes
 from gregorio_chant.picture.episemata import Neume, add_signs
@@ -66,16 +63,12 @@ def _drawn(glyph: Glyph, lines: int, face: Face, following: str | None) -> Drawn
 
 class _Writer:
     """Writes the blocks of one snippet of notes on a staff of `lines` lines; `following` is the
-    pitch that comes after it. Offsets count from `base` on."""
+    pitch that comes after it."""
 
-    def __init__(
-        self, snippet: NoteSnippet, lines: int, following: str | None, face: Face, base: int
-    ) -> None:
-        self._glyphs: dict[int, Glyph] = {
-            it.notes[0].place.offset: it for element in snippet.elements for it in element.glyphs
-        }
+    def __init__(self, snippet: NoteSnippet, lines: int, following: str | None, face: Face) -> None:
+        self._glyphs: dict[Item, Glyph] = {it.notes[0]: it for it in snippet.glyphs}
         self._snippet, self._lines, self._face = snippet, lines, face
-        self._following, self._base = following, base
+        self._following = following
         self.blocks: list[Block] = []
         self._neumes: list[Neume] = []
         self._has_space = False
@@ -89,19 +82,19 @@ class _Writer:
     def add(self, item: Item) -> None:
         if isinstance(item, Note):
             self._before = item
-            glyph = self._glyphs.get(item.place.offset)
+            glyph = self._glyphs.get(item)
             if glyph is not None:
                 self._add_neume(glyph)
         elif isinstance(item, Space):
             self._add_space(_distance(item))
         elif isinstance(item, Fusion):
             # One within a neume is part of that.
-            if self._last is None or item.place.offset > self._last.place.offset:
+            if self._last is None or item.begin > self._last.begin:
                 self._add_space(0.0)
                 self._fused = self._last
         elif isinstance(item, Break):
             if not self.blocks:
-                self._put(Block(item.place.offset - self._base, (), 0.0))
+                self._put(Block(item.shift, (), 0.0))
             self.blocks[-1].ends_line = item
         elif isinstance(item, (Clef, Alteration, Bar, Custos)):
             self._add_sign(item)
@@ -121,10 +114,7 @@ class _Writer:
     def _add_neume(self, glyph: Glyph) -> None:
         first, last = glyph.notes[0], glyph.notes[-1]
         drawn = _drawn(
-            glyph,
-            self._lines,
-            self._face,
-            self._pitches[last.place.offset] if has_oriscus(glyph) else None,
+            glyph, self._lines, self._face, self._pitches[last] if has_oriscus(glyph) else None
         )
         signs = drawn.signs
         if self._fused is not None:
@@ -133,14 +123,7 @@ class _Writer:
                 *signs,
             )
         self._put(
-            Block(
-                glyph.place.offset - self._base,
-                signs,
-                drawn.width,
-                SPACES.after_neume,
-                drawn.anchor,
-                first.pitch,
-            )
+            Block(glyph.shift, signs, drawn.width, SPACES.after_neume, drawn.anchor, first.pitch)
         )
         self.blocks[-1].heads = tuple([(it.x, it.y, it.width) for it in drawn.heads])
         self._neumes.append(
@@ -162,29 +145,29 @@ class _Writer:
 
     def _at_heads(self) -> Iterator[At]:
         """Yields each attribute with the head that it stands after."""
-        heads = {head.note.place.offset: (it, head) for it in self._neumes for head in it.heads}
+        heads = {head.note: (it, head) for it in self._neumes for head in it.heads}
         for attribute, note in self._attributes:
-            if note.place.offset in heads:
-                neume, head = heads[note.place.offset]
+            if note in heads:
+                neume, head = heads[note]
                 yield At(attribute, neume.block, head, neume.heads)
 
     @cached_property
-    def _pitches(self) -> dict[int, str | None]:
-        """The first pitch after each item, by its offset; after a note the first one that is not
+    def _pitches(self) -> dict[Item, str | None]:
+        """The first pitch after each item; after a note the first one that is not
         its own."""
-        pitches: dict[int, str | None] = {}
+        pitches: dict[Item, str | None] = {}
         after, other = self._following, None
         for item in reversed(self._snippet.items):
-            pitches[item.place.offset] = after
+            pitches[item] = after
             if isinstance(item, Note):
                 if item.pitch == after:
-                    pitches[item.place.offset] = other
+                    pitches[item] = other
                 else:
                     after, other = item.pitch, after
         return pitches
 
     def _add_sign(self, item: Clef | Alteration | Bar | Custos) -> None:
-        offset = item.place.offset - self._base
+        offset = item.shift
         if isinstance(item, Clef):
             signs, width = staff.clef(item, self._face.shapes)
             self._put(Block(offset, signs, width, SPACES.after_clef, clef=item))
@@ -194,7 +177,7 @@ class _Writer:
         elif isinstance(item, Bar):
             signs, width = staff.bar(item, self._lines)
             self._put(Block(offset, signs, width, SPACES.after_bar, width / 2, is_bar=True))
-        elif (pitch := item.pitch or self._pitches[item.place.offset]) is not None:
+        elif (pitch := item.pitch or self._pitches[item]) is not None:
             signs, width = staff.custos(pitch, self._lines, self._face.shapes)
             self._put(Block(offset, signs, width, SPACES.after_custos, is_custos=True))
 
@@ -205,9 +188,9 @@ def _join(before: float, here: float) -> Rect:
 
 
 def _blocks_of_notes(
-    snippet: NoteSnippet, lines: int, following: str | None, face: Face, base: int
+    snippet: NoteSnippet, lines: int, following: str | None, face: Face
 ) -> list[Block]:
-    writer = _Writer(snippet, lines, following, face, base)
+    writer = _Writer(snippet, lines, following, face)
     for item in snippet.items:
         writer.add(item)
     return writer.finish()
@@ -228,20 +211,14 @@ def _with_nabc(
     return blocks
 
 
-def begin_of_notes(syllable: Syllable) -> int:
-    """Returns how many characters of the canonical text stand before the notes of a syllable."""
-    return (syllable.snippets[0] if syllable.snippets else syllable).place.offset
-
-
 def blocks_of(
     syllable: Syllable, lines: int, following: str | None, face: Face = OWN, hand: Hand = PLAIN
 ) -> list[Block]:
     """Returns the blocks of a syllable, with the NABC in this hand; `following` is the first pitch
     after it."""
     snippets = syllable.snippets
-    base = begin_of_notes(syllable)
     if len(snippets) == 1 and isinstance(snippets[0], NoteSnippet):
-        return _blocks_of_notes(snippets[0], lines, following, face, base)
+        return _blocks_of_notes(snippets[0], lines, following, face)
     blocks: list[Block] = []
     nabc: list[NabcSnippet] = []
     group: list[Block] = []
@@ -250,9 +227,9 @@ def blocks_of(
         if isinstance(snippet, NabcSnippet):
             nabc.append(snippet)
             continue
-        blocks += _with_nabc(group, nabc, snippet.place.offset - base, hand)
-        nabc, group = [], _blocks_of_notes(snippet, lines, after[at], face, base)
-    return blocks + _with_nabc(group, nabc, syllable.place.offset - base, hand)
+        blocks += _with_nabc(group, nabc, snippet.shift, hand)
+        nabc, group = [], _blocks_of_notes(snippet, lines, after[at], face)
+    return blocks + _with_nabc(group, nabc, len(syllable.written_notes), hand)
 
 
 def first_pitch(snippets: Sequence[NoteSnippet | NabcSnippet]) -> str | None:

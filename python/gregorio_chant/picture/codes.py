@@ -4,7 +4,6 @@ from __future__ import annotations
 
 from typing import NamedTuple
 
-from gregorio_chant.picture.blocks import begin_of_notes
 from gregorio_chant.picture.marks import Mark, Places
 from gregorio_chant.picture.values import Line, Part, Placed
 from gregorio_chant.picture.widths import width_of
@@ -30,9 +29,7 @@ def marks_of(placed: Placed, places: Places) -> list[Mark]:
     if not marks:
         return []
     return [
-        it
-        for it in marks
-        if part.begin <= (it.offset or 0) and (part.end is None or (it.offset or 0) < part.end)
+        it for it in marks if part.begin <= it.shift and (part.end is None or it.shift < part.end)
     ]
 
 
@@ -43,10 +40,7 @@ def field_of(part: Part, mark: Mark) -> tuple[float, float]:
         min(part.left, part.text_left if part.has_text else part.left),
         max(part.right, part.text_right if part.has_text else part.right),
     )
-    base = begin_of_notes(part.syllable)
-    found = [
-        it for it in part.blocks if mark.offset is not None and base + it[1].offset <= mark.offset
-    ]
+    found = [it for it in part.blocks if it[1].offset <= mark.shift]
     if not found:
         return (part.text_left, whole[1]) if part.has_text and part.blocks else whole
     x, block = found[-1]

@@ -8,9 +8,9 @@ from contextlib import contextmanager
 from dataclasses import dataclass
 from xml.etree.ElementTree import Element, SubElement
 
-from gregorio_chant._native import library
-from gregorio_chant._native.results import Format, Message
-from gregorio_chant.objects.dump import Syllable, read_in_turn
+from gregorio_chant._native.results import Message
+from gregorio_chant.objects.compiled import Compiled
+from gregorio_chant.objects.syllables import Syllable
 from gregorio_chant.picture.codes import CODE_ROW, codes_of
 from gregorio_chant.picture.hands import Hand
 from gregorio_chant.picture.languages import language_of
@@ -43,23 +43,24 @@ class Picture:
 
 
 def draw(
-    data: bytes,
+    data: bytes | Compiled,
     messages: Sequence[Message] | None = None,
     *,
     look: Look | None = None,
     names: Names = Names(),
 ) -> Picture:
-    """Returns a picture of a score, with these messages. If none are given, it has all of the
-    compiler's."""
-    told = tuple(library.check(data).messages if messages is None else messages)
-    dump = library.compile(data, Format.DUMP).output
+    """Returns a picture of a score, or of what the compiler says of one, with these messages. If
+    none are given, it has all of the compiler's."""
+    compiled = data if isinstance(data, Compiled) else Compiled(data)
+    told = tuple(compiled.messages if messages is None else messages)
+    score = compiled.score if compiled.has_score else None
     with _uncollected():
-        read, syllables = read_in_turn(dump) if dump else ((), iter(()))
-        headers = Headers(read)
-        places = places_of(data, told, dump.count("\nsyllable "))
+        headers = Headers(score.headers if score else ())
+        places = places_of(score, told)
         look = look or Look()
-        drawing = _Drawing(headers, syllables, places, look, hand_of(look.hand, dump), names)
-        body = list(drawing.body() if dump else drawing.nothing())
+        hand = hand_of(look.hand, score)
+        drawing = _Drawing(headers, score.syllables if score else (), places, look, hand, names)
+        body = list(drawing.body() if score else drawing.nothing())
         name = headers.last("name")
         return Picture(name, told, [drawing.head(name), *body, "</svg>\n"], drawing.places)
 

@@ -5,6 +5,7 @@ from __future__ import annotations
 from collections.abc import Iterator, Mapping, Sequence
 from dataclasses import dataclass
 
+from gregorio_chant.objects.items import Note
 from gregorio_chant.objects.signs import AUTO, OVER, UNDER, Episema
 from gregorio_chant.picture.values import STEP, Block, Head, Rect
 
@@ -47,16 +48,13 @@ def _side_of(head: Head, side: str, *, is_ictus: bool) -> str:
     return UNDER if head.covered else OVER
 
 
-def add_signs(neumes: Sequence[Neume], covered: Mapping[int, tuple[Episema, ...]]) -> None:
+def add_signs(neumes: Sequence[Neume], covered: Mapping[Note, tuple[Episema, ...]]) -> None:
     """Adds ictus and episemata to the blocks of `neumes`, which stand one after another; `covered`
-    has the episemata of each note by its offset."""
+    has the episemata of each note."""
     found: dict[str, list[_Covered]] = {OVER: [], UNDER: []}
     heads = [(neume, head) for neume in neumes for head in neume.heads]
     for number, (neume, head) in enumerate(heads):
-        sides = {
-            _side_of(head, it.side, is_ictus=False): it
-            for it in covered.get(head.note.place.offset, ())
-        }
+        sides = {_side_of(head, it.side, is_ictus=False): it for it in covered.get(head.note, ())}
         for side, episema in sides.items():
             found[side].append(_Covered(neume, head, number, episema))
         if head.note.ictus is not None:

@@ -4,7 +4,8 @@ from __future__ import annotations
 
 from collections.abc import Iterator
 
-from gregorio_chant.objects.items import Glyph, Note
+from gregorio_chant.objects.items import Note
+from gregorio_chant.objects.syllables import Glyph
 from gregorio_chant.picture.faces import Face
 from gregorio_chant.picture.shapes import SHAPES, Shape
 from gregorio_chant.picture.values import step_of

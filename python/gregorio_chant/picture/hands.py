@@ -4,7 +4,9 @@ from __future__ import annotations
 from collections.abc import Mapping
 from typing import NamedTuple
 
-from gregorio_chant.objects.items import Descriptor, NabcSnippet, Space
+from gregorio_chant.objects.items import Space
+from gregorio_chant.objects.nabc import Descriptor
+from gregorio_chant.objects.syllables import NabcSnippet
 from gregorio_chant.picture.shapes import Shape
 from gregorio_chant.picture.shown import shown
 from gregorio_chant.picture.spaces import SPACES

@@ -5,7 +5,8 @@ import itertools
 from collections.abc import Iterable, Iterator
 from dataclasses import dataclass
 
-from gregorio_chant.objects.items import Attribute, Syllable
+from gregorio_chant.objects.items import Attribute
+from gregorio_chant.objects.syllables import Syllable
 from gregorio_chant.picture.attributes import is_drawn
 from gregorio_chant.picture.blocks import first_pitch
 from gregorio_chant.picture.faces import OWN, Face

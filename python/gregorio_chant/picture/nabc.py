@@ -8,7 +8,9 @@ from collections.abc import Iterable, Iterator, Sequence
 from functools import lru_cache
 from typing import NamedTuple
 
-from gregorio_chant.objects.items import Descriptor, NabcGlyph
+from gregorio_chant._native.node_kinds import NodeKind
+from gregorio_chant.objects.nabc import Descriptor, NabcGlyph
+from gregorio_chant.objects.score import Score
 from gregorio_chant.picture.hands import PLAIN, Composed, Hand
 from gregorio_chant.picture.shapes import Shape
 from gregorio_chant.picture.symbols import Table, table
@@ -27,7 +29,7 @@ _BETWEEN = 0.9
 _COLUMNS = ("left", "middle", "right")
 _ROWS = ("over", "beside", "under")
 # The names that the hand of Laon alone has.
-_OF_LAON = re.compile(r"^descriptor [^\n]*\b(?:uncinus|oriscus-clivis)\b", re.MULTILINE)
+_OF_LAON = frozenset(("uncinus", "oriscus-clivis"))
 
 
 class _Box(NamedTuple):
@@ -191,11 +193,16 @@ def _table_hand(name: str) -> Hand:
     return TableHand(name)
 
 
-def hand_of(name: str, dump: str) -> Hand:
-    """Returns a hand by its name; `auto` is that of Laon if the dump has a neume that St. Gall has
+def hand_of(name: str, score: Score | None) -> Hand:
+    """Returns a hand by its name; `auto` is that of Laon if the score has a neume that St. Gall has
     not, and else that of St. Gall."""
     if name == "text":
         return PLAIN
     if name == AUTO:
-        name = "laon" if _OF_LAON.search(dump) else "stgall"
+        name = "laon" if score is not None and _is_of_laon(score) else "stgall"
     return _table_hand(name)
+
+
+def _is_of_laon(score: Score) -> bool:
+    glyphs = score.tree.of_kind(NodeKind.NABC_GLYPH)
+    return any(NabcGlyph(score, it.number).name in _OF_LAON for it in glyphs)

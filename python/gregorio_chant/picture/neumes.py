@@ -4,7 +4,8 @@ from __future__ import annotations
 import itertools
 from typing import NamedTuple
 
-from gregorio_chant.objects.items import Glyph, Note
+from gregorio_chant.objects.items import Note
+from gregorio_chant.objects.syllables import Glyph
 from gregorio_chant.picture.faces import OWN, Face
 from gregorio_chant.picture.shapes import STEM
 from gregorio_chant.picture.values import STEP, Head, Rect, Sign, Use, height_of, step_of

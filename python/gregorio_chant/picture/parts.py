@@ -5,9 +5,10 @@ from __future__ import annotations
 from collections.abc import Iterator
 from typing import NamedTuple
 
-from gregorio_chant.objects.items import Break, Clef, Syllable
+from gregorio_chant.objects.items import Break, Clef
+from gregorio_chant.objects.syllables import Syllable
 from gregorio_chant.picture.attributes import ABOVE_SIZE
-from gregorio_chant.picture.blocks import begin_of_notes, blocks_of
+from gregorio_chant.picture.blocks import blocks_of
 from gregorio_chant.picture.faces import OWN, Face
 from gregorio_chant.picture.hands import PLAIN, Hand
 from gregorio_chant.picture.languages import LATIN
@@ -176,7 +177,7 @@ class PartMaker:
         self, syllable: Syllable, following: str | None
     ) -> tuple[list[Part], SyllableText]:
         """Returns the parts of a syllable before this pitch, and its text."""
-        text, words, middle = read_and_set(syllable.text, self._language)
+        text, words, middle = read_and_set(syllable.pieces, self._language)
         room = self._room
         parts = [
             _part_of(syllable, at, it) for at, it in enumerate(self._rows_of(syllable, following))
@@ -227,14 +228,11 @@ class PartMaker:
 
 
 def _add_ends(parts: list[Part]) -> None:
-    """Says of each part where it begins and ends in the canonical text: one of text alone holds
-    no place there."""
+    """Says of each part where it begins and ends in the notes of its syllable: one of text alone
+    holds no place there."""
     end: int | None = None
     for part in reversed(parts):
-        part.begin = (
-            begin_of_notes(part.syllable) + part.blocks[0][1].offset
-            if part.number and part.blocks
-            else 0
-        )
+        if part.number:
+            part.begin = part.blocks[0][1].offset if part.blocks else 0
         part.end = end if part.number == 0 or part.blocks else 0
         end = part.begin if part.blocks else end

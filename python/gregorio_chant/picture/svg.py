@@ -7,7 +7,7 @@ from functools import lru_cache
 from xml.etree.ElementTree import Element, SubElement, tostring
 
 from gregorio_chant._native.results import Kind
-from gregorio_chant.objects.items import Syllable
+from gregorio_chant.objects.syllables import Syllable
 from gregorio_chant.picture.codes import CODE_ROW, CODE_SIZE, Code, field_of, marks_of
 from gregorio_chant.picture.marks import Mark, Places
 from gregorio_chant.picture.shown import shown
@@ -241,8 +241,8 @@ class Painter:
         part = placed.part
         index = part.syllable.number - 1
         attributes = {"id": self._names.syllable(index, part.number)}
-        if part.number == 0 and index < len(self._places.syllables):
-            place = self._places.syllables[index]
+        if part.number == 0:
+            place = part.syllable.source
             attributes |= {"data-line": str(place.line), "data-column": str(place.column)}
         if self._names.has_heads:
             heads = [

@@ -5,7 +5,7 @@ import re
 from collections.abc import Iterator, Sequence
 from xml.etree.ElementTree import Element, SubElement
 
-from gregorio_chant.objects.dump import Header
+from gregorio_chant.objects.headers import Header
 from gregorio_chant.picture.initial import ANNOTATION_SIZE, Initial
 from gregorio_chant.picture.shown import shown
 from gregorio_chant.picture.spaces import SPACES

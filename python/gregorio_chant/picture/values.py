@@ -5,7 +5,8 @@ from __future__ import annotations
 from dataclasses import dataclass, field
 from typing import NamedTuple, Union
 
-from gregorio_chant.objects.items import Break, Clef, Note, Syllable
+from gregorio_chant.objects.items import Break, Clef, Note
+from gregorio_chant.objects.syllables import Syllable
 
 STEP = 5.0
 PITCHES = "abcdefghijklmnp"
@@ -147,8 +148,9 @@ class Block:
 class Part:
     """A syllable, or what stands of it on one line: blocks at their places from the anchor, and
     texts. `left` and `right` bound the notes, `text_left` and `text_right` the text, if there is
-    one. It has what stands in the canonical text from `begin` up to `end`, or up to the
-    syllable's end. `begins` says whether it begins a word."""
+    one. It has what stands from `begin` up to `end` of the characters of the syllable's notes, or
+    up to their end; the first one has -1, the text, too. `begins` says whether it begins a
+    word."""
 
     syllable: Syllable
     number: int
@@ -165,7 +167,7 @@ class Part:
     clef: Clef | None = None
     ends_line: Break | None = None
     is_bar: bool = False
-    begin: int = 0
+    begin: int = -1
     end: int | None = None
     begins: bool = False
 

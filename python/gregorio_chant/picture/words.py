@@ -2,22 +2,19 @@
 from __future__ import annotations
 
 import re
+from collections.abc import Sequence
 from dataclasses import dataclass
 from functools import lru_cache
 
-from gregorio_chant.objects.items import MARKUP, special_character
+from gregorio_chant.objects.texts import Piece
 from gregorio_chant.picture.languages import LATIN, first_vowel
 from gregorio_chant.picture.shown import shown
 from gregorio_chant.picture.values import Words
 from gregorio_chant.picture.widths import styled_width
 
 SIZE = 16.0
-_STYLES = frozenset(("b", "c", "e", "i", "sc", "tt", "ul"))
-_ALT = re.compile(r"<alt>(.*?)</alt>", re.DOTALL)
 _BARRED = re.compile("([℣℟])")
-_SPECIAL = re.compile("[<{}$℣℟\n]")
 _LETTERS = {"℣": "V", "℟": "R"}
-_TAG = re.compile(r"<(/?)([a-z]+)>")
 
 
 @dataclass(frozen=True, slots=True)
@@ -44,23 +41,18 @@ class SyllableText:
 
 
 class _Reader:
-    """Reads the canonical text of a syllable."""
+    """Reads the pieces of a text."""
 
     def __init__(self) -> None:
         self.runs: list[Run] = []
-        self.styles: frozenset[str] = frozenset()
         self.length = 0
         self.braces: list[int] = []
-        self.raw = 0
 
-    def add(self, text: str) -> None:
-        """Adds letters in the styles that are open; ℣ and ℟ are barred letters, which few faces
-        have."""
-        for at, piece in enumerate(_BARRED.split(text.replace("\n", " "))):
-            self._add(
-                _LETTERS.get(piece, shown(piece)),
-                self.styles | {"barred"} if at % 2 else self.styles,
-            )
+    def add(self, text: str, styles: frozenset[str]) -> None:
+        """Adds letters in these styles; ℣ and ℟ are barred letters, which few faces have."""
+        for at, letters in enumerate(_BARRED.split(text.replace("\n", " "))):
+            barred = styles | {"barred"} if at % 2 else styles
+            self._add(_LETTERS.get(letters, shown(letters)), barred)
 
     def _add(self, text: str, styles: frozenset[str]) -> None:
         if not text:
@@ -71,33 +63,19 @@ class _Reader:
             self.runs.append(Run(text, styles))
         self.length += len(text)
 
-    def markup(self, found: re.Match[str]) -> None:
-        if found["escaped"] is not None:
-            self.add(found["escaped"])
-        elif found["special"] is not None:
-            self.add(special_character(found["special"]))
-        elif found["raw"] is not None:
-            self.raw += found["raw"] == "v"
-        elif found[0] in "{}":
-            self.braces.append(self.length)
-        elif (tag := _TAG.fullmatch(found[0])) and tag[2] in _STYLES:
-            self.styles = self.styles - {tag[2]} if tag[1] else self.styles | {tag[2]}
 
-
-def read_text(text: str) -> SyllableText:
-    """Returns the canonical text of a syllable as runs."""
-    if not _SPECIAL.search(text):
-        return SyllableText((Run(shown(text), frozenset()),) if text else (), None, (), 0)
+def read_text(pieces: Sequence[Piece]) -> SyllableText:
+    """Returns the pieces of the text of a syllable as runs."""
     reader = _Reader()
-    at = 0
-    for found in MARKUP.finditer(text):
-        reader.add(text[at : found.start()])
-        reader.markup(found)
-        at = found.end()
-    reader.add(text[at:])
+    for it in pieces:
+        if it.brace:
+            reader.braces.append(reader.length)
+        else:
+            reader.add(it.letters, it.styles)
     centre = (reader.braces[0], reader.braces[1]) if len(reader.braces) == 2 else None
-    above = tuple(_ALT.findall(text)) if "<alt>" in text else ()
-    return SyllableText(tuple(reader.runs), centre, above, reader.raw)
+    above = tuple(it.above for it in pieces if it.above is not None)
+    raw = sum(it.is_verbatim for it in pieces)
+    return SyllableText(tuple(reader.runs), centre, above, raw)
 
 
 def set_text(
@@ -120,10 +98,12 @@ def set_text(
 
 
 @lru_cache(maxsize=4096)
-def read_and_set(text: str, language: str = LATIN) -> tuple[SyllableText, tuple[Words, ...], float]:
-    """Returns the canonical text of a syllable as runs, these side by side, and where the middle of
-    the centre or of the vowel is. What was read last is kept: a score has its syllables often."""
-    read = read_text(text)
+def read_and_set(
+    pieces: tuple[Piece, ...], language: str = LATIN
+) -> tuple[SyllableText, tuple[Words, ...], float]:
+    """Returns the text of a syllable as runs, these side by side, and where the middle of the
+    centre or of the vowel is. What was read last is kept: a score has its syllables often."""
+    read = read_text(pieces)
     return (read, *set_text(read, language=language))
 
 

@@ -149,7 +149,7 @@ def _silencing(document: Document, message: Message) -> Iterator[tuple[str, Edit
         text, document.offset(message), "ignore", code
     )
     yield f"Silence {code} in this score", _comment_at(
-        text, document.scan.score, "ignore-file", code
+        text, document.parts.score, "ignore-file", code
     )
 
 
@@ -158,10 +158,11 @@ def _comment_at(text: str, offset: int, word: str, code: str) -> Edit:
     comment."""
     begin, end = text.rfind("\n", 0, offset) + 1, text.find("\n", offset)
     line = text[begin : len(text) if end < 0 else end].rstrip(" \t")
+    spelled = line.encode("utf-8", "surrogatepass")
     found = [
         it
-        for it in IGNORE.finditer(line)
-        if it[1] == word and it.end() == len(line) and it[2].strip()
+        for it in IGNORE.finditer(spelled)
+        if it[1] == word.encode() and it.end() == len(spelled) and it[2].strip()
     ]
     return Edit(begin + len(line), "", f", {code}" if found else f" % gregorio: {word} {code}")
 
@@ -171,7 +172,7 @@ def _silences_alone(document: Document, message: Message, edit: Edit) -> bool:
     stays."""
     old = document.compiled
     new = Compiled(with_edits(old.data, (edit,)))
-    before, after = unsilenced(old.data, old.messages), unsilenced(new.data, new.messages)
+    before, after = unsilenced(old), unsilenced(new)
     if new.canonical != old.canonical or [it.code for it in old.messages] != [
         it.code for it in new.messages
     ]:

@@ -4,17 +4,18 @@ from __future__ import annotations
 
 import re
 
-from gregorio_chant.server.document import Document, scan_before
+from gregorio_chant._native.node_kinds import NodeKind
+from gregorio_chant._native.nodes import Tree
+from gregorio_chant._native.trees import tree
+from gregorio_chant.server.document import Document
 from gregorio_chant.server.protocol import Json, Params
-from gregorio_chant.server.vocabulary import nabc_names
-from gregorio_chant.text.scan import Scan
-from gregorio_chant.text.vocabulary import HEADERS, SPECIALS, TAGS
+from gregorio_chant.text.vocabulary import HEADERS, NABC_NAMES, SPECIALS, TAGS
 
 _PROPERTY, _KEYWORD, _CONSTANT, _VALUE = 10, 14, 21, 12
 _IN_SPECIAL = re.compile(r"<sp>([^<>(\n]*)$")
 _IN_TAG = re.compile(r"</?([a-z]*)$")
-_RAW = re.compile(r"\[[^\]]*\]?")
-_IN_RAW = re.compile(r"\[[^\]]*$")
+# What ends a comment, and then the notes.
+_CLOSED = "\n)"
 _CODE = re.compile(r"(?:^|[^a-z])(?:[a-z]{2})*([a-z]?)$")
 TRIGGERS = ["<", ">", "|"]
 
@@ -23,15 +24,22 @@ def completion(document: Document, params: Params) -> Json:
     """Returns what may stand at this position, in the place of what has been typed of it."""
     offset = document.text.offset(params["position"].position())
     before = document.text.plain[:offset]
-    found = scan_before(document, offset)
-    if found.score == len(before):
+    made = tree(before)
+    if NodeKind.SCORE_LINE not in made.kinds:
         return _headers(document, before)
-    if found.comments and found.comments[-1].end == len(before) and not before.endswith("\n"):
+    is_open = NodeKind.UNREAD in made.kinds
+    if is_open:
+        made = tree(before + _CLOSED)
+    if _is_in_comment(made, len(before.encode("utf-8", "surrogatepass"))):
         return []
-    last = found.syllables[-1] if found.syllables else None
-    if last is not None and last.notes < len(before) and not before.endswith(")"):
-        return _in_notes(document, found, before[last.notes + 1 :], offset)
+    if is_open and NodeKind.UNREAD not in made.kinds:
+        return _in_notes(document, made, before, offset)
     return _in_text(document, before, offset)
+
+
+def _is_in_comment(made: Tree, byte: int) -> bool:
+    """Returns whether a comment goes up to this byte of a score."""
+    return any(it.end == byte for it in made.of_kind(NodeKind.COMMENT))
 
 
 def _item(
@@ -79,27 +87,15 @@ def _in_text(document: Document, before: str, end: int) -> Json:
     ]
 
 
-def _in_notes(document: Document, found: Scan, notes: str, end: int) -> Json:
+def _in_notes(document: Document, made: Tree, before: str, end: int) -> Json:
     """Returns the codes of NABC where a line of it stands."""
-    lines = nabc_lines(found)
-    plain = _RAW.sub("", notes)
-    snippet = plain.rpartition("|")[2]
-    code = _CODE.search(snippet)
-    if lines == 0 or plain.count("|") % (lines + 1) == 0 or _IN_RAW.search(notes) or code is None:
+    snippet = list(made.of_kind(NodeKind.SNIPPET))[-1]
+    code = _CODE.search(before, snippet.place.offset)
+    if snippet.a == 0 or code is None:
         return []
     begin = end - len(code[1])
     return [
         _item(document, it, _VALUE, name, it, begin, end)
-        for it, name in nabc_names().items()
+        for it, name in NABC_NAMES.items()
         if it.startswith(code[1])
     ]
-
-
-def nabc_lines(found: Scan) -> int:
-    """Returns how many lines of NABC the headers ask for."""
-    values = [
-        found.text[it.begin : it.end].partition(":")[2].strip(" ;")
-        for it in found.headers
-        if it.name == "nabc-lines"
-    ]
-    return int(values[-1]) if values and values[-1] in ("1", "2", "3", "4") else 0

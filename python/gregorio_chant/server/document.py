@@ -13,9 +13,10 @@ from gregorio_chant.linting.rules import messages_with_rules, unsilenced
 from gregorio_chant.linting.selection import Selection
 from gregorio_chant.linting.slips import Subject
 from gregorio_chant.objects.compiled import Compiled
-from gregorio_chant.objects.dump import Pause, Score, go_on
+from gregorio_chant.objects.pauses import Pause, go_on
+from gregorio_chant.objects.score import Score
 from gregorio_chant.server.text import Text
-from gregorio_chant.text.scan import Scan, scan
+from gregorio_chant.text.parts import Parts
 from gregorio_chant.work.settings import Settings
 
 
@@ -69,11 +70,10 @@ class Document:
     def find(self, pause: Pause = go_on) -> tuple[Message, ...]:
         """Returns all that is found, by the rules too where they are wanted."""
         if self._found is None:
-            data = self.text.data
             self._found = (
-                messages_with_rules(data, pause)
+                messages_with_rules(self.compiled, pause)
                 if self.file.with_rules
-                else unsilenced(data, self.compiled.messages)
+                else unsilenced(self.compiled)
             )
         return self._found
 
@@ -85,27 +85,22 @@ class Document:
     @cached_property
     def helps(self) -> tuple[str | None, ...]:
         """The help for each message that is reported."""
-        return helps_for(self.text.plain, self.find(), self.messages) if self.messages else ()
+        return helps_for(self.compiled, self.messages) if self.messages else ()
 
     @cached_property
     def subject(self) -> Subject:
         """The text beside the messages of the compiler."""
-        return Subject(self.text.plain, self.compiled.messages)
+        return Subject(self.compiled)
 
     @cached_property
     def score(self) -> Score:
         """The score as objects, up to a fatal fault."""
-        return Score.read(self.compiled.dump)
+        return self.compiled.score
 
     @property
-    def scan(self) -> Scan:
-        """Where headers, syllables and comments stand, also where a fatal fault stops the score."""
-        return self.subject.scan
+    def parts(self) -> Parts:
+        """Where headers, syllables and comments stand, up to a fatal fault that stops the score."""
+        return self.subject.parts
 
     def offset(self, message: Message) -> int:
         return self.subject.offset(message)
-
-
-def scan_before(document: Document, offset: int) -> Scan:
-    """Returns where all stands in the text before an offset."""
-    return scan(document.text.plain[:offset], document.subject.left_out)

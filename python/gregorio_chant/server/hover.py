@@ -1,19 +1,22 @@
 """What is said of the thing under the cursor."""
 from __future__ import annotations
 
-import bisect
 import re
 from collections.abc import Iterator
 
+from gregorio_chant._native.node_kinds import NodeKind
 from gregorio_chant._native.results import Message
 from gregorio_chant.linting.explaining import example_of, page_uri
-from gregorio_chant.objects.items import Bar, Clef, Descriptor, Glyph, Item, Note, Syllable
+from gregorio_chant.objects.item import Item
+from gregorio_chant.objects.items import Bar, Clef, Note
+from gregorio_chant.objects.nabc import Descriptor
+from gregorio_chant.objects.syllables import Glyph, Syllable
 from gregorio_chant.server.document import Document
 from gregorio_chant.server.protocol import Json, Params
 from gregorio_chant.text.vocabulary import HEADERS, TAGS
 
-_CLEF = re.compile(r"([cf])(b?)([1-5])")
 _TAG = re.compile(r"</?([a-z]+)>")
+_TAGGED = (NodeKind.STYLE_TAG, NodeKind.SPAN_MARK, NodeKind.RAW, NodeKind.TAG)
 _DO_OR_FA = {"c": "ut", "f": "fa"}
 # What stands in a score, and what is said of it.
 _Told = tuple[str, str]
@@ -84,26 +87,22 @@ def _header_at(document: Document, at: int) -> _Told | None:
 
 
 def _tag_at(document: Document, at: int) -> _Told | None:
-    it = document.subject.syllable_at(at)
-    if it is None or not it.begin <= at < it.notes:
-        return None
-    for tag in _TAG.finditer(document.text.plain, it.begin, it.notes):
-        if tag.start() <= at < tag.end() and tag[1] in TAGS:
-            return tag[0], TAGS[tag[1]]
-    return None
+    node = document.subject.node_at(at)
+    tag = None if node is None or node.kind not in _TAGGED else _TAG.match(node.kept)
+    return (tag[0], TAGS[tag[1]]) if tag is not None and tag[1] in TAGS else None
 
 
 def _items_at(document: Document, offset: int) -> Iterator[_Told]:
     """Yields what is said of the note, clef, bar or descriptor at this place of a score."""
-    at = document.compiled.comparison.written_offset(offset)
-    syllables = document.score.syllables
-    number = bisect.bisect_right(syllables, at, key=lambda it: it.place.offset) - 1
-    if number < 0:
+    number = document.parts.number_at(offset)
+    byte = document.compiled.tree.places.byte(offset)
+    if number is None:
         return
-    for snippet in syllables[number].snippets:
+    syllable = document.score.syllables[number]
+    for snippet in syllable.snippets:
         for item in snippet.items:
-            if item.place.offset <= at < item.place.offset + len(item.spelling):
-                yield from _told(item, syllables[number])
+            if item.begin <= byte < item.node.end:
+                yield from _told(item, syllable)
 
 
 def _told(item: Item, syllable: Syllable) -> Iterator[_Told]:
@@ -112,15 +111,17 @@ def _told(item: Item, syllable: Syllable) -> Iterator[_Told]:
             if item in it.notes:
                 yield from _note(item, it)
     elif isinstance(item, Clef):
-        yield item.spelling, " and ".join(_clef(*it) for it in _CLEF.findall(item.spelling))
+        both = filter(None, (item, item.second))
+        yield item.spelling, " and ".join(map(_clef, both))
     elif isinstance(item, Bar):
         yield item.spelling, f"bar {item.name}"
     elif isinstance(item, Descriptor):
         yield item.spelling, ", ".join(item.names)
 
 
-def _clef(letter: str, flat: str, line: str) -> str:
-    return f"{_DO_OR_FA[letter]} on line {line}" + (", with a flat si" if flat else "")
+def _clef(clef: Clef) -> str:
+    flat = ", with a flat si" if clef.has_flat else ""
+    return f"{_DO_OR_FA[clef.letter]} on line {clef.line}{flat}"
 
 
 def _note(note: Note, glyph: Glyph) -> Iterator[_Told]:

@@ -1,20 +1,19 @@
 """The outline of a score: its headers, and its verses, which end with a double bar, with their
-words. It is there too where a fatal fault stops the score."""
+words, up to a fatal fault that stops the score."""
 from __future__ import annotations
 
-import re
 from collections.abc import Iterator
 from dataclasses import dataclass
 
-from gregorio_chant.objects.items import plain_text
+from gregorio_chant.objects.items import Bar
+from gregorio_chant.objects.passages import FINALIS
+from gregorio_chant.objects.syllables import Syllable
 from gregorio_chant.server.document import Document
 from gregorio_chant.server.protocol import Json, Params
-from gregorio_chant.text.scan import SyllableSpan, after_lead
+from gregorio_chant.text.parts import SyllableSpan
 
 _NAMESPACE, _PROPERTY, _STRING = 3, 7, 15
 _LONGEST = 40
-_ASIDE = re.compile(r"(\$.|<(v|sp|alt)>.*?</\2>)|%[^\n]*|\[[^\]]*\]?", re.DOTALL)
-_VERSE_END = "::"
 
 
 @dataclass(frozen=True)
@@ -29,39 +28,29 @@ class _Word:
 
 def _words(document: Document) -> Iterator[_Word]:
     """Yields the words of the score, and each run of notes that has no text as a word of its own
-    with none."""
-    open_word: list[SyllableSpan] = []
-    text = document.text.plain
-    for it in document.scan.syllables:
-        if open_word and after_lead(text, it) > it.begin:
-            yield _word(text, open_word)
-            open_word = []
-        open_word.append(it)
-        if _ends_verse(text, it):
-            yield _word(text, open_word)
-            open_word = []
-    if open_word:
-        yield _word(text, open_word)
+    with none. What a fatal fault leaves unread is in none."""
+    inside: list[tuple[Syllable, SyllableSpan]] = []
+    syllables = document.score.syllables if document.compiled.has_score else ()
+    for it, span in zip(syllables, document.parts.syllables):
+        if inside and it.begins_word:
+            yield _word(inside)
+            inside = []
+        inside.append((it, span))
+        if _ends_verse(it):
+            yield _word(inside)
+            inside = []
+    if inside:
+        yield _word(inside)
 
 
-def _word(text: str, syllables: list[SyllableSpan]) -> _Word:
-    spelled = "".join(_without_asides(text[it.begin : it.notes]) for it in syllables)
-    last = syllables[-1]
-    return _Word(
-        " ".join(plain_text(spelled).split()),
-        after_lead(text, syllables[0]),
-        last.end,
-        _ends_verse(text, last),
-    )
+def _word(found: list[tuple[Syllable, SyllableSpan]]) -> _Word:
+    text = "".join(it.plain for it, _ in found)
+    last, end = found[-1]
+    return _Word(" ".join(text.split()), found[0][1].text, end.end, _ends_verse(last))
 
 
-def _without_asides(text: str) -> str:
-    """Returns a text or notes without comments, and without what stands in brackets."""
-    return _ASIDE.sub(lambda found: found[1] or "", text)
-
-
-def _ends_verse(text: str, syllable: SyllableSpan) -> bool:
-    return _VERSE_END in _without_asides(text[syllable.notes : syllable.end])
+def _ends_verse(syllable: Syllable) -> bool:
+    return any(isinstance(it, Bar) and it.name == FINALIS for it in syllable.items)
 
 
 def _verses(document: Document) -> Iterator[list[_Word]]:
@@ -92,7 +81,7 @@ def symbols(document: Document, params: Params) -> Json:
     """Returns the headers, and each verse by its first words, with its words."""
     text = document.text.plain
     found = []
-    for header in document.scan.headers:
+    for header in document.parts.headers:
         spelled = text[header.begin : header.end]
         name = (
             f"{header.name}: {spelled.partition(':')[2].strip(' ;')}"
@@ -129,7 +118,7 @@ def symbols(document: Document, params: Params) -> Json:
 
 def foldings(document: Document, params: Params) -> Json:
     """Returns the lines of the headers, and of each verse, where they are more than one."""
-    headers = document.scan.headers
+    headers = document.parts.headers
     spans = [(headers[0].begin, headers[-1].end)] if headers else []
     spans += [(it[0].begin, it[-1].end) for it in _verses(document)]
     lines = [

@@ -1,7 +1,6 @@
 """The picture of a score that is open: as SVG for the editor, and as a page for a browser."""
 from __future__ import annotations
 
-import bisect
 import shutil
 import tempfile
 from pathlib import Path
@@ -20,7 +19,7 @@ def _drawn(document: Document, names: Names) -> Picture:
     written."""
     if len(document.text.data) > MOST_BYTES:
         raise ProtocolError(Code.FAILED, f"a score above {MOST_BYTES:,} bytes is not drawn here")
-    return draw(document.text.data, document.messages, names=names)
+    return draw(document.compiled, document.messages, names=names)
 
 
 def svg(document: Document, params: Params) -> Json:
@@ -31,9 +30,9 @@ def svg(document: Document, params: Params) -> Json:
 def _syllable_at(document: Document, position: Position) -> int:
     """Returns the number of the syllable at a position, from 0; the one before, where none is
     there."""
-    begins = [it.begin for it in document.scan.syllables]
-    drawn = document.compiled.dump.count("\nsyllable ")
-    return max(min(bisect.bisect_right(begins, document.text.offset(position)), drawn) - 1, 0)
+    number = document.parts.number_at(document.text.offset(position)) or 0
+    drawn = len(document.score.syllables) if document.compiled.has_score else 0
+    return max(min(number, drawn - 1), 0)
 
 
 class Pages:

@@ -7,7 +7,7 @@ import os
 from collections.abc import Callable
 from urllib.parse import unquote_to_bytes, urlsplit
 
-from gregorio_chant.objects.dump import Pause
+from gregorio_chant.objects.pauses import Pause
 from gregorio_chant.server.diagnostics import diagnostics, no_diagnostics
 from gregorio_chant.server.document import Document, File
 from gregorio_chant.server.features import CAPABILITIES, FEATURES, RESOLVE, SHOW, RequestRefused

@@ -12,8 +12,8 @@ from urllib.parse import quote
 from gregorio_chant._native.results import Kind
 from gregorio_chant.linting import checking
 from gregorio_chant.linting.selection import UnknownCode
-from gregorio_chant.objects.dump import Score, ScoreError
-from gregorio_chant.objects.sounds import NoteBeforeClef, Sound, sounds_of
+from gregorio_chant.objects.compiled import Compiled
+from gregorio_chant.objects.sounds import sounds_of_score
 from gregorio_chant.picture import Look, Names, draw
 from gregorio_chant.picture.page import NARROW, Entry, Shown, index_of, page_of
 from gregorio_chant.report.reports import Checked, counted, summary_of
@@ -59,14 +59,6 @@ class Options:
         return [] if self.output is None else [Path(self.output)]
 
 
-def _sounds(data: bytes) -> tuple[Sound, ...]:
-    """Returns the sounds of a score; none if it has no height."""
-    try:
-        return tuple(sounds_of(Score.parse(data).syllables))
-    except (NoteBeforeClef, ScoreError):
-        return ()
-
-
 class _Scores:
     """Reads the scores, and counts what is found."""
 
@@ -92,40 +84,40 @@ class _Scores:
         self.status = max(self.status, CANNOT_READ_OR_WRITE)
         tell(f"cannot read {name}: {reason}")
 
-    def all(self, names: Iterable[str]) -> Iterator[tuple[Checked, bytes]]:
-        """Yields what is found in each score, and its bytes."""
+    def all(self, names: Iterable[str]) -> Iterator[tuple[Checked, Compiled]]:
+        """Yields what is found in each score, and what the compiler says of it."""
         for name in names:
             try:
-                content = self._reader.read(name)
+                compiled = Compiled(self._reader.read(name).data)
             except OSError as error:
                 self._fail(name, reason_of(error))
                 continue
-            checked = checking.check_file(name, self._checking, lambda _: content)
+            checked = checking.check_score(name, compiled, self._checking)
             self.files += 1
             self.status = max(self.status, checked.status)
             self.kinds.update(it.kind for it in checked.messages)
-            yield checked, content.data
+            yield checked, compiled
 
-    def shown(self, checked: Checked, data: bytes, prefix: str) -> Shown:
+    def shown(self, checked: Checked, compiled: Compiled, prefix: str) -> Shown:
         """Returns a score as a page shows it: its picture, and one for a phone if the first is
         wider."""
         options, look = self._options, self._options.look
         messages = checked.messages if options.with_messages else ()
         names = Names(prefix, links=True, has_heads=options.sings)
-        picture, narrow = draw(data, messages, look=look, names=names), None
+        picture, narrow = draw(compiled, messages, look=look, names=names), None
         if look.width > NARROW:
             narrow = draw(
-                data,
+                compiled,
                 messages,
                 look=replace(look, width=NARROW),
                 names=replace(names, prefix=f"{prefix}n-", messages=prefix),
             )
-        sounds = _sounds(data) if options.sings else ()
+        sounds = sounds_of_score(compiled) if options.sings else ()
         return Shown(
             checked,
             printable(checked.shown_name),
             picture,
-            text_of(data),
+            text_of(compiled.data),
             prefix,
             narrow,
             options.with_messages,
@@ -200,10 +192,12 @@ def _show_one(options: Options, scores: _Scores, names: list[str]) -> None:
             else "--svg writes a file, and no folder"
         )
     _refuse_own_input(options.files, names)
-    for checked, data in scores.all(names):
+    for checked, compiled in scores.all(names):
         _write(
             options,
-            draw(data, checked.messages if options.with_messages else (), look=options.look).pieces,
+            draw(
+                compiled, checked.messages if options.with_messages else (), look=options.look
+            ).pieces,
         )
 
 
@@ -213,7 +207,7 @@ def _show_page(options: Options, scores: _Scores, names: list[str]) -> None:
     named = {it for it in options.paths if it == STDIN or not os.path.isdir(it)}
     shown: list[Shown] = []
     left_out = from_folders = 0
-    for checked, data in scores.all(names):
+    for checked, compiled in scores.all(names):
         if checked.name not in named:
             if not checked.messages:
                 continue
@@ -221,7 +215,7 @@ def _show_page(options: Options, scores: _Scores, names: list[str]) -> None:
             if from_folders > MOST:
                 left_out += 1
                 continue
-        shown.append(scores.shown(checked, data, f"p{len(shown) + 1}-"))
+        shown.append(scores.shown(checked, compiled, f"p{len(shown) + 1}-"))
     note = (
         f"{counted(left_out, 'score')} more with messages: -o FOLDER/ writes a page for each."
         if left_out
@@ -263,8 +257,8 @@ def _show_folder(options: Options, scores: _Scores, names: list[str]) -> None:
     pages = dict(zip(names, _page_names(names, options.paths)))
     _refuse_own_input([folder / it for it in (*pages.values(), _INDEX)], names)
     entries: list[Entry] = []
-    for checked, data in scores.all(names):
-        shown = scores.shown(checked, data, "")
+    for checked, compiled in scores.all(names):
+        shown = scores.shown(checked, compiled, "")
         page = pages[checked.name]
         _put(
             folder / page,

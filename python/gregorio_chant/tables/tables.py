@@ -10,7 +10,7 @@ from functools import partial
 from typing import Protocol, Union
 
 from gregorio_chant._native.results import Kind, Message, Status
-from gregorio_chant.objects.dump import Score, ScoreError
+from gregorio_chant.objects.score import Score, ScoreError
 from gregorio_chant.report.reports import counted, json_of
 from gregorio_chant.text.source import Source
 from gregorio_chant.work.files import Reader

@@ -101,7 +101,41 @@ HTML_TAGS = {
     "sup": "",
     "sub": "",
 }
-NABC_CODES = "vi pu ta gr cl pe po to ci sc pf sf tr st ds ts tg bv tv pr pi vs or sa pq pt ql qi un oc ni".split()
+# The codes of NABC, with the names that the compiler gives them.
+NABC_NAMES = {
+    "vi": "virga",
+    "pu": "punctum",
+    "ta": "tractulus",
+    "gr": "gravis",
+    "cl": "clivis",
+    "pe": "pes",
+    "po": "porrectus",
+    "to": "torculus",
+    "ci": "climacus",
+    "sc": "scandicus",
+    "pf": "porrectus-flexus",
+    "sf": "scandicus-flexus",
+    "tr": "torculus-resupinus",
+    "st": "stropha",
+    "ds": "distropha",
+    "ts": "tristropha",
+    "tg": "trigonus",
+    "bv": "bivirga",
+    "tv": "trivirga",
+    "pr": "pressus-maior",
+    "pi": "pressus-minor",
+    "vs": "virga-strata",
+    "or": "oriscus",
+    "sa": "salicus",
+    "pq": "pes-quassus",
+    "pt": "pes-stratus",
+    "ql": "quilisma-three-loops",
+    "qi": "quilisma-two-loops",
+    "un": "uncinus",
+    "oc": "oriscus-clivis",
+    "ni": "nihil",
+}
+NABC_CODES = tuple(NABC_NAMES)
 # The special characters that GregorioTeX defines by default, and the two tildes with which its
 # manual writes one.
 SPECIALS = (

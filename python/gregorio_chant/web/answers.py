@@ -5,12 +5,10 @@ from dataclasses import dataclass
 
 from gregorio_chant.linting import checking
 from gregorio_chant.objects.compiled import Compiled
-from gregorio_chant.objects.dump import read_in_turn
-from gregorio_chant.objects.sounds import NoteBeforeClef, sounds_of
+from gregorio_chant.objects.sounds import sounds_of_score
 from gregorio_chant.picture import USUAL_WIDTH, Look, Names, draw
 from gregorio_chant.picture.page import Shown, list_of_messages, notes_of
 from gregorio_chant.text.source import text_of
-from gregorio_chant.work.files import Content
 from gregorio_chant.work.settings import Finder
 from gregorio_chant.work.streams import STDIN
 
@@ -37,27 +35,16 @@ class Answers:
 
     def of(self, data: bytes, width: float = USUAL_WIDTH) -> Answer:
         """Returns what is made of a score, with a picture this wide. Raises `MemoryError`."""
-        options = checking.Options((STDIN,), with_rules=self.with_rules, settings=self.settings)
-        checked = checking.check_file(STDIN, options, lambda _: Content(data))
-        picture = draw(
-            data,
-            checked.messages,
-            look=Look(width=width),
-            names=Names(_PREFIX, links=True, has_heads=True),
-        )
-        messages = list_of_messages(
-            Shown(checked, checked.shown_name, picture, text_of(data), _PREFIX)
-        )
         compiled = Compiled(data)
-        return Answer(
-            picture.name, picture.svg, "".join(messages), compiled.canonical, compiled.dump
-        )
+        options = checking.Options((STDIN,), with_rules=self.with_rules, settings=self.settings)
+        checked = checking.check_score(STDIN, compiled, options)
+        names = Names(_PREFIX, links=True, has_heads=True)
+        picture = draw(compiled, checked.messages, look=Look(width=width), names=names)
+        shown = Shown(checked, checked.shown_name, picture, text_of(data), _PREFIX)
+        messages = "".join(list_of_messages(shown))
+        return Answer(picture.name, picture.svg, messages, compiled.canonical, compiled.dump)
 
     def sounds_of(self, data: bytes) -> list[tuple[int, int, int | None, float]]:
         """Returns the notes of a score as the page sings them; none if one of them has no height.
         Raises `MemoryError`."""
-        dump = Compiled(data).dump
-        try:
-            return notes_of(sounds_of(read_in_turn(dump)[1])) if dump else []
-        except NoteBeforeClef:
-            return []
+        return notes_of(sounds_of_score(Compiled(data)))

@@ -1,0 +1,154 @@
+"""The text of a syllable, as its pieces: letters in their styles, raw parts and tags."""
+from __future__ import annotations
+
+import re
+from collections.abc import Iterator, Sequence
+from itertools import takewhile
+from typing import NamedTuple
+
+from gregorio_chant._native.node_kinds import NodeKind
+from gregorio_chant._native.nodes import Tree
+
+STYLES = ("b", "c", "e", "i", "sc", "tt", "ul")
+# The bit of the centre beside those of the styles.
+_CENTRE = 128
+_SPECIAL_CHARACTER = re.compile(r"[()\[\]{}<>%$]")
+# What the special characters of the manual look like; others are read as they are spelled.
+_SPECIAL = {
+    "ae": "æ",
+    "oe": "œ",
+    "'ae": "ǽ",
+    "'oe": "œ́",
+    "'æ": "ǽ",
+    "'œ": "œ́",
+    "A/": "A",
+    "R/": "℟",
+    "V/": "℣",
+    "*": "*",
+    "+": "†",
+    "-": "",
+    "~": "~",
+}
+_VERBATIM, _SP, _ALT = 0, 1, 2
+_TAG_LENGTHS = {_VERBATIM: 3, _SP: 4, _ALT: 5}
+_OF_TEXT = frozenset(
+    map(
+        int,
+        (
+            NodeKind.CHARACTERS,
+            NodeKind.ESCAPE,
+            NodeKind.TEXT_BLANK,
+            NodeKind.RAW,
+            NodeKind.TAG,
+            NodeKind.SPAN_MARK,
+        ),
+    )
+)
+_BRACES = ("{", "}")
+
+
+class Piece(NamedTuple):
+    """A piece of a text: `letters` is what is sung of it, `written` its canonical text. `raw` is
+    the content of a raw part, which `kind` tells: 0 verbatim TeX, 1 a special character, 2 a text
+    over the staff, else `None`. A piece with a `brace` is a brace of the centre and nothing else.
+    """
+
+    letters: str
+    written: str
+    styles: frozenset[str] = frozenset()
+    in_centre: bool = False
+    raw: str | None = None
+    kind: int | None = None
+    brace: str | None = None
+
+    @property
+    def above(self) -> str | None:
+        """A text over the staff, if it is one."""
+        return self.raw if self.kind == _ALT else None
+
+    @property
+    def special(self) -> str | None:
+        """The name of a special character, if it is one."""
+        return self.raw if self.kind == _SP else None
+
+    @property
+    def is_verbatim(self) -> bool:
+        return self.kind == _VERBATIM
+
+
+def special_character(name: str) -> str:
+    """Returns the text of the special character `name` of the manual; an unknown one is its own
+    name."""
+    return _SPECIAL.get(name, name)
+
+
+_STYLES_OF = [
+    frozenset(it for bit, it in enumerate(STYLES) if number >> bit & 1) for number in range(_CENTRE)
+]
+
+
+def _raw_piece(kept: str, styles: int, kind: int) -> Piece:
+    """Returns the piece of a raw part with its tags."""
+    length = _TAG_LENGTHS[kind]
+    raw = kept[length : -length - 1]
+    letters = special_character(raw) if kind == _SP else ""
+    return Piece(letters, kept, _STYLES_OF[styles & 127], bool(styles & _CENTRE), raw, kind)
+
+
+def _piece_of(tree: Tree, number: int) -> Piece | None:
+    """Returns the piece that this node is, if it is one."""
+    kind = tree.kinds[number]
+    if kind == NodeKind.BRACE:
+        return Piece("", "", brace=_BRACES[tree.narrow[10 * number + 8]])
+    if kind not in _OF_TEXT:
+        return None
+    _, styles, value = tree.narrow[10 * number + 6 : 10 * number + 9]
+    if kind == NodeKind.TEXT_BLANK:
+        return Piece(" ", " ", _STYLES_OF[styles & 127], bool(styles & _CENTRE)) if value else None
+    kept = tree.kept(number)
+    if kind == NodeKind.RAW:
+        return _raw_piece(kept, styles, value)
+    letters, written = "", kept
+    if kind == NodeKind.CHARACTERS:
+        letters, written = kept, _SPECIAL_CHARACTER.sub(r"$\g<0>", kept)
+    elif kind == NodeKind.ESCAPE:
+        letters = kept[1:]
+    return Piece(letters, written, _STYLES_OF[styles & 127], bool(styles & _CENTRE))
+
+
+def pieces_of(tree: Tree, syllable: int) -> Iterator[Piece]:
+    """Yields the pieces of the text of the syllable with this number."""
+    for number in takewhile(lambda it: tree.kinds[it] != NodeKind.SNIPPET, tree.children(syllable)):
+        piece = _piece_of(tree, number)
+        if piece is not None:
+            yield piece
+
+
+# ---- the canonical text
+
+
+def _joint(was: Sequence[str], now: Sequence[str], marks: str) -> str:
+    """Returns what stands between two pieces in these styles: closing tags, the marks of the
+    centre, opening tags."""
+    pairs = enumerate(zip(was, now))
+    same = next((at for at, (one, other) in pairs if one != other), min(len(was), len(now)))
+    closed = "".join(f"</{it}>" for it in reversed(was[same:]))
+    return closed + marks + "".join(f"<{it}>" for it in now[same:])
+
+
+def written_text(pieces: Sequence[Piece]) -> str:
+    """Returns the canonical text of these pieces."""
+    written: list[str] = []
+    styles: Sequence[str] = ()
+    marks = ""
+    is_open = False
+    for it in pieces:
+        if it.brace:
+            marks, is_open = marks + it.brace, it.brace == "{"
+            continue
+        if marks or it.styles or styles:
+            now = [style for style in STYLES if style in it.styles]
+            written.append(_joint(styles, now, marks))
+            styles, marks = now, ""
+        written.append(it.written)
+    return "".join(written) + _joint(styles, (), marks + "}" * is_open)
