@@ -356,10 +356,6 @@ class ByHand(unittest.TestCase):
         made = Score.parse(self.score.edited().replace(clef, "f3").text())
         self.assertEqual((made.notes[0].degree, made.text), ("re", SCORE.replace("c4", "f3")))
 
-    def test_dump(self) -> None:
-        score = Score.read(compile("%%\n(c4)  a(f&)", "dump").dump)
-        self.assertEqual(score.edited().transpose(2).text(), "%%\n(c4)\na(h)\n")
-
     def test_large(self) -> None:
         """A score of many notes takes no time that grows with their square."""
         text = "%%\n(c4) " + "a(fghgf)e(gh) " * 2_000

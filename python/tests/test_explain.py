@@ -12,6 +12,7 @@ from gregorio_chant import check
 from gregorio_chant.linting.codes import CODES
 from gregorio_chant.linting.repairs import REPAIRS
 from gregorio_chant.linting.rules import RULES, messages_with_rules
+from gregorio_chant.objects.compiled import Compiled
 
 
 def meanings_of_man_page() -> dict[str, str]:
@@ -70,9 +71,10 @@ class Table(unittest.TestCase):
         for rule in RULES.values():
             with self.subTest(rule.name):
                 self.assertIn(
-                    rule.name, [it.code for it in messages_with_rules(rule.score_with(rule.wrong))]
+                    rule.name,
+                    [it.code for it in messages_with_rules(Compiled(rule.score_with(rule.wrong)))],
                 )
-                self.assertEqual(messages_with_rules(rule.score_with(rule.right)), ())
+                self.assertEqual(messages_with_rules(Compiled(rule.score_with(rule.right))), ())
 
 
 class Command(unittest.TestCase):
@@ -125,7 +127,9 @@ class Command(unittest.TestCase):
         for rule in RULES.values():
             silenced = rule.score_with(f"{rule.wrong} % gregorio: ignore-file {rule.name}")
             if rule.name != "unused-ignore" and not rule.after.startswith("\n%%"):
-                self.assertNotIn(rule.name, [it.code for it in messages_with_rules(silenced)])
+                self.assertNotIn(
+                    rule.name, [it.code for it in messages_with_rules(Compiled(silenced))]
+                )
 
     def test_all(self) -> None:
         shown = command("explain", "--all").stdout.decode()

@@ -366,7 +366,7 @@ class Hands(unittest.TestCase):
 
     def test_letters_stand_around(self) -> None:
         """Each of the places around a glyph is another one, on the side that its number says."""
-        hand = hand_of("stgall", "")
+        hand = hand_of("stgall", None)
         for number in (1, 2, 3, 4, 6, 7, 8, 9):
             score = Score.parse(f"name: x;\nnabc-lines: 1;\n%%\n(c4) b(fg|grlsal{number})\n")
             descriptor = score.syllables[1].snippets[1].items[0]
@@ -391,7 +391,7 @@ class Hands(unittest.TestCase):
     def test_rows(self) -> None:
         """Rows of NABC stand over each other and over the notes, and none on another one."""
         score = "name: x;\nnabc-lines: 2;\n%%\n(c4) a(m|vilsal2|to) b(f|cllsc8|vi)\n"
-        (line,) = lay_out(Score.parse(score).syllables, 400.0, hand=hand_of("stgall", ""))
+        (line,) = lay_out(Score.parse(score).syllables, 400.0, hand=hand_of("stgall", None))
         first, second = line.rows
         neumes = [
             it for placed in line.parts for _, block in placed.part.blocks for it in block.neumes

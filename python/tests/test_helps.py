@@ -13,7 +13,7 @@ from gregorio_chant.linting import helps
 from gregorio_chant.linting.codes import CODES
 from gregorio_chant.linting.facts import FACTS, named
 from gregorio_chant.linting.helps import helps_for
-from gregorio_chant.text.source import text_of
+from gregorio_chant.objects.compiled import Compiled
 
 _NABC = "name: a;\nnabc-lines: 1;\n%%\n(c4) "
 _SCORE = "name: a;\n%%\n(c4) "
@@ -138,7 +138,7 @@ HELPS = [
     (
         f"{_SCORE}a({'f' * 20_000}",
         "F5",
-        "the limit is 16,384 bytes: look for a missing ( or ) after 3:7",
+        "the limit is 16,384 bytes: look for a missing ( or ) after 3:5",
     ),
     (
         f"{_SCORE}{'a' * 20_000}",
@@ -155,8 +155,7 @@ def helps_of(score: bytes) -> list[tuple[str, str | None]]:
     """Returns the code and the help of each message."""
     found = check(score).messages
     return [
-        (it.code, help)
-        for it, help in zip(found, helps_for(text_of(score), found, found), strict=True)
+        (it.code, help) for it, help in zip(found, helps_for(Compiled(score), found), strict=True)
     ]
 
 

@@ -6,14 +6,17 @@ import unittest
 
 from support import InFolder, command
 
-from gregorio_chant.linting.checking import check_data
+from gregorio_chant.linting.checking import found_in
+from gregorio_chant.objects.compiled import Compiled
 
 
 def told(score: str, with_rules: bool = False) -> list[tuple[int, str]]:
     """Returns the line and the code of each message of a score, but for those of the rule on
     comments."""
     return [
-        (it.line, it.code) for it in check_data(score.encode(), with_rules) if it.code != "comment"
+        (it.line, it.code)
+        for it in found_in(Compiled(score.encode()), with_rules)
+        if it.code != "comment"
     ]
 
 
@@ -64,7 +67,9 @@ class Ignores(unittest.TestCase):
 
     def test_unused(self) -> None:
         score = "name: a; % gregorio: ignore-file W3, W6\n%%\n(c4) <it>a</it>(g5) % gregorio: ignore E1, E2, W99 F1\n(n) % gregorio: ignore rules\n% gregorio: ignore\n"
-        messages = [it for it in check_data(score.encode(), True) if it.code == "unused-ignore"]
+        messages = [
+            it for it in found_in(Compiled(score.encode()), True) if it.code == "unused-ignore"
+        ]
         self.assertEqual(
             [(it.line, it.column, it.text) for it in messages],
             [

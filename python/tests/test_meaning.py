@@ -42,7 +42,7 @@ class Meaning(unittest.TestCase):
                         width,
                         staff_lines(score.header("staff-lines")),
                         face,
-                        hand_of("auto", ""),
+                        hand_of("auto", None),
                     )
                     seen += self.look_at(score, lines, face)
         self.assertGreater(seen, 1500)

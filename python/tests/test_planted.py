@@ -21,8 +21,9 @@ from slips import SLIPS, Slip
 from support import files_of_scores
 
 from gregorio_chant import Format, Status, compile
-from gregorio_chant.dump import Score
-from gregorio_chant.linting.checking import check_data
+from gregorio_chant.dump import Score, ScoreError
+from gregorio_chant.linting.checking import found_in
+from gregorio_chant.objects.compiled import Compiled
 from gregorio_chant.linting.repairing import How, repair
 
 _SAFE, _ALL = How(with_rules=True), How(allow_unsafe=True, with_rules=True)
@@ -42,10 +43,10 @@ class Read:
 
     @cached_property
     def parts(self) -> str:
-        result = compile(self.text, Format.DUMP)
-        if result.output == "":
+        try:
+            score = Score.parse(self.text)
+        except ScoreError:
             return ""
-        score = Score.read(result.output)
         headers = "".join(f"{it.name}:{it.value}\n" for it in score.headers)
         return headers + "".join(
             "".join(c for c in it.plain if c.isalnum())
@@ -55,7 +56,9 @@ class Read:
 
     @cached_property
     def told(self) -> list[tuple[str, int, int]]:
-        return [(it.code, it.line, it.column) for it in check_data(self.text.encode(), True)]
+        return [
+            (it.code, it.line, it.column) for it in found_in(Compiled(self.text.encode()), True)
+        ]
 
 
 def distance(old: str, new: str, most: int) -> int:

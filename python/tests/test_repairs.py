@@ -13,7 +13,7 @@ from support import EXAMPLES, InFolder, command, scores_of_tables
 
 from gregorio_chant import Status, check
 from gregorio_chant.linting import repairs
-from gregorio_chant.linting.checking import check_data
+from gregorio_chant.linting.checking import found_in
 from gregorio_chant.linting.repairing import How, repair
 from gregorio_chant.linting.repairs import REPAIRS, Edit, Edits
 from gregorio_chant.linting.selection import Selection
@@ -61,7 +61,7 @@ def repaired(score: bytes, how: How) -> bytes:
 
 
 def codes_of(score: bytes) -> Counter[str]:
-    return Counter(it.code for it in check_data(score, True))
+    return Counter(it.code for it in found_in(Compiled(score), True))
 
 
 class Repairs(unittest.TestCase):

@@ -9,13 +9,14 @@ from support import EXAMPLES, InFolder, command, scores_of_tables
 
 from gregorio_chant import Kind, Status, compile
 from gregorio_chant.linting.rules import RULES, messages_with_rules
+from gregorio_chant.objects.compiled import Compiled
 
 
 def found(score: str, name: str) -> list[tuple[int, int, str]]:
     """Returns the places and texts of what a rule finds."""
     return [
         (it.line, it.column, it.text)
-        for it in messages_with_rules(score.encode())
+        for it in messages_with_rules(Compiled(score.encode()))
         if it.code == name
     ]
 
@@ -27,7 +28,7 @@ class Rules(unittest.TestCase):
             score = f"name: a; % b\nstaff-lines:{lines};\n%%\n(c1)  a ({highest}x{highest}5{over}) ({over}+) ({over}#)\n"
             text = told.format(over, lines, highest)
             self.assertEqual(
-                found(score, "outside-staff"), [(4, 13, text), (4, 18, text), (4, 23, text)]
+                found(score, "outside-staff"), [(4, 14, text), (4, 18, text), (4, 23, text)]
             )
         self.assertEqual(found("staff-lines: 5;\n%%\n(c1) (p)", "outside-staff"), [])
         self.assertEqual(found("staff-lines: x;\n%%\n(c1) (p)", "outside-staff"), [])
@@ -41,7 +42,7 @@ class Rules(unittest.TestCase):
 
     def test_nabc_without_header(self) -> None:
         body = "%%\n(c4) a(f&|vi) b(gh)\nc(f[|]|pe!clsu2|) d(f)"
-        messages = messages_with_rules(f"name: a;\n{body}".encode())
+        messages = messages_with_rules(Compiled(f"name: a;\n{body}".encode()))
         self.assertEqual(
             [(it.line, it.column, it.code) for it in messages if it.code != "outside-staff"],
             [(3, 9, "E1"), (3, 10, "nabc-without-header")],
@@ -105,7 +106,7 @@ class Rules(unittest.TestCase):
                 it[:2]
                 for it in found(f"name: a;\nmode: 9;\n mode:{mode};\n%%\n(c4)\n", "unknown-mode")
             ]
-            self.assertEqual(places, [] if is_well else [(3, 1)], mode)
+            self.assertEqual(places, [] if is_well else [(3, 2)], mode)
 
     def test_blank_before_notes(self) -> None:
         score = "name: a;\n%%\n(c4) a (f)b  (g) c(h) (;) <eu> (::) <i>d</i>\n(f) e % f\n(g) $( (h) [a b] (i) g"
@@ -132,7 +133,7 @@ class Rules(unittest.TestCase):
     def test_misspelled_header(self) -> None:
         score = "name: a;\n moed: 1;\nstaff-line: 4;\nlicense: b;\nx: y;\nanotation: c;\ndef-m1: d;\n%%\n(c4) a(f)"
         self.assertEqual(
-            [it[:2] for it in found(score, "misspelled-header")], [(2, 1), (3, 1), (6, 1)]
+            [it[:2] for it in found(score, "misspelled-header")], [(2, 2), (3, 1), (6, 1)]
         )
 
     def test_mode_without_number(self) -> None:
@@ -214,7 +215,7 @@ class Rules(unittest.TestCase):
         order, a fatal fault last."""
         for score in sorted(set(scores_of_tables())):
             with self.subTest(score):
-                messages = messages_with_rules(score)
+                messages = messages_with_rules(Compiled(score))
                 places = [(it.line, it.column) for it in messages if it.kind is not Kind.FATAL]
                 self.assertEqual(places, sorted(places))
                 self.assertEqual(
@@ -228,10 +229,12 @@ class Rules(unittest.TestCase):
                 self.assertNotIn(line["code"], RULES)
 
     def test_fatal_fault(self) -> None:
-        self.assertEqual([it.code for it in messages_with_rules(b"name: a;\n%%\n(c4) a(n")], ["F6"])
+        self.assertEqual(
+            [it.code for it in messages_with_rules(Compiled(b"name: a;\n%%\n(c4) a(n"))], ["F6"]
+        )
 
     def test_order(self) -> None:
-        messages = messages_with_rules(b"%%\n(c4) <x>a</x>(n&) % b\n*(f) a(g) (;)")
+        messages = messages_with_rules(Compiled(b"%%\n(c4) <x>a</x>(n&) % b\n*(f) a(g) (;)"))
         self.assertEqual(
             [(it.line, it.column, it.code) for it in messages],
             [

@@ -6,8 +6,8 @@ import unittest
 
 from test_picture import score_with
 
-from gregorio_chant.dump import Bar, Clef, NoteSnippet, Score
-from gregorio_chant.objects.signs import Episema, signs_of
+from gregorio_chant.dump import Bar, Clef, Note, NoteSnippet, Score
+from gregorio_chant.objects.signs import Episema
 from gregorio_chant.picture import lay_out, staff
 from gregorio_chant.picture.values import Rect, height_of, step_of
 from gregorio_chant.rhythm import episemata_of, morae_of
@@ -56,7 +56,7 @@ class Spelled(unittest.TestCase):
             ("g_0", "episemata", (Episema(1, "under"),)),
             ("g_1", "episemata", (Episema(1, "over"),)),
             ("g_02", "episemata", (Episema(1, "under", is_bridged=False),)),
-            ("g_0_4", "episemata", (Episema(1, "under"), Episema(1, "auto", "centre"))),
+            ("g_0_1", "episemata", (Episema(1, "over"), Episema(1, "under"))),
             ("H_502", "episemata", (Episema(1, "under", "right", False),)),
             ("g~", "liquescence", "deminutus"),
             ("g<", "liquescence", "augmented"),
@@ -70,13 +70,12 @@ class Spelled(unittest.TestCase):
             ("Gr", "is_hollow", True),
             ("Gr1", "is_hollow", False),
             ("G'_.r3", "over_staff", ("circle",)),
-            ("gv_r7r1", "over_staff", ("natural", "accent")),
+            ("gv_r7r1", "over_staff", ("accent", "natural")),
             ("go", "points_up", None),
             ("go0", "points_up", False),
             ("gO1", "points_up", True),
         ):
             with self.subTest(spelling=spelling, name=name):
-                self.assertEqual(getattr(signs_of(spelling), name), value)
                 note = score_with(f"h/{spelling}").notes[-1]
                 self.assertEqual((note.spelling, getattr(note, name)), (spelling, value))
         self.assertEqual(
@@ -120,10 +119,8 @@ class Spelled(unittest.TestCase):
         ):
             snippet = snippet_of(notes)
             covered = episemata_of(snippet.items)
-            here = score_with(notes).syllables[1].notes
-            self.assertEqual(
-                "".join(str(int(it.place.offset in covered)) for it in here), wanted, notes
-            )
+            here = [it for it in snippet.items if isinstance(it, Note)]
+            self.assertEqual("".join(str(int(it in covered)) for it in here), wanted, notes)
 
 
 class Drawn(unittest.TestCase):

@@ -6,7 +6,8 @@ import unittest
 
 from slips import BACK, SCORE, SLIPS, STAYS, Slip
 
-from gregorio_chant.linting.checking import check_data
+from gregorio_chant.linting.checking import found_in
+from gregorio_chant.objects.compiled import Compiled
 from gregorio_chant.linting.helps import helps_for
 from gregorio_chant.linting.repairing import How, repair
 from gregorio_chant.text.source import text_of
@@ -15,16 +16,13 @@ from gregorio_chant.text.source import text_of
 def told_of(score: str) -> list[tuple[str, str]]:
     """Returns the code of each message, and its help, or what a rule says."""
     data = score.encode()
-    found = check_data(data, True)
-    return [
-        (it.code, help or it.text)
-        for it, help in zip(found, helps_for(text_of(data), found, found))
-    ]
+    found = found_in(Compiled(data), True)
+    return [(it.code, help or it.text) for it, help in zip(found, helps_for(Compiled(data), found))]
 
 
 class Slips(unittest.TestCase):
     def test_none(self) -> None:
-        self.assertEqual(check_data(SCORE.encode(), True), ())
+        self.assertEqual(found_in(Compiled(SCORE.encode()), True), ())
 
     def planted(self, slip: Slip) -> str:
         return next(slip.planted(SCORE))

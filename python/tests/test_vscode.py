@@ -17,6 +17,7 @@ from support import EXAMPLES, ROOT, InFolder
 from gregorio_chant._native.library import compile
 from gregorio_chant._native.results import Status
 from gregorio_chant.linting.slips import Subject
+from gregorio_chant.objects.compiled import Compiled
 from gregorio_chant.server.actions import FIX_ALL
 from gregorio_chant.server.completion import TRIGGERS
 from gregorio_chant.server.features import SHOW
@@ -284,7 +285,7 @@ class Grammar(unittest.TestCase):
             if result.status is not Status.WHOLE:
                 continue
             text = path.read_bytes().decode().replace("\r\n", "\n").replace("\ufeff", "")
-            subject = Subject(text, result.messages)
+            subject = Subject(Compiled(path.read_bytes()))
             reader = _Grammar(grammar)
             for line_number, line in enumerate(text.split("\n"), 1):
                 reader.read(line, line_number)
@@ -294,7 +295,7 @@ class Grammar(unittest.TestCase):
                 if name == "meta.notes.gabc"
             ]
             wanted = []
-            for it in subject.scan.syllables:
+            for it in subject.parts.syllables:
                 if it.notes < it.end:
                     begin, end = subject.lines.place(it.notes), subject.lines.place(it.end - 1)
                     wanted += [
@@ -307,7 +308,7 @@ class Grammar(unittest.TestCase):
             ]
             self.assertEqual(
                 headers,
-                [subject.lines.place(it.begin).line for it in subject.scan.headers],
+                [subject.lines.place(it.begin).line for it in subject.parts.headers],
                 path.name,
             )
             number += len(notes)

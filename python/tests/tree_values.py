@@ -4,9 +4,11 @@ from __future__ import annotations
 import re
 from collections.abc import Callable
 
+from spelled_signs import spelled_signs
+
 from gregorio_chant._native.node_kinds import NodeKind
 from gregorio_chant._native.nodes import Node, Tree
-from gregorio_chant.objects.signs import AUTO, OVER, UNDER, NoteSigns, signs_of
+from gregorio_chant.objects.signs import AUTO, OVER, UNDER, NoteSigns
 
 _HEIGHTS = "abcdefghijklmnp"
 _SIDES = {None: 0, AUTO: 1, OVER: 2, UNDER: 3}
@@ -195,7 +197,7 @@ def check_values(made: Tree) -> None:
     """Raises `ValueError` unless the numbers of each node say what its spelling does."""
     for node in made:
         if node.kind == NodeKind.NOTE:
-            said, spelled = numbers_in(node), numbers_of(signs_of(node.kept))
+            said, spelled = numbers_in(node), numbers_of(spelled_signs(node.kept))
         elif node.kind in _READERS:
             said, spelled = _said(node), _READERS[node.kind](node.kept)
         else:

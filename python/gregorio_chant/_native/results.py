@@ -14,7 +14,7 @@ class Format(enum.Enum):
     DUMP = "dump"
 
 
-class Kind(enum.Enum):
+class Kind(str, enum.Enum):
     """The severity of a message."""
 
     WARNING = "warning"

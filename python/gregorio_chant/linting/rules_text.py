@@ -39,7 +39,8 @@ _NO_LETTERS = NOT_KEPT - {NodeKind.LEFT_OUT} | {
 
 def comment(subject: Subject) -> Iterator[Found]:
     for it in subject.comments:
-        yield Found(it.begin, "the canonical form does not keep this comment")
+        begin = it.end - len(it.source.lstrip())
+        yield Found(begin, "the canonical form does not keep this comment")
 
 
 def blank_before_notes(subject: Subject) -> Iterator[Found]:
