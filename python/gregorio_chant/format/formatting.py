@@ -12,10 +12,9 @@ from functools import partial
 from gregorio_chant._native.results import Status
 from gregorio_chant.format.judge import Reading, objection
 from gregorio_chant.format.layout import laid_out
-from gregorio_chant.format.losses import Loss
+from gregorio_chant.format.losses import Loss, losses_of
 from gregorio_chant.objects.compiled import Compiled
 from gregorio_chant.report.reports import counted
-from gregorio_chant.text.scan import without_blanks
 from gregorio_chant.work.files import Content, FileChanged, Reader, replace
 from gregorio_chant.work.processes import by_processes
 from gregorio_chant.work.progress import Shown, bar
@@ -129,13 +128,8 @@ def formatted(data: bytes, style: Style, allow: frozenset[str] = frozenset()) ->
 
 
 def _canonical(score: Compiled, allow: frozenset[str]) -> Formatted:
-    data = score.canonical.encode("utf-8")
-    losses = (
-        []
-        if without_blanks(score.data.decode("utf-8")) == without_blanks(score.canonical)
-        else score.comparison.losses()
-    )
-    return Formatted(data, tuple(it for it in losses if it.reason not in allow))
+    losses = (it for it in losses_of(score) if it.reason not in allow)
+    return Formatted(score.canonical.encode("utf-8"), tuple(losses))
 
 
 @dataclass(frozen=True)

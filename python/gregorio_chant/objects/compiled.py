@@ -11,7 +11,7 @@ from gregorio_chant._native.nodes import Tree
 from gregorio_chant._native.results import Format, Message, Report, Result, Status
 from gregorio_chant._native.runs import Limits, Run
 from gregorio_chant._native.trees import tree
-from gregorio_chant.format.losses import Comparison
+from gregorio_chant.objects.comparison import Comparison
 from gregorio_chant.text.source import Lines, text_of
 
 if TYPE_CHECKING:
