@@ -52,7 +52,7 @@ class Documents(InFolder):
     def test_options(self) -> None:
         """Each option of the command stands in the page, and no other."""
         helps = "".join(
-            command(*it, "--help").stdout.decode() for it in ((), *((it.NAME,) for it in COMMANDS))
+            command(*it, "--help").stdout.decode() for it in ((), *((it,) for it in COMMANDS))
         )
         options = set(re.findall(r"(?<![\w.-])--[a-z][a-z-]+", PAGE + OBJECTS)) - {
             "--no-deps",
@@ -158,7 +158,7 @@ class Documents(InFolder):
     def test_each_help_says_what_is_not_proved(self) -> None:
         for words in (
             ["--help"],
-            *([it.NAME, "--help"] for it in COMMANDS if it.NAME not in ("explain", "version")),
+            *([it, "--help"] for it in COMMANDS if it not in ("explain", "version")),
         ):
             self.assertRegex(
                 command(*words).stdout.decode().replace("\n", " "),

@@ -6,6 +6,8 @@ import re
 from collections.abc import Iterator
 from dataclasses import dataclass, field
 
+from gregorio_chant.errors import GregorioError
+
 
 class Format(enum.Enum):
     """The format of the output."""
@@ -32,12 +34,12 @@ class Status(enum.IntEnum):
     BROKEN = 4
 
 
-class StateError(ValueError):
+class StateError(GregorioError, ValueError):
     """Bytes that are no state of a run, or the state of a run with another format or other
     warnings."""
 
 
-class RunOverError(RuntimeError):
+class RunOverError(GregorioError, RuntimeError):
     """A call of a run that is over."""
 
 

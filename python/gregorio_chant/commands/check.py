@@ -4,26 +4,25 @@ from __future__ import annotations
 import argparse
 
 from gregorio_chant.commands.words import (
-    KNOWN,
     OUTSIDE,
-    STATUSES,
     Parser,
     add_jobs,
     add_no_config,
     add_paths,
-    examples,
+    epilog,
+    known,
     paths_of,
     settings_of,
 )
+from gregorio_chant.errors import UsageError
 from gregorio_chant.linting import checking
 from gregorio_chant.linting.fixing import fix_files
-from gregorio_chant.linting.selection import UnknownCode, codes_in
+from gregorio_chant.linting.selection import codes_in
 from gregorio_chant.work.settings import Chosen
 from gregorio_chant.work.streams import STDIN
 
-NAME = "check"
-_ABOUT = f"Checks scores, and says what to write instead of each mistake. It writes no file without --fix. {OUTSIDE}"
-_EXAMPLES = examples(
+ABOUT = f"Checks scores, and says what to write instead of each mistake. It writes no file without --fix. {OUTSIDE}"
+EPILOG = epilog(
     (
         "gregorio-chant check scores",
         "gregorio-chant check --select E,F --exclude drafts/ scores",
@@ -32,76 +31,69 @@ _EXAMPLES = examples(
 )
 
 
-def add(commands: argparse._SubParsersAction[Parser]) -> Parser:
+def add(parser: Parser) -> None:
     """Adds the arguments of `check`."""
-    it = commands.add_parser(
-        NAME,
-        help="check scores, and repair them",
-        description=_ABOUT,
-        epilog=f"{_EXAMPLES}\n\n{STATUSES}",
-    )
-    add_paths(it)
-    it.add_argument(
+    add_paths(parser)
+    parser.add_argument(
         "--output-format",
         choices=checking.FORMS,
         default="text",
         metavar="FORM",
         help="text with the line of the score (default), lines for editors, json, github or sarif",
     )
-    it.add_argument(
+    parser.add_argument(
         "--select",
         metavar="CODES",
         help="report only these: codes with commas between them; E, W or F is a whole kind, rules are all rules",
     )
-    it.add_argument(
+    parser.add_argument(
         "--ignore", metavar="CODES", help="do not report these; a fatal fault is always reported"
     )
-    it.add_argument(
+    parser.add_argument(
         "--fail-on", metavar="CODES", help="end with status 1 if one of these is reported"
     )
-    it.add_argument(
+    parser.add_argument(
         "--rules",
         action="store_true",
         help="also try the rules, for mistakes that the language allows; explain --all lists them",
     )
-    it.add_argument(
+    parser.add_argument(
         "--fix",
         action="store_true",
         help="repair the files first, then report the rest; no note and no sung letter changes",
     )
-    it.add_argument(
+    parser.add_argument(
         "--unsafe-fixes",
         action="store_true",
         help="with --fix: also guess, as where a bracket is missing; each guess says what it changes",
     )
-    it.add_argument(
+    parser.add_argument(
         "--diff",
         action="store_true",
         help="with --fix: write no file, and show the changes as a diff",
     )
-    add_jobs(it)
-    add_no_config(it)
-    it.add_argument("--quiet", action="store_true", help="write no summary")
-    return it
+    add_jobs(parser)
+    add_no_config(parser)
+    parser.add_argument("--quiet", action="store_true", help="write no summary")
 
 
 def _codes(word: str | None) -> frozenset[str] | None:
-    return None if word is None else codes_in(word, KNOWN)
+    return None if word is None else codes_in(word, known())
 
 
 def _fix(words: argparse.Namespace, options: checking.Options) -> int:
     """Repairs files where that is asked for."""
     if not words.fix:
         if words.unsafe_fixes or words.diff:
-            raise UnknownCode("--unsafe-fixes and --diff are for --fix")
+            raise UsageError("--unsafe-fixes and --diff are for --fix")
         return 0
     if words.staged or STDIN in words.paths:
-        raise UnknownCode(f"--fix writes files, so it takes neither --staged nor {STDIN}")
+        raise UsageError(f"--fix writes files, so it takes neither --staged nor {STDIN}")
     return fix_files(options, words.unsafe_fixes, words.diff)
 
 
 def run(words: argparse.Namespace) -> int:
-    """Checks the files. Raises `UnknownCode`, `WriteError`, `MissingDependency`, `GitError` and
+    """Checks the files. Raises `UsageError`, `WriteError`, `MissingDependency`, `GitError` and
     `SettingsError`."""
     chosen = Chosen(_codes(words.select), _codes(words.ignore), _codes(words.fail_on))
     options = checking.Options(

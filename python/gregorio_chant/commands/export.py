@@ -5,27 +5,25 @@ import argparse
 
 from gregorio_chant.commands.words import (
     OUTSIDE,
-    STATUSES,
     Parser,
     add_files,
     add_no_config,
-    examples,
+    epilog,
     paths_of,
     positive,
     settings_of,
 )
+from gregorio_chant.errors import UsageError
 from gregorio_chant.export import Way, mei, musicxml, volpiano
 from gregorio_chant.export.exporting import Options, export
-from gregorio_chant.linting.selection import UnknownCode
 from gregorio_chant.work.needs import need
 
-NAME = "export"
 _TEMPO = 140
 # The formats but MIDI, which wants a package.
 _WAYS = {it.name: it for it in (volpiano.WAY, musicxml.WAY, mei.WAY)}
-_ABOUT = f"""Writes scores in another format, into files with the same name and another ending: volpiano (.volpiano) for chant databases, musicxml (.musicxml) for
+ABOUT = f"""Writes scores in another format, into files with the same name and another ending: volpiano (.volpiano) for chant databases, musicxml (.musicxml) for
 editors of modern notation, mei (.mei) for scholars, midi (.mid) for listening. A line names each kind of sign that the format loses. {OUTSIDE}"""
-_EXAMPLES = examples(
+EPILOG = epilog(
     (
         "gregorio-chant export --to musicxml score.gabc",
         "gregorio-chant export --to volpiano - <score.gabc",
@@ -34,38 +32,31 @@ _EXAMPLES = examples(
 )
 
 
-def add(commands: argparse._SubParsersAction[Parser]) -> Parser:
+def add(parser: Parser) -> None:
     """Adds the arguments of `export`."""
-    it = commands.add_parser(
-        NAME,
-        help="write scores as Volpiano, MusicXML, MEI or MIDI",
-        description=_ABOUT,
-        epilog=f"{_EXAMPLES}\n\n{STATUSES}",
-    )
-    it.add_argument(
+    parser.add_argument(
         "--to",
         choices=(*_WAYS, "midi"),
         required=True,
         metavar="FORMAT",
         help="volpiano, musicxml, mei or midi",
     )
-    add_files(it, ", which is written to standard output")
-    it.add_argument(
+    add_files(parser, ", which is written to standard output")
+    parser.add_argument(
         "--folder",
         metavar="DIR",
         help="write the files into this folder, and not beside the scores",
     )
-    it.add_argument("--force", action="store_true", help="replace files that are there already")
-    it.add_argument(
+    parser.add_argument("--force", action="store_true", help="replace files that are there already")
+    parser.add_argument(
         "--tempo",
         type=positive,
         default=_TEMPO,
         metavar="N",
         help="with midi: notes per minute (default %(default)s)",
     )
-    add_no_config(it)
-    it.add_argument("--quiet", action="store_true", help="write no summary")
-    return it
+    add_no_config(parser)
+    parser.add_argument("--quiet", action="store_true", help="write no summary")
 
 
 def _midi(notes_a_minute: int) -> Way:
@@ -76,10 +67,10 @@ def _midi(notes_a_minute: int) -> Way:
 
 
 def run(words: argparse.Namespace) -> int:
-    """Writes the files. Raises `UnknownCode`, `WriteError`, `MissingDependency` and
+    """Writes the files. Raises `UsageError`, `WriteError`, `MissingDependency` and
     `SettingsError`."""
     if words.tempo > 1_000:
-        raise UnknownCode(f"--tempo {words.tempo}: at most 1,000 notes a minute")
+        raise UsageError(f"--tempo {words.tempo}: at most 1,000 notes a minute")
     paths = paths_of(words)
     way = _WAYS[words.to] if words.to in _WAYS else _midi(words.tempo)
     return export(

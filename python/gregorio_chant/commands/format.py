@@ -5,26 +5,24 @@ import argparse
 
 from gregorio_chant.commands.words import (
     OUTSIDE,
-    STATUSES,
     Parser,
     add_jobs,
     add_no_config,
     add_paths,
-    examples,
+    epilog,
     paths_of,
     positive,
     settings_of,
 )
+from gregorio_chant.errors import UsageError
 from gregorio_chant.format import formatting
 from gregorio_chant.format.losses import REASONS
-from gregorio_chant.linting.selection import UnknownCode
 from gregorio_chant.text.nearest import did_you_mean
 
-NAME = "format"
-_ABOUT = f"""Writes headers and syllables in canonical spelling, and keeps lines, empty lines and comments. A part with a message keeps its
+ABOUT = f"""Writes headers and syllables in canonical spelling, and keeps lines, empty lines and comments. A part with a message keeps its
 spelling. A file is written only if the compiler gives the same canonical form, dump and messages for the new text. The new file is written beside the
 old one, and then replaces it. {OUTSIDE}"""
-_EXAMPLES = examples(
+EPILOG = epilog(
     (
         "gregorio-chant format scores",
         "gregorio-chant format --check --exclude drafts/ scores",
@@ -33,67 +31,60 @@ _EXAMPLES = examples(
 )
 
 
-def add(commands: argparse._SubParsersAction[Parser]) -> Parser:
+def add(parser: Parser) -> None:
     """Adds the arguments of `format`."""
-    it = commands.add_parser(
-        NAME,
-        help="write files in canonical spelling, with the lines and comments of their editor",
-        description=_ABOUT,
-        epilog=f"{_EXAMPLES}\n\n{STATUSES}",
-    )
-    add_paths(it, ", which is written to standard output", "with --check or --diff: ")
-    it.add_argument(
+    add_paths(parser, ", which is written to standard output", "with --check or --diff: ")
+    parser.add_argument(
         "--check",
         action="store_true",
         help="write nothing; end with status 1 if a file would change",
     )
-    it.add_argument(
+    parser.add_argument(
         "--diff",
         action="store_true",
         help="write no file, and show the changes as a diff; end with status 1 if there are any",
     )
-    it.add_argument(
+    parser.add_argument(
         "--wrap",
         type=positive,
         metavar="N",
         help="break lines of more than N characters between words",
     )
-    it.add_argument(
+    parser.add_argument(
         "--canonical",
         action="store_true",
         help="write the canonical form, one word on each line and no comments, if only blanks change",
     )
-    it.add_argument(
+    parser.add_argument(
         "--allow",
         metavar="REASONS",
         default="",
         help=f"with --canonical: allow these losses, with commas between them: {', '.join(sorted(REASONS))}",
     )
-    add_jobs(it)
-    add_no_config(it)
-    it.add_argument("--quiet", action="store_true", help="write no summary")
-    return it
+    add_jobs(parser)
+    add_no_config(parser)
+    parser.add_argument("--quiet", action="store_true", help="write no summary")
 
 
 def _allowed(words: argparse.Namespace) -> frozenset[str]:
-    """Returns the reasons of `--allow`. Raises `UnknownCode` for other words, and for words that
+    """Returns the reasons of `--allow`. Raises `UsageError` for other words, and for words that
     do not go together."""
     allow = frozenset(it.strip() for it in words.allow.split(",") if it.strip())
     for word in sorted(allow - REASONS):
-        raise UnknownCode(
+        raise UsageError(
             f"--allow {word}: nothing goes for this; {did_you_mean(word, REASONS, '--help lists the reasons')}"
         )
     if words.canonical and words.wrap is not None:
-        raise UnknownCode("--wrap is not for --canonical, which has a word on each line")
+        raise UsageError("--wrap is not for --canonical, which has a word on each line")
     if allow and not words.canonical:
-        raise UnknownCode("--allow is for --canonical: without it nothing goes")
+        raise UsageError("--allow is for --canonical: without it nothing goes")
     if words.staged and not (words.check or words.diff):
-        raise UnknownCode("--staged writes nothing, so it wants --check or --diff")
+        raise UsageError("--staged writes nothing, so it wants --check or --diff")
     return allow
 
 
 def run(words: argparse.Namespace) -> int:
-    """Formats the files. Raises `UnknownCode`, `WriteError`, `MissingDependency`, `GitError` and
+    """Formats the files. Raises `UsageError`, `WriteError`, `MissingDependency`, `GitError` and
     `SettingsError`."""
     allow = _allowed(words)
     style = formatting.Style(words.canonical, words.wrap)

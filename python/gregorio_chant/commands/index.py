@@ -3,14 +3,14 @@ from __future__ import annotations
 
 import argparse
 
-from gregorio_chant.commands.words import OUTSIDE, STATUSES, Parser, add_table, examples, table_of
+from gregorio_chant.commands.table_words import add_table, table_of
+from gregorio_chant.commands.words import OUTSIDE, Parser, epilog
 from gregorio_chant.tables.indexing import Index
 from gregorio_chant.tables.tables import write_table
 
-NAME = "index"
-_ABOUT = f"""Writes a row for each score: its name, office part and mode, its first words and degrees, its last, lowest and highest degree, the steps between the
+ABOUT = f"""Writes a row for each score: its name, office part and mode, its first words and degrees, its last, lowest and highest degree, the steps between the
 lowest and the highest, and its beginning in Volpiano. {OUTSIDE}"""
-_EXAMPLES = examples(
+EPILOG = epilog(
     (
         "gregorio-chant index scores",
         "gregorio-chant index --header book,commentary --output-format csv scores >index.csv",
@@ -19,27 +19,20 @@ _EXAMPLES = examples(
 )
 
 
-def add(commands: argparse._SubParsersAction[Parser]) -> Parser:
+def add(parser: Parser) -> None:
     """Adds the arguments of `index`."""
-    it = commands.add_parser(
-        NAME,
-        help="write a row for each score, with its first words and degrees",
-        description=_ABOUT,
-        epilog=f"{_EXAMPLES}\n\n{STATUSES}",
-    )
-    it.add_argument(
+    parser.add_argument(
         "--header",
         action="append",
         default=[],
         metavar="NAMES",
         help="add a column for each of these headers, with commas between them, as book,commentary",
     )
-    add_table(it)
-    return it
+    add_table(parser)
 
 
 def run(words: argparse.Namespace) -> int:
-    """Writes the rows. Raises `UnknownCode`, `WriteError`, `MissingDependency` and
+    """Writes the rows. Raises `UsageError`, `WriteError`, `MissingDependency` and
     `SettingsError`."""
     make = Index.of(words.header)
     return write_table(table_of(words), make.columns, make)

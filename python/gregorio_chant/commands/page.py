@@ -3,22 +3,15 @@ from __future__ import annotations
 
 import argparse
 
-from gregorio_chant.commands.words import (
-    OUTSIDE,
-    STATUSES,
-    Parser,
-    add_no_config,
-    examples,
-    settings_of,
-)
+from gregorio_chant.commands.words import OUTSIDE, Parser, add_no_config, epilog, settings_of
 from gregorio_chant.work.needs import need
 from gregorio_chant.work.streams import STDIN
 
 NAME = "page"
 _MOST_PORT = 65_535
-_ABOUT = f"""Serves a page in which you write, paste or drop a score. While you type it shows the picture, the messages, the canonical form and the dump. The
+ABOUT = f"""Serves a page in which you write, paste or drop a score. While you type it shows the picture, the messages, the canonical form and the dump. The
 page is for this machine alone, and keeps no score. The first line of standard output is its address. Control-C ends it. {OUTSIDE}"""
-_EXAMPLES = examples(
+EPILOG = epilog(
     ("gregorio-chant page", "gregorio-chant page --port 8080", "gregorio-chant page --rules")
 )
 
@@ -31,24 +24,17 @@ def port(word: str) -> int:
     return number
 
 
-def add(commands: argparse._SubParsersAction[Parser]) -> Parser:
+def add(parser: Parser) -> None:
     """Adds the arguments of `page`."""
-    it = commands.add_parser(
-        NAME,
-        help="serve a page to write a score in, with its picture",
-        description=_ABOUT,
-        epilog=f"{_EXAMPLES}\n\n{STATUSES}",
-    )
-    it.add_argument(
+    parser.add_argument(
         "--port",
         type=port,
         default=0,
         metavar="N",
         help="serve at this port (default 0: any free port)",
     )
-    it.add_argument("--rules", action="store_true", help="also try the rules")
-    add_no_config(it)
-    return it
+    parser.add_argument("--rules", action="store_true", help="also try the rules")
+    add_no_config(parser)
 
 
 def run(words: argparse.Namespace) -> int:

@@ -5,20 +5,16 @@ import argparse
 
 from gregorio_chant.commands.words import OUTSIDE, Parser, add_no_config, settings_of
 
-NAME = "server"
-_ABOUT = (
+ABOUT = (
     f"Serves an editor by the language server protocol over standard input and output. {OUTSIDE}"
 )
+EPILOG = ""
 
 
-def add(commands: argparse._SubParsersAction[Parser]) -> Parser:
+def add(parser: Parser) -> None:
     """Adds the arguments of `server`."""
-    it = commands.add_parser(
-        NAME, help="serve an editor by the language server protocol", description=_ABOUT
-    )
-    it.add_argument("--rules", action="store_true", help="also try the rules")
-    add_no_config(it)
-    return it
+    parser.add_argument("--rules", action="store_true", help="also try the rules")
+    add_no_config(parser)
 
 
 def run(words: argparse.Namespace) -> int:

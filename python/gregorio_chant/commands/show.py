@@ -5,34 +5,27 @@ import argparse
 
 from gregorio_chant.commands.words import (
     OUTSIDE,
-    STATUSES,
     Parser,
     add_files,
     add_no_config,
-    examples,
+    epilog,
     paths_of,
     positive,
     settings_of,
 )
-from gregorio_chant.linting.selection import UnknownCode
+from gregorio_chant.errors import UsageError
 from gregorio_chant.picture import OWN, USUAL_WIDTH, Face, Look
 from gregorio_chant.picture.nabc import AUTO, NAMES
 from gregorio_chant.picture.symbols import square_face
 from gregorio_chant.show import showing
 from gregorio_chant.work.needs import need
-from gregorio_chant.work.streams import (
-    CANNOT_READ_OR_WRITE,
-    is_terminal,
-    printable,
-    reason_of,
-    tell,
-)
+from gregorio_chant.work.statuses import CANNOT_READ_OR_WRITE
+from gregorio_chant.work.streams import is_terminal, printable, reason_of, tell
 
-NAME = "show"
-_ABOUT = f"""Writes a page with a picture of each score, its messages and its source. The page needs no script and no network. From folders only the scores
+ABOUT = f"""Writes a page with a picture of each score, its messages and its source. The page needs no script and no network. From folders only the scores
 with messages are shown, at most {showing.MOST} of them. With -o FOLDER/ each score has a page, and an index leads to them. The picture is a view of the
 score, and no typesetting. {OUTSIDE}"""
-_EXAMPLES = examples(
+EPILOG = epilog(
     (
         "gregorio-chant show -o page.html score.gabc",
         "gregorio-chant show -o pages/ scores",
@@ -41,81 +34,72 @@ _EXAMPLES = examples(
 )
 
 
-def add(commands: argparse._SubParsersAction[Parser]) -> Parser:
+def add(parser: Parser) -> None:
     """Adds the arguments of `show`."""
-    it = commands.add_parser(
-        NAME,
-        help="write pictures of scores, with their messages, as a page",
-        description=_ABOUT,
-        epilog=f"{_EXAMPLES}\n\n{STATUSES}",
-    )
-    add_files(it)
-    it.add_argument(
+    add_files(parser)
+    parser.add_argument(
         "-o",
         "--output",
         metavar="FILE",
         help="write the page into this file; into a folder, or a name that ends in /, write an index and a page for each score",
     )
-    it.add_argument(
+    parser.add_argument(
         "--svg", action="store_true", help="write only the picture of one score, as SVG"
     )
-    it.add_argument(
+    parser.add_argument(
         "--width",
         type=positive,
         default=int(USUAL_WIDTH),
         metavar="N",
         help="the width of a picture in pixels (default %(default)s)",
     )
-    it.add_argument(
+    parser.add_argument(
         "--face",
         choices=("square", "plain"),
         default="square",
         help="draw square notes as chant books have them, or in plain shapes (default %(default)s)",
     )
-    it.add_argument(
+    parser.add_argument(
         "--neumes",
         choices=NAMES,
         default=AUTO,
         metavar="HAND",
         help=f"the hand of NABC: {', '.join(NAMES)}; auto (default) chooses it by the score",
     )
-    it.add_argument(
+    parser.add_argument(
         "--font",
         metavar="FILE",
         help="draw neumes with this font, which must have GregorioTeX's glyph names, as greciliae.ttf",
     )
-    it.add_argument(
+    parser.add_argument(
         "--no-initial",
         action="store_true",
         help="leave the first letter in the text, whatever initial-style says",
     )
-    it.add_argument(
+    parser.add_argument(
         "--no-messages",
         action="store_true",
         help="leave out the messages, and the line about signs that are not drawn",
     )
-    it.add_argument(
+    parser.add_argument(
         "--play",
         action="store_true",
         help="let the page sing each score, with a script; a double click on a syllable begins there",
     )
-    it.add_argument(
+    parser.add_argument(
         "--watch",
         action="store_true",
         help="write the page again when a score changes, until Control-C ends it",
     )
-    it.add_argument("--rules", action="store_true", help="also try the rules")
-    add_no_config(it)
-    return it
+    parser.add_argument("--rules", action="store_true", help="also try the rules")
+    add_no_config(parser)
 
 
 def run(words: argparse.Namespace) -> int:
-    """Writes the page. Raises `UnknownCode`, also if a page would go to a terminal, `WriteError`,
+    """Writes the page. Raises `UsageError`, also if a page would go to a terminal, `WriteError`,
     `MissingDependency` and `SettingsError`."""
     if words.output is None and is_terminal():
-        raise UnknownCode(
-            "a page is not for a terminal: write it into a file, as with -o page.html"
-        )
+        raise UsageError("a page is not for a terminal: write it into a file, as with -o page.html")
     try:
         face = (
             _face_of(words.font)
@@ -163,6 +147,6 @@ def _face_of(font: str) -> Face:
     try:
         return face_of(font)
     except NoFace:
-        raise UnknownCode(
+        raise UsageError(
             f"--font {printable(font)}: it is no font with the glyph names of GregorioTeX, as greciliae.ttf"
         ) from None

@@ -8,15 +8,12 @@ from gregorio_chant.commands.words import Parser
 from gregorio_chant.work.streams import NAME as COMMAND
 from gregorio_chant.work.streams import write
 
-NAME = "version"
-_ABOUT = "Writes the versions of the command and of its library, and the commit and the kit from which the library was built."
+ABOUT = "Writes the versions of the command and of its library, and the commit and the kit from which the library was built."
+EPILOG = ""
 
 
-def add(commands: argparse._SubParsersAction[Parser]) -> Parser:
+def add(parser: Parser) -> None:
     """Adds the sub-command `version`, which has no arguments."""
-    return commands.add_parser(
-        NAME, help="write the versions of the command and of its library", description=_ABOUT
-    )
 
 
 def run(words: argparse.Namespace) -> int:

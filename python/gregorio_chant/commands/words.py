@@ -6,20 +6,17 @@ import itertools
 import os
 import textwrap
 from collections.abc import Iterable, Sequence
-from typing import Any, NoReturn, Protocol
+from typing import TYPE_CHECKING, Any, NoReturn, Protocol
 
-from gregorio_chant.linting.codes import CODES
-from gregorio_chant.linting.rules import RULES
-from gregorio_chant.linting.selection import UnknownCode
-from gregorio_chant.tables.tables import FORMS, Options
+from gregorio_chant.errors import UsageError
 from gregorio_chant.text.nearest import did_you_mean
-from gregorio_chant.work.settings import NAME as SETTINGS
-from gregorio_chant.work.settings import Finder, NoSettings
+from gregorio_chant.work.keys import FILE
+from gregorio_chant.work.statuses import REFUSED
 from gregorio_chant.work.streams import STDIN, tell, write
 
-REFUSED = 3
-# All codes and rules.
-KNOWN = frozenset((*CODES, *RULES))
+if TYPE_CHECKING:
+    from gregorio_chant.work.settings import Finder
+
 OUTSIDE = "The compiler is proved; this command is tested."
 STATUSES = """exit status, the highest of: 0 no error, 1 errors (format: a file would change or was refused), 2 a fatal fault,
 3 wrong arguments or a missing package, 4 a file could not be read or written, 5 no memory"""
@@ -74,12 +71,14 @@ class Parser(argparse.ArgumentParser):
 
 
 class Command(Protocol):
-    """A module of a sub-command."""
+    """A module of a sub-command: what its help says before and after the arguments, these, and what
+    it does."""
 
-    NAME: str
+    ABOUT: str
+    EPILOG: str
 
-    def add(self, commands: argparse._SubParsersAction[Parser]) -> Parser:
-        """Adds the arguments of the sub-command, and returns their parser."""
+    def add(self, parser: Parser) -> None:
+        """Adds the arguments of the sub-command."""
 
     def run(self, words: argparse.Namespace) -> int:
         """Runs the sub-command with these arguments, and returns the exit status."""
@@ -88,6 +87,20 @@ class Command(Protocol):
 def examples(lines: Iterable[str]) -> str:
     """Returns the part of a help with lines to copy."""
     return "\n".join(["examples:", *(f"    {it}" for it in lines)])
+
+
+def epilog(lines: Iterable[str]) -> str:
+    """Returns what stands after the arguments of a command that has a status: lines to copy, and
+    what each status says."""
+    return f"{examples(lines)}\n\n{STATUSES}"
+
+
+def known() -> frozenset[str]:
+    """Returns all codes and rules."""
+    from gregorio_chant.linting.codes import CODES
+    from gregorio_chant.linting.rules import RULES
+
+    return frozenset((*CODES, *RULES))
 
 
 def add_files(parser: Parser, more: str = "") -> None:
@@ -121,58 +134,24 @@ def add_jobs(parser: Parser) -> None:
 
 def add_no_config(parser: Parser) -> None:
     """Adds `--no-config`."""
-    parser.add_argument("--no-config", action="store_true", help=f"read no {SETTINGS}")
+    parser.add_argument("--no-config", action="store_true", help=f"read no {FILE}")
 
 
 def settings_of(words: argparse.Namespace) -> Finder:
     """Returns the finder of settings."""
-    return NoSettings() if words.no_config else Finder(KNOWN)
+    from gregorio_chant.work.settings import Finder, NoSettings
+
+    return NoSettings() if words.no_config else Finder(known())
 
 
 def paths_of(words: argparse.Namespace) -> tuple[str, ...]:
-    """Returns the files and folders that are named. Raises `UnknownCode` if there are none and
+    """Returns the files and folders that are named. Raises `UsageError` if there are none and
     `--staged` is not given."""
     if not words.paths and not getattr(words, "staged", False):
-        raise UnknownCode(
+        raise UsageError(
             "a PATH is needed, or --staged" if "staged" in words else "a PATH is needed"
         )
     return tuple(words.paths)
-
-
-def add_table(parser: Parser) -> None:
-    """Adds the arguments of a table over files."""
-    add_files(parser)
-    parser.add_argument(
-        "--output-format",
-        choices=FORMS,
-        default="text",
-        metavar="FORM",
-        help="text (default), csv or json",
-    )
-    parser.add_argument(
-        "--bom",
-        action="store_true",
-        help="with csv: begin with a byte order mark, as some spreadsheets need it for accents",
-    )
-    add_jobs(parser)
-    add_no_config(parser)
-    parser.add_argument("--quiet", action="store_true", help="write no summary")
-
-
-def table_of(words: argparse.Namespace) -> Options:
-    """Returns the options of a table. Raises `UnknownCode` if no path is named, and for `--bom`
-    without CSV."""
-    if words.bom and words.output_format != "csv":
-        raise UnknownCode("--bom is for --output-format csv")
-    return Options(
-        paths_of(words),
-        words.output_format,
-        words.jobs,
-        tuple(words.exclude),
-        settings_of(words),
-        words.quiet,
-        words.bom,
-    )
 
 
 def positive(word: str) -> int:

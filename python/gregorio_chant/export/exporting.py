@@ -11,7 +11,8 @@ from gregorio_chant.objects.score import Score, ScoreError
 from gregorio_chant.report.reports import counted
 from gregorio_chant.work.files import Reader, write
 from gregorio_chant.work.settings import Finder
-from gregorio_chant.work.streams import CANNOT_READ_OR_WRITE, STDIN, reason_of, tell, write_bytes
+from gregorio_chant.work.statuses import CANNOT_READ_OR_WRITE
+from gregorio_chant.work.streams import STDIN, reason_of, tell, write_bytes
 from gregorio_chant.work.walk import find_scores
 
 _ERRORS = 1

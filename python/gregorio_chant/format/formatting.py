@@ -20,17 +20,9 @@ from gregorio_chant.work.processes import by_processes
 from gregorio_chant.work.progress import Shown, bar
 from gregorio_chant.work.settings import Finder, NoSettings, Settings
 from gregorio_chant.work.staged import StagedFiles
-from gregorio_chant.work.streams import (
-    CANNOT_READ_OR_WRITE,
-    STDIN,
-    printable,
-    reason_of,
-    tell,
-    write_data,
-)
+from gregorio_chant.work.statuses import CANNOT_READ_OR_WRITE, NO_MEMORY
+from gregorio_chant.work.streams import STDIN, printable, reason_of, tell, write_data
 from gregorio_chant.work.walk import find_scores
-
-NO_MEMORY = 5
 
 
 @dataclass(frozen=True)

@@ -23,10 +23,10 @@ from gregorio_chant.work.processes import by_processes
 from gregorio_chant.work.progress import bar
 from gregorio_chant.work.settings import Chosen, Finder, NoSettings
 from gregorio_chant.work.staged import StagedFiles
-from gregorio_chant.work.streams import CANNOT_READ_OR_WRITE, reason_of, tell, write
+from gregorio_chant.work.statuses import CANNOT_READ_OR_WRITE, NO_MEMORY
+from gregorio_chant.work.streams import reason_of, tell, write
 from gregorio_chant.work.walk import find_scores
 
-NO_MEMORY = 5
 FORMS = ("text", "lines", "json", "github", "sarif")
 
 

@@ -6,7 +6,8 @@ from gregorio_chant.linting.checking import Options
 from gregorio_chant.linting.repairing import How, repair
 from gregorio_chant.report.reports import counted
 from gregorio_chant.work import files
-from gregorio_chant.work.streams import CANNOT_READ_OR_WRITE, reason_of, tell, write_data
+from gregorio_chant.work.statuses import CANNOT_READ_OR_WRITE
+from gregorio_chant.work.streams import reason_of, tell, write_data
 from gregorio_chant.work.walk import find_scores
 
 

@@ -5,6 +5,7 @@ from collections.abc import Collection, Iterable
 from dataclasses import dataclass
 
 from gregorio_chant._native.results import Kind, Message, Status
+from gregorio_chant.errors import UsageError
 from gregorio_chant.text.nearest import did_you_mean
 
 KINDS = ("E", "W", "F")
@@ -14,7 +15,7 @@ OF_CANONICAL = "comment"
 LISTED = "gregorio-chant explain --all lists them"
 
 
-class UnknownCode(ValueError):
+class UnknownCode(UsageError):
     """A word is no code, no kind of codes and no rule."""
 
 

@@ -20,15 +20,8 @@ from gregorio_chant.report.reports import Checked, counted, summary_of
 from gregorio_chant.text.source import text_of
 from gregorio_chant.work import files
 from gregorio_chant.work.settings import Finder, NoSettings
-from gregorio_chant.work.streams import (
-    CANNOT_READ_OR_WRITE,
-    STDIN,
-    WriteError,
-    printable,
-    reason_of,
-    tell,
-    write_data,
-)
+from gregorio_chant.work.statuses import CANNOT_READ_OR_WRITE
+from gregorio_chant.work.streams import STDIN, WriteError, printable, reason_of, tell, write_data
 from gregorio_chant.work.walk import find_scores
 
 MOST = 200

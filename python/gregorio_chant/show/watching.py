@@ -15,7 +15,8 @@ from gregorio_chant.show.showing import Options, show
 from gregorio_chant.work.ignored import FILE as IGNORED
 from gregorio_chant.work.settings import NAME as SETTINGS
 from gregorio_chant.work.settings import SettingsError
-from gregorio_chant.work.streams import CANNOT_READ_OR_WRITE, STDIN, reason_of, tell
+from gregorio_chant.work.statuses import CANNOT_READ_OR_WRITE
+from gregorio_chant.work.streams import STDIN, reason_of, tell
 from gregorio_chant.work.walk import has_name_of_score
 
 # How long it waits for what is written at the same time, in seconds.

@@ -17,8 +17,8 @@ from gregorio_chant.work.files import Reader
 from gregorio_chant.work.processes import by_processes
 from gregorio_chant.work.progress import bar
 from gregorio_chant.work.settings import Finder
+from gregorio_chant.work.statuses import CANNOT_READ_OR_WRITE
 from gregorio_chant.work.streams import (
-    CANNOT_READ_OR_WRITE,
     STDIN,
     is_terminal,
     printable,

@@ -13,7 +13,8 @@ from gregorio_chant.web.app import app_of
 from gregorio_chant.web.loopback import ADDRESS, own_names
 from gregorio_chant.work.ending import undone
 from gregorio_chant.work.processes import end_all
-from gregorio_chant.work.streams import CANNOT_READ_OR_WRITE, reason_of, tell, write
+from gregorio_chant.work.statuses import CANNOT_READ_OR_WRITE
+from gregorio_chant.work.streams import reason_of, tell, write
 
 # As many bytes as uvicorn takes of a head.
 _MOST_DIGITS = 1 << 16

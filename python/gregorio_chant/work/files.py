@@ -17,6 +17,7 @@ from contextlib import contextmanager, suppress
 from dataclasses import dataclass
 from typing import BinaryIO
 
+from gregorio_chant.errors import GregorioError
 from gregorio_chant.work.ending import undone
 from gregorio_chant.work.streams import STDIN
 
@@ -34,7 +35,7 @@ _WRITABLE = stat.S_IWUSR | stat.S_IWGRP | stat.S_IWOTH
 _OWN_ATTRIBUTES = ("user.", "system.")
 
 
-class FileChanged(Exception):
+class FileChanged(GregorioError):
     """A file is no longer what was read."""
 
 

@@ -5,6 +5,9 @@ from __future__ import annotations
 from dataclasses import dataclass
 from enum import Enum
 
+# The file of settings.
+FILE = "gregorio-chant.toml"
+
 
 class Kind(Enum):
     """The type of a value, in the words of the page."""

@@ -4,6 +4,8 @@ from __future__ import annotations
 
 from importlib import import_module
 
+from gregorio_chant.errors import GregorioError
+
 # How Debian calls them.
 _DEBIAN = {
     "fonttools": "python3-fonttools",
@@ -19,7 +21,7 @@ _DEBIAN = {
 _MODULES = {"fonttools": "fontTools"}
 
 
-class MissingDependency(Exception):
+class MissingDependency(GregorioError):
     """A package that was needed is not installed."""
 
     def __init__(self, part: str, package: str) -> None:

@@ -12,6 +12,7 @@ import sys
 from collections.abc import Iterable, Sequence
 from functools import lru_cache
 
+from gregorio_chant.errors import GregorioError
 from gregorio_chant.work.needs import MissingDependency
 
 # So many patterns may count for a file.
@@ -30,7 +31,7 @@ _OTHERS = re.compile(r"(?<!\[)\[\^(?!/\])")
 _CLASS = re.compile(r"\[\^?[^\]]+\]")
 
 
-class NoPattern(ValueError):
+class NoPattern(GregorioError, ValueError):
     """A line is no pattern."""
 
 

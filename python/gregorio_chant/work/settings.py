@@ -12,14 +12,15 @@ from functools import cached_property
 from pathlib import Path
 from typing import Any
 
+from gregorio_chant.errors import GregorioError
 from gregorio_chant.linting.selection import Selection, UnknownCode, codes_in
 from gregorio_chant.work.files import read_plain
-from gregorio_chant.work.keys import FORMAT, FORMAT_KEYS, KEYS, Key, Kind
+from gregorio_chant.work.keys import FILE, FORMAT, FORMAT_KEYS, KEYS, Key, Kind
 from gregorio_chant.work.needs import MissingDependency
 from gregorio_chant.work.patterns import MOST, NoPattern, Patterns
 from gregorio_chant.work.streams import STDIN, printable, reason_of
 
-NAME = "gregorio-chant.toml"
+NAME = FILE
 _MOST_BYTES = 65_536
 _MOST_DOTS = 8
 # The texts and comments of TOML, in which dots mean nothing, and what stands between keys.
@@ -31,7 +32,7 @@ _NO_KEY = re.compile(r"""[^\w"'. \t-]+""")
 _Readers = dict[str, tuple[str, Callable[[str, Any], object]]]
 
 
-class SettingsError(ValueError):
+class SettingsError(GregorioError, ValueError):
     """Settings that cannot be read. It names the file and, where they are known, the line and the
     key."""
 

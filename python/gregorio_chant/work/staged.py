@@ -5,15 +5,22 @@ import os
 import subprocess
 from collections.abc import Iterable, Iterator
 
+from gregorio_chant.errors import GregorioError
 from gregorio_chant.work.files import Content
+from gregorio_chant.work.statuses import CANNOT_READ_OR_WRITE
 from gregorio_chant.work.streams import reason_of
 from gregorio_chant.work.walk import has_name_of_score
 
 _PLAIN_FILES = (b"100644", b"100755")
 
 
-class GitError(Exception):
+class GitError(GregorioError):
     """Git does not say what is staged."""
+
+    status = CANNOT_READ_OR_WRITE
+
+    def __init__(self, reason: str) -> None:
+        super().__init__(f"cannot read what is staged: {reason}")
 
 
 def _git(*words: str, data: bytes = b"") -> bytes:

@@ -8,14 +8,18 @@ import os
 import sys
 from typing import IO
 
+from gregorio_chant.errors import GregorioError
+from gregorio_chant.work.statuses import CANNOT_READ_OR_WRITE
+
 NAME = "gregorio-chant"
-CANNOT_READ_OR_WRITE = 4
 STDIN = "-"
 _SHOWS_CURSOR = b"\r\x1b[2K\x1b[?25h"
 
 
-class WriteError(Exception):
+class WriteError(GregorioError):
     """Standard output takes no more."""
+
+    status = CANNOT_READ_OR_WRITE
 
     def __init__(self, error: OSError) -> None:
         super().__init__(reason_of(error))
