@@ -21,7 +21,7 @@ ODD = "x\x1b[31m\n\x7f\u009b\u202e\u2028\udcff"
 # `streams`.
 _OTHERS = {
     "server/serving.py": r"sys\.stdout\.buffer",
-    "terminal.py": r"Console\(|self\._console\.print",
+    "report/terminal.py": r"Console\(|self\._console\.print",
 }
 _WRITES = re.compile(
     r"\bprint\(|sys\.(?:__)?(?:stdout|stderr)|os\.write\(|Console\(|\.print\(|logging|warnings\."
