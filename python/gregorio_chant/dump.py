@@ -3,7 +3,7 @@ modules of `gregorio_chant.objects`."""
 from __future__ import annotations
 
 from gregorio_chant._native.runs import Limits
-from gregorio_chant.objects.edits import EditError, Edited
+from gregorio_chant.objects.edits import Edited, EditError
 from gregorio_chant.objects.headers import Header
 from gregorio_chant.objects.heights import Interval, Range, interval, intervals
 from gregorio_chant.objects.item import Item

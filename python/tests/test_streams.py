@@ -122,7 +122,7 @@ class OnePlace(unittest.TestCase):
                 known = _OTHERS.get(name)
                 if (
                     _WRITES.search(line)
-                    and name != "streams.py"
+                    and name != "work/streams.py"
                     and not (known and re.search(known, line))
                 ):
                     found.append(f"{name}: {line.strip()}")

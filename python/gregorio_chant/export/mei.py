@@ -6,11 +6,10 @@ from xml.etree import ElementTree
 
 from gregorio_chant.export import NoHeight, Way
 from gregorio_chant.export.losses import ATTRIBUTES, MORAE, NABC, STYLES, TRANSLATIONS
-from gregorio_chant.objects.item import Item
+from gregorio_chant.objects.item import PITCHES, Item
 from gregorio_chant.objects.items import Alteration, Bar, Break, Clef, Custos, Note
 from gregorio_chant.objects.score import Score
 from gregorio_chant.objects.syllables import Glyph, NoteSnippet, Syllable
-from gregorio_chant.objects.item import PITCHES
 
 _MEI = "http://www.music-encoding.org/ns/mei"
 _PITCHES = "cdefgab"

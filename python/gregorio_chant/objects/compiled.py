@@ -11,7 +11,6 @@ from gregorio_chant._native.nodes import Tree
 from gregorio_chant._native.results import Format, Message, Report, Result, Status
 from gregorio_chant._native.runs import Limits, Run
 from gregorio_chant._native.trees import tree
-from gregorio_chant.objects.comparison import Comparison
 from gregorio_chant.text.source import Lines, text_of
 
 if TYPE_CHECKING:
@@ -119,8 +118,3 @@ class Compiled:
     @cached_property
     def dump(self) -> str:
         return "".join(dump_in_pieces(self.data))
-
-    @cached_property
-    def comparison(self) -> Comparison:
-        """The score beside its canonical text. There is none where a fatal fault stops it."""
-        return Comparison(self.data, self.canonical, self.messages)

@@ -18,7 +18,7 @@ from typing import TYPE_CHECKING
 from gregorio_chant._native.node_kinds import NodeKind
 from gregorio_chant._native.trees import tree
 from gregorio_chant.objects.headers import Header, header_spelling
-from gregorio_chant.objects.item import Item, PITCHES
+from gregorio_chant.objects.item import PITCHES, Item
 from gregorio_chant.objects.items import Alteration, Custos, Note
 from gregorio_chant.objects.syllables import NabcSnippet, Syllable
 from gregorio_chant.text.source import Source

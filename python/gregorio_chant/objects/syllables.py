@@ -7,6 +7,7 @@ from typing import TYPE_CHECKING, Union
 from gregorio_chant._native.node_kinds import NodeKind
 from gregorio_chant.objects.item import Item
 from gregorio_chant.objects.items import (
+    SHAPES,
     Alteration,
     Attribute,
     Bar,
@@ -15,7 +16,6 @@ from gregorio_chant.objects.items import (
     Custos,
     Fusion,
     Note,
-    SHAPES,
     Space,
 )
 from gregorio_chant.objects.nabc import Descriptor

@@ -6,11 +6,11 @@ from collections.abc import Iterator
 
 from gregorio_chant.format.formatting import formatted
 from gregorio_chant.format.judge import Reading, difference
+from gregorio_chant.format.losses import without_blanks
 from gregorio_chant.objects.compiled import Compiled
 from gregorio_chant.server.document import Document
 from gregorio_chant.server.protocol import Json, Params, Position, Range
 from gregorio_chant.server.text import Text
-from gregorio_chant.text.scan import without_blanks
 
 
 class RequestRefused(Exception):
@@ -69,7 +69,7 @@ def formatted_lines(document: Document, params: Params) -> Json:
 def _changes(old: list[str], new: list[str]) -> Iterator[tuple[int, int, list[str]]]:
     """Yields the lines that change, from one up to another, and the new ones: one by one where only
     blanks of a line change."""
-    before, after = [without_blanks(it) for it in old], [without_blanks(it) for it in new]
+    before, after = ([without_blanks(it.encode()) for it in lines] for lines in (old, new))
     for tag, begin, end, new_begin, new_end in difflib.SequenceMatcher(
         None, before, after, autojunk=False
     ).get_opcodes():

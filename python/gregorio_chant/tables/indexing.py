@@ -7,8 +7,8 @@ from dataclasses import dataclass, field, fields
 from gregorio_chant._native.results import Kind
 from gregorio_chant.export.volpiano import volpiano_of
 from gregorio_chant.linting.selection import UnknownCode
-from gregorio_chant.objects.score import Score, ScoreError
 from gregorio_chant.objects.passages import Word
+from gregorio_chant.objects.score import Score, ScoreError
 from gregorio_chant.tables.searching import degree_of, degrees_of
 from gregorio_chant.tables.tables import PLACE, Row
 

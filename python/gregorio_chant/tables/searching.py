@@ -12,9 +12,9 @@ from typing import Protocol
 from gregorio_chant.export.volpiano import LETTERS, letter_of
 from gregorio_chant.linting.selection import UnknownCode
 from gregorio_chant.objects.items import Note
+from gregorio_chant.objects.passages import text_of_syllables
 from gregorio_chant.objects.score import Score
 from gregorio_chant.objects.syllables import Glyph, Syllable
-from gregorio_chant.objects.passages import text_of_syllables
 from gregorio_chant.tables.tables import Row
 from gregorio_chant.text.nearest import did_you_mean
 
