@@ -5,13 +5,14 @@ from __future__ import annotations
 from collections.abc import Callable
 from dataclasses import dataclass
 
+from gregorio_chant.errors import GregorioError
 from gregorio_chant.objects.items import Note
 from gregorio_chant.objects.score import Score
 
 Write = Callable[[Score], bytes]
 
 
-class NoHeight(ValueError):
+class NoHeight(GregorioError, ValueError):
     """A score that cannot be written so: a note before any clef has no height."""
 
     def __init__(self, note: Note) -> None:

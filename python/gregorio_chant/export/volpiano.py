@@ -4,6 +4,7 @@ from __future__ import annotations
 
 from collections.abc import Iterable, Iterator
 
+from gregorio_chant.errors import GregorioError
 from gregorio_chant.export import NoHeight, Way
 from gregorio_chant.export.losses import (
     ATTRIBUTES,
@@ -31,7 +32,7 @@ _FLATS = {"b": "y", "e": "w", "j": "i", "m": "x", "q": "z"}
 _BARS = {"minima": "3", "minor": "3", "maior": "3", "finalis": "4"}
 
 
-class OutOfRange(ValueError):
+class OutOfRange(GregorioError, ValueError):
     """A note that Volpiano has no letter for."""
 
     def __init__(self, note: Note) -> None:

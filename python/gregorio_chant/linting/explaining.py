@@ -5,10 +5,11 @@ import textwrap
 from collections.abc import Iterable
 
 from gregorio_chant._native.results import Kind
+from gregorio_chant.errors import UsageError
 from gregorio_chant.linting.codes import CODES, shown
 from gregorio_chant.linting.repairs import REPAIRS, Repair
 from gregorio_chant.linting.rules import RULES
-from gregorio_chant.linting.selection import LISTED, UnknownCode
+from gregorio_chant.linting.selection import LISTED
 from gregorio_chant.text.nearest import did_you_mean
 
 _WIDTH = 80
@@ -18,7 +19,7 @@ PAGES = "file:///usr/share/doc/gregorio-canonical/docs"
 
 def page_of(name: str) -> str:
     """Returns the page of a code, in whichever case it is given, or of a rule. Raises
-    `UnknownCode`."""
+    `UsageError`."""
     code, rule = CODES.get(name.upper()), RULES.get(name.lower())
     if code is not None:
         title, it = f"{code.name}: {code.kind.value}: {code.text}", code
@@ -31,7 +32,7 @@ def page_of(name: str) -> str:
             rule.right,
         )
         return page + _silence(rule.name) + _repairs_of(rule.name)
-    raise UnknownCode(
+    raise UsageError(
         f"{name} is no code and no rule: {did_you_mean(name, [*CODES, *RULES], LISTED)}"
     )
 
@@ -83,6 +84,6 @@ def _repairs_of(code: str) -> str:
 
 def explain(names: Iterable[str]) -> str:
     """Returns the pages of these codes and rules; of all where there is none. Raises
-    `UnknownCode`."""
+    `UsageError`."""
     wanted = list(names) or [*CODES, *RULES]
     return "\n".join(page_of(it) for it in wanted)

@@ -15,17 +15,13 @@ OF_CANONICAL = "comment"
 LISTED = "gregorio-chant explain --all lists them"
 
 
-class UnknownCode(UsageError):
-    """A word is no code, no kind of codes and no rule."""
-
-
 def codes_in(words: str, known: Collection[str]) -> frozenset[str]:
     """Returns the codes in `words`, which stand between commas: one of those `known`, or E, W, F or
-    rules for all of a kind. Raises `UnknownCode`."""
+    rules for all of a kind. Raises `UsageError`."""
     found = frozenset(it.strip() for it in words.split(",") if it.strip())
     for word in sorted(found):
         if word not in known and word not in KINDS and word != RULES:
-            raise UnknownCode(f"{word} is no code: {did_you_mean(word, known, LISTED)}")
+            raise UsageError(f"{word} is no code: {did_you_mean(word, known, LISTED)}")
     return found
 
 

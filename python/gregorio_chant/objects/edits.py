@@ -17,6 +17,7 @@ from typing import TYPE_CHECKING
 
 from gregorio_chant._native.node_kinds import NodeKind
 from gregorio_chant._native.trees import tree
+from gregorio_chant.errors import GregorioError
 from gregorio_chant.objects.headers import Header, header_spelling
 from gregorio_chant.objects.item import PITCHES, Item
 from gregorio_chant.objects.items import Alteration, Custos, Note
@@ -30,7 +31,7 @@ _LINE_END = re.compile("\r\n|\n|\r")
 _OF_NABC = frozenset(it for it in NodeKind if it.name.startswith(("DESCRIPTOR", "NABC_")))
 
 
-class EditError(ValueError):
+class EditError(GregorioError, ValueError):
     """A change that cannot be made: `source` is its place, and `reason` says why."""
 
     def __init__(self, source: Source, reason: str) -> None:

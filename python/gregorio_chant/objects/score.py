@@ -19,6 +19,7 @@ from gregorio_chant._native.memory import bytes_of
 from gregorio_chant._native.node_kinds import NodeKind
 from gregorio_chant._native.results import Message
 from gregorio_chant._native.runs import Limits
+from gregorio_chant.errors import GregorioError
 from gregorio_chant.objects.compiled import Compiled
 from gregorio_chant.objects.edits import Edited
 from gregorio_chant.objects.headers import Header
@@ -40,7 +41,7 @@ _SYLLABLES = re.compile(re.escape(bytes((NodeKind.SYLLABLE,))))
 _SUNG = re.compile(b"[%c%c]" % (NodeKind.NOTE, NodeKind.CLEF))
 
 
-class ScoreError(ValueError):
+class ScoreError(GregorioError, ValueError):
     """The headers of a score are not whole, so nothing of it was written. `message` is the fault."""
 
     def __init__(self, message: Message) -> None:

@@ -4,6 +4,7 @@ from __future__ import annotations
 from collections.abc import Iterable, Iterator
 from dataclasses import dataclass
 
+from gregorio_chant.errors import GregorioError
 from gregorio_chant.objects.compiled import Compiled
 from gregorio_chant.objects.items import Bar, Note
 from gregorio_chant.objects.syllables import NoteSnippet, Syllable
@@ -16,7 +17,7 @@ LOWEST = 48
 _RESTS = {"virgula": 0.5, "minimis": 0.5, "minima": 1.0, "minor": 1.0, "maior": 2.0, "finalis": 2.0}
 
 
-class NoteBeforeClef(ValueError):
+class NoteBeforeClef(GregorioError, ValueError):
     """A score that cannot be heard: a note stands before any clef."""
 
     def __init__(self, note: Note) -> None:

@@ -10,6 +10,7 @@ from fontTools.pens.svgPathPen import SVGPathPen
 from fontTools.pens.transformPen import TransformPen
 from fontTools.ttLib import TTFont
 
+from gregorio_chant.errors import GregorioError
 from gregorio_chant.picture.faces import Face
 from gregorio_chant.picture.glyph_names import CLEFS, NamedFace, NamedShapes
 from gregorio_chant.picture.shapes import Shape
@@ -18,7 +19,7 @@ from gregorio_chant.picture.values import STEP
 _MOST_ORIGIN = 2000
 
 
-class NoFace(ValueError):
+class NoFace(GregorioError, ValueError):
     """A file that is no font with GregorioTeX's glyph names."""
 
 

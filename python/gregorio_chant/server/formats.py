@@ -4,6 +4,7 @@ from __future__ import annotations
 import difflib
 from collections.abc import Iterator
 
+from gregorio_chant.errors import GregorioError
 from gregorio_chant.format.formatting import formatted
 from gregorio_chant.format.judge import Reading, difference
 from gregorio_chant.format.losses import without_blanks
@@ -13,7 +14,7 @@ from gregorio_chant.server.protocol import Json, Params, Position, Range
 from gregorio_chant.server.text import Text
 
 
-class RequestRefused(Exception):
+class RequestRefused(GregorioError):
     """What was asked for is not done, which is no fault of the editor's. It is shown."""
 
 

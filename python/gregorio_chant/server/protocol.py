@@ -5,6 +5,8 @@ import enum
 from collections.abc import Iterator
 from dataclasses import dataclass
 
+from gregorio_chant.errors import GregorioError
+
 Json = object
 
 
@@ -22,7 +24,7 @@ class Code(enum.IntEnum):
     FAILED = -32803
 
 
-class ProtocolError(Exception):
+class ProtocolError(GregorioError):
     """A request that is answered by an error."""
 
     def __init__(self, code: Code, text: str) -> None:

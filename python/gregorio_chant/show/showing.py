@@ -10,8 +10,8 @@ from pathlib import Path
 from urllib.parse import quote
 
 from gregorio_chant._native.results import Kind
+from gregorio_chant.errors import UsageError
 from gregorio_chant.linting import checking
-from gregorio_chant.linting.selection import UnknownCode
 from gregorio_chant.objects.compiled import Compiled
 from gregorio_chant.objects.sounds import sounds_of_score
 from gregorio_chant.picture import Look, Names, draw
@@ -146,11 +146,11 @@ def _write(options: Options, pieces: Iterable[str]) -> None:
 
 
 def _refuse_own_input(outputs: Iterable[Path], names: Iterable[str]) -> None:
-    """Raises `UnknownCode` where a page would take the place of a score that is shown."""
+    """Raises `UsageError` where a page would take the place of a score that is shown."""
     shown = {_identity(name) for name in names if name != STDIN} - {None}
     for output in outputs:
         if _identity(output) in shown:
-            raise UnknownCode(f"{output} is a score that is shown: name another file")
+            raise UsageError(f"{output} is a score that is shown: name another file")
 
 
 def _identity(path: str | Path) -> tuple[int, int] | None:
@@ -163,7 +163,7 @@ def _identity(path: str | Path) -> tuple[int, int] | None:
 
 
 def show(options: Options) -> int:
-    """Writes what is wanted, and returns the worst status. Raises `WriteError`, `UnknownCode`,
+    """Writes what is wanted, and returns the worst status. Raises `WriteError`, `UsageError`,
     and `MissingDependency` or `SettingsError` before any score is read."""
     scores = _Scores(options)
     names = scores.names()
@@ -177,9 +177,9 @@ def show(options: Options) -> int:
 
 
 def _show_one(options: Options, scores: _Scores, names: list[str]) -> None:
-    """Writes one picture. Raises `UnknownCode` where there is not one score."""
+    """Writes one picture. Raises `UsageError` where there is not one score."""
     if len(names) != 1 or options.into_folder:
-        raise UnknownCode(
+        raise UsageError(
             f"--svg writes one picture, and here are {counted(len(names), 'score')}"
             if len(names) != 1
             else "--svg writes a file, and no folder"

@@ -10,7 +10,7 @@ from typing import NoReturn
 from watchdog.events import FileSystemEvent, FileSystemEventHandler
 from watchdog.observers import Observer
 
-from gregorio_chant.linting.selection import UnknownCode
+from gregorio_chant.errors import UsageError
 from gregorio_chant.show.showing import Options, show
 from gregorio_chant.work.ignored import FILE as IGNORED
 from gregorio_chant.work.settings import NAME as SETTINGS
@@ -75,11 +75,11 @@ class _Handler(FileSystemEventHandler):
 
 
 def _refuse(options: Options) -> None:
-    """Raises `UnknownCode` where nothing can be watched, or nothing written again."""
+    """Raises `UsageError` where nothing can be watched, or nothing written again."""
     if options.output is None:
-        raise UnknownCode("--watch writes files again: -o FILE or -o FOLDER/ is needed")
+        raise UsageError("--watch writes files again: -o FILE or -o FOLDER/ is needed")
     if STDIN in options.paths:
-        raise UnknownCode("--watch watches files, and standard input is none")
+        raise UsageError("--watch watches files, and standard input is none")
 
 
 def watch(options: Callable[[], Options]) -> int:
@@ -119,5 +119,5 @@ def _again(options: Callable[[], Options], changed: threading.Event) -> NoReturn
         changed.clear()
         try:
             _write(options())
-        except (SettingsError, UnknownCode) as error:
+        except (SettingsError, UsageError) as error:
             tell(str(error))

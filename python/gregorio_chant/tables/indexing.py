@@ -5,8 +5,8 @@ from collections.abc import Iterator, Sequence
 from dataclasses import dataclass, field, fields
 
 from gregorio_chant._native.results import Kind
+from gregorio_chant.errors import UsageError
 from gregorio_chant.export.volpiano import volpiano_of
-from gregorio_chant.linting.selection import UnknownCode
 from gregorio_chant.objects.passages import Word
 from gregorio_chant.objects.score import Score, ScoreError
 from gregorio_chant.tables.searching import degree_of, degrees_of
@@ -85,18 +85,18 @@ class Index:
 
     @classmethod
     def of(cls, words: Sequence[str]) -> Index:
-        """Takes names with commas between them. Raises `UnknownCode` for what can be no name, and
+        """Takes names with commas between them. Raises `UsageError` for what can be no name, and
         for one that the index has already."""
         headers = tuple(
             dict.fromkeys(it.strip() for word in words for it in word.split(",") if it.strip())
         )
         if words and not headers:
-            raise UnknownCode("--header needs the name of a header, as in --header book")
+            raise UsageError("--header needs the name of a header, as in --header book")
         for it in headers:
             if ":" in it:
-                raise UnknownCode(f"--header {it}: the name of a header has no colon")
+                raise UsageError(f"--header {it}: the name of a header has no colon")
             if it.replace("-", "_") in (*PLACE, *COLUMNS):
-                raise UnknownCode(f"--header {it}: the index has a column of this name already")
+                raise UsageError(f"--header {it}: the index has a column of this name already")
         return cls(headers)
 
     @property

@@ -9,8 +9,8 @@ from collections.abc import Iterator, Sequence
 from dataclasses import dataclass
 from typing import Protocol
 
+from gregorio_chant.errors import UsageError
 from gregorio_chant.export.volpiano import LETTERS, letter_of
-from gregorio_chant.linting.selection import UnknownCode
 from gregorio_chant.objects.items import Note
 from gregorio_chant.objects.passages import text_of_syllables
 from gregorio_chant.objects.score import Score
@@ -139,10 +139,10 @@ class NeumeSearch:
 
     @classmethod
     def of(cls, word: str) -> NeumeSearch:
-        """Raises `UnknownCode` where no kind matches."""
+        """Raises `UsageError` where no kind matches."""
         pattern = word.casefold()
         if not fnmatch.filter(KINDS, pattern):
-            raise UnknownCode(
+            raise UsageError(
                 f"{word} is no kind of neume: {did_you_mean(word, KINDS, 'docs/LANGUAGE.md lists them')}"
             )
         return cls(pattern)
@@ -164,10 +164,10 @@ class IntervalSearch:
 
     @classmethod
     def of(cls, words: str, in_semitones: bool) -> IntervalSearch:
-        """Raises `UnknownCode` for what is no row of numbers."""
+        """Raises `UsageError` for what is no row of numbers."""
         steps = words.split()
         if not steps or not all(_STEP.fullmatch(it) for it in steps):
-            raise UnknownCode(f'--interval {words}: numbers are needed, as in "+2 +1 -3"')
+            raise UsageError(f'--interval {words}: numbers are needed, as in "+2 +1 -3"')
         return cls(tuple(map(int, steps)), in_semitones)
 
     def matches(self, score: Score) -> Iterator[Match]:
@@ -206,10 +206,10 @@ class VolpianoSearch:
 
     @classmethod
     def of(cls, word: str) -> VolpianoSearch:
-        """Raises `UnknownCode` for what is no melody."""
+        """Raises `UsageError` for what is no melody."""
         letters = _NO_LETTERS.sub("", word).replace("(", "8").replace(")", "9").lower()
         if not letters or any(it not in LETTERS for it in letters):
-            raise UnknownCode(f"--volpiano {word}: letters of a melody are needed, as in 1---f--gh")
+            raise UsageError(f"--volpiano {word}: letters of a melody are needed, as in 1---f--gh")
         return cls(letters)
 
     def matches(self, score: Score) -> Iterator[Match]:
@@ -244,7 +244,7 @@ class TextSearch:
 
     @classmethod
     def of(cls, words: str) -> TextSearch:
-        """Raises `UnknownCode` where there is no word."""
+        """Raises `UsageError` where there is no word."""
         patterns = tuple(
             "".join(
                 c for c in unicodedata.normalize("NFD", it) if not unicodedata.combining(c)
@@ -252,7 +252,7 @@ class TextSearch:
             for it in words.split()
         )
         if not patterns:
-            raise UnknownCode('--text needs a word, as in "Kyri*"')
+            raise UsageError('--text needs a word, as in "Kyri*"')
         return cls(patterns)
 
     def matches(self, score: Score) -> Iterator[Match]:

@@ -17,7 +17,7 @@ from gregorio_chant.work.files import Reader
 from gregorio_chant.work.processes import by_processes
 from gregorio_chant.work.progress import bar
 from gregorio_chant.work.settings import Finder
-from gregorio_chant.work.statuses import CANNOT_READ_OR_WRITE
+from gregorio_chant.work.statuses import CANNOT_READ_OR_WRITE, NO_MEMORY
 from gregorio_chant.work.streams import (
     STDIN,
     is_terminal,
@@ -30,7 +30,6 @@ from gregorio_chant.work.streams import (
 from gregorio_chant.work.walk import find_scores
 
 FORMS = ("text", "csv", "json")
-_NO_MEMORY = 5
 _CSV_END = "\r\n"
 PLACE = ("file", "line", "column")
 
@@ -108,7 +107,7 @@ def made_of(name: str, make: Maker, reader: Reader) -> Made:
     except OSError as error:
         return Made(name, failure=reason_of(error), status=CANNOT_READ_OR_WRITE)
     except MemoryError:
-        return Made(name, failure="there is no memory for it", status=_NO_MEMORY)
+        return Made(name, failure="there is no memory for it", status=NO_MEMORY)
 
 
 # ---- how rows are written

@@ -9,21 +9,22 @@ from collections.abc import Awaitable, Callable, Mapping
 from multiprocessing import get_context
 from typing import Any
 
+from gregorio_chant.errors import GregorioError
 from gregorio_chant.work.ending import end_with_parent, leave_interrupts
+from gregorio_chant.work.statuses import NO_MEMORY
 
 # So many scores are worked on at a time.
 MOST = 16
-_NO_MEMORY = 5
 # Makes the bytes of an answer.
 Work = Callable[[], bytes]
 Receive = Callable[[], Awaitable[Mapping[str, Any]]]
 
 
-class GivenUp(Exception):
+class GivenUp(GregorioError):
     """Nobody waits for the answer any more: the tab has gone, or has asked anew."""
 
 
-class TooMany(Exception):
+class TooMany(GregorioError):
     """As many scores are worked on as may be."""
 
 
@@ -49,7 +50,7 @@ class _Computation:
         finally:
             transport.close()
         self._process.join()
-        if self._process.exitcode == _NO_MEMORY:
+        if self._process.exitcode == NO_MEMORY:
             raise MemoryError
         return made if self._process.exitcode == 0 else None
 
@@ -68,7 +69,7 @@ def _compute(work: Work, sink: int) -> None:
     try:
         made = work()
     except MemoryError:
-        os._exit(_NO_MEMORY)
+        os._exit(NO_MEMORY)
     with open(sink, "wb") as file:
         file.write(made)
 

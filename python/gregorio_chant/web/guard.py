@@ -8,6 +8,7 @@ from starlette.datastructures import Headers, MutableHeaders
 from starlette.responses import PlainTextResponse
 from starlette.types import ASGIApp, Message, Receive, Scope, Send
 
+from gregorio_chant.errors import GregorioError
 from gregorio_chant.picture.page import MOST_BYTES
 from gregorio_chant.web.loopback import is_of_this_place
 
@@ -27,7 +28,7 @@ _HEADERS = {
 }
 
 
-class TooLong(Exception):
+class TooLong(GregorioError):
     """A body has more than `MOST_BYTES` bytes."""
 
 

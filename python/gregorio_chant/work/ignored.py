@@ -5,7 +5,7 @@ import os
 from collections.abc import Callable, Sequence
 from dataclasses import dataclass
 
-from gregorio_chant.linting.selection import UnknownCode
+from gregorio_chant.errors import UsageError
 from gregorio_chant.work.files import read_plain
 from gregorio_chant.work.patterns import MOST, NoPattern, Patterns, TooCostly
 
@@ -134,8 +134,8 @@ def _excluding(words: Sequence[str]) -> Patterns:
         try:
             Patterns.takes(word)
         except NoPattern as error:
-            raise UnknownCode(f"--exclude {word}: {error}") from None
+            raise UsageError(f"--exclude {word}: {error}") from None
     try:
         return Patterns(words)
     except NoPattern as error:
-        raise UnknownCode(f"--exclude: {error}") from None
+        raise UsageError(f"--exclude: {error}") from None

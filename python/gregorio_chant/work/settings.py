@@ -12,8 +12,8 @@ from functools import cached_property
 from pathlib import Path
 from typing import Any
 
-from gregorio_chant.errors import GregorioError
-from gregorio_chant.linting.selection import Selection, UnknownCode, codes_in
+from gregorio_chant.errors import GregorioError, UsageError
+from gregorio_chant.linting.selection import Selection, codes_in
 from gregorio_chant.work.files import read_plain
 from gregorio_chant.work.keys import FILE, FORMAT, FORMAT_KEYS, KEYS, Key, Kind
 from gregorio_chant.work.needs import MissingDependency
@@ -145,7 +145,7 @@ class _Reader:
     def _codes(self, key: str, value: Any) -> frozenset[str]:
         try:
             return codes_in(",".join(self._words(key, value)), self._known)
-        except UnknownCode as error:
+        except UsageError as error:
             raise self.fail(key, str(error)) from None
 
     def _words(self, key: str, value: Any) -> tuple[str, ...]:

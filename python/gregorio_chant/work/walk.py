@@ -22,7 +22,7 @@ def find_scores(paths: Iterable[str], tell: Tell, exclude: Sequence[str] = ()) -
     Of a folder these are left out: what is no plain file, what a `.gitignore` or a pattern of
     `exclude` names, and the folder `.git`. Links to files are taken as long as they lead below the
     folder, and others are told; links to folders are not followed. Raises `MissingDependency` where
-    there are such patterns and no package that reads them, and `UnknownCode` for an `exclude` that
+    there are such patterns and no package that reads them, and `UsageError` for an `exclude` that
     is no pattern.
     """
     names: list[str] = []
