@@ -311,7 +311,7 @@ class Words(InFolder):
 _MEASURED = """
 import resource, sys
 from gregorio_chant.format.formatting import Options, format_files
-assert format_files(Options((sys.argv[1],), checks=True, quiet=True)) == 1
+assert format_files(Options(paths=(sys.argv[1],), checks=True, quiet=True)) == 1
 print(resource.getrusage(resource.RUSAGE_SELF).ru_maxrss // 1024)
 """
 

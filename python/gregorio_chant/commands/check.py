@@ -11,8 +11,7 @@ from gregorio_chant.commands.words import (
     add_paths,
     epilog,
     known,
-    paths_of,
-    settings_of,
+    shared,
 )
 from gregorio_chant.errors import UsageError
 from gregorio_chant.linting import checking
@@ -97,15 +96,7 @@ def run(words: argparse.Namespace) -> int:
     `SettingsError`."""
     chosen = Chosen(_codes(words.select), _codes(words.ignore), _codes(words.fail_on))
     options = checking.Options(
-        paths_of(words),
-        chosen,
-        words.output_format,
-        words.rules,
-        words.jobs,
-        words.quiet,
-        tuple(words.exclude),
-        words.staged,
-        settings_of(words),
+        **shared(words), chosen=chosen, form=words.output_format, with_rules=words.rules
     )
     fixed = _fix(words, options)
     return fixed if words.diff else max(fixed, checking.check(options))

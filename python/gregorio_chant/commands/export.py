@@ -9,9 +9,8 @@ from gregorio_chant.commands.words import (
     add_files,
     add_no_config,
     epilog,
-    paths_of,
     positive,
-    settings_of,
+    shared,
 )
 from gregorio_chant.errors import UsageError
 from gregorio_chant.export import Way, mei, musicxml, volpiano
@@ -71,16 +70,6 @@ def run(words: argparse.Namespace) -> int:
     `SettingsError`."""
     if words.tempo > 1_000:
         raise UsageError(f"--tempo {words.tempo}: at most 1,000 notes a minute")
-    paths = paths_of(words)
+    files = shared(words)
     way = _WAYS[words.to] if words.to in _WAYS else _midi(words.tempo)
-    return export(
-        Options(
-            paths,
-            way,
-            words.folder,
-            words.force,
-            tuple(words.exclude),
-            settings_of(words),
-            words.quiet,
-        )
-    )
+    return export(Options(**files, way=way, folder=words.folder, is_forced=words.force))

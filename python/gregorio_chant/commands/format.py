@@ -10,9 +10,8 @@ from gregorio_chant.commands.words import (
     add_no_config,
     add_paths,
     epilog,
-    paths_of,
     positive,
-    settings_of,
+    shared,
 )
 from gregorio_chant.errors import UsageError
 from gregorio_chant.format import formatting
@@ -90,15 +89,6 @@ def run(words: argparse.Namespace) -> int:
     style = formatting.Style(words.canonical, words.wrap)
     return formatting.format_files(
         formatting.Options(
-            paths_of(words),
-            style,
-            allow,
-            words.check,
-            words.diff,
-            words.staged,
-            words.jobs,
-            words.quiet,
-            tuple(words.exclude),
-            settings_of(words),
+            **shared(words), style=style, allow=allow, checks=words.check, shows_diff=words.diff
         )
     )

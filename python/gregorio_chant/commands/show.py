@@ -9,9 +9,8 @@ from gregorio_chant.commands.words import (
     add_files,
     add_no_config,
     epilog,
-    paths_of,
     positive,
-    settings_of,
+    shared,
 )
 from gregorio_chant.errors import UsageError
 from gregorio_chant.picture import OWN, USUAL_WIDTH, Face, Look
@@ -121,15 +120,13 @@ def run(words: argparse.Namespace) -> int:
             has_notes=not words.no_messages,
         )
         return showing.Options(
-            paths_of(words),
-            words.output,
-            words.svg,
-            look,
+            **shared(words),
+            output=words.output,
+            svg=words.svg,
+            look=look,
             with_messages=not words.no_messages,
             sings=words.play,
             with_rules=words.rules,
-            exclude=tuple(words.exclude),
-            settings=settings_of(words),
         )
 
     if not words.watch:

@@ -3,14 +3,7 @@ from __future__ import annotations
 
 import argparse
 
-from gregorio_chant.commands.words import (
-    Parser,
-    add_files,
-    add_jobs,
-    add_no_config,
-    paths_of,
-    settings_of,
-)
+from gregorio_chant.commands.words import Parser, add_files, add_jobs, add_no_config, shared
 from gregorio_chant.errors import UsageError
 from gregorio_chant.tables.tables import FORMS, Options
 
@@ -40,12 +33,4 @@ def table_of(words: argparse.Namespace) -> Options:
     without CSV."""
     if words.bom and words.output_format != "csv":
         raise UsageError("--bom is for --output-format csv")
-    return Options(
-        paths_of(words),
-        words.output_format,
-        words.jobs,
-        tuple(words.exclude),
-        settings_of(words),
-        words.quiet,
-        words.bom,
-    )
+    return Options(**shared(words), form=words.output_format, has_mark=words.bom)

@@ -6,7 +6,7 @@ import itertools
 import os
 import textwrap
 from collections.abc import Iterable, Sequence
-from typing import TYPE_CHECKING, Any, NoReturn, Protocol
+from typing import TYPE_CHECKING, Any, NoReturn, Protocol, TypedDict
 
 from gregorio_chant.errors import UsageError
 from gregorio_chant.text.nearest import did_you_mean
@@ -144,14 +144,34 @@ def settings_of(words: argparse.Namespace) -> Finder:
     return NoSettings() if words.no_config else Finder(known())
 
 
-def paths_of(words: argparse.Namespace) -> tuple[str, ...]:
-    """Returns the files and folders that are named. Raises `UsageError` if there are none and
-    `--staged` is not given."""
-    if not words.paths and not getattr(words, "staged", False):
+class Shared(TypedDict):
+    """The options that the commands over files have in common, as `work.scores.Options` has
+    them."""
+
+    paths: tuple[str, ...]
+    exclude: tuple[str, ...]
+    settings: Finder
+    staged: bool
+    jobs: int
+    quiet: bool
+
+
+def shared(words: argparse.Namespace) -> Shared:
+    """Returns the options that commands over files have in common. Raises `UsageError` if no file
+    is named and `--staged` is not given."""
+    is_staged = getattr(words, "staged", False)
+    if not words.paths and not is_staged:
         raise UsageError(
             "a PATH is needed, or --staged" if "staged" in words else "a PATH is needed"
         )
-    return tuple(words.paths)
+    return Shared(
+        paths=tuple(words.paths),
+        exclude=tuple(words.exclude),
+        settings=settings_of(words),
+        staged=is_staged,
+        jobs=getattr(words, "jobs", 1),
+        quiet=getattr(words, "quiet", False),
+    )
 
 
 def positive(word: str) -> int:

@@ -9,28 +9,23 @@ from gregorio_chant.export import Way
 from gregorio_chant.export.losses import losses
 from gregorio_chant.objects.score import Score, ScoreError
 from gregorio_chant.report.reports import counted
-from gregorio_chant.work.files import Reader, write
-from gregorio_chant.work.settings import Finder
-from gregorio_chant.work.statuses import CANNOT_READ_OR_WRITE
-from gregorio_chant.work.streams import STDIN, reason_of, tell, write_bytes
-from gregorio_chant.work.walk import find_scores
+from gregorio_chant.work import scores
+from gregorio_chant.work.files import write
+from gregorio_chant.work.scores import Scores
+from gregorio_chant.work.streams import STDIN, tell, write_bytes
 
 _ERRORS = 1
 _FATAL = 2
 
 
-@dataclass(frozen=True)
-class Options:
+@dataclass(frozen=True, kw_only=True)
+class Options(scores.Options):
     """The options of `export`: `way` is the format of the new files, `folder` their folder, if it
     is not that of their scores."""
 
-    paths: tuple[str, ...]
     way: Way
-    folder: str | None
-    is_forced: bool
-    exclude: tuple[str, ...]
-    settings: Finder
-    quiet: bool
+    folder: str | None = None
+    is_forced: bool = False
 
 
 def _target(name: str, options: Options) -> Path:
@@ -52,10 +47,10 @@ class _Told:
             tell(f"{name}:{source}: {self._way.name} says nothing of {kind}")
 
 
-def _export(name: str, reader: Reader, options: Options, lost: _Told) -> tuple[int, str | None]:
+def _export(name: str, data: bytes, options: Options, lost: _Told) -> tuple[int, str | None]:
     """Exports a score. Returns the status, and what is told of it."""
     try:
-        score = Score.parse(reader.read(name).data)
+        score = Score.parse(data)
     except ScoreError as error:
         return _FATAL, f"{name}:{error}; it is not written"
     fault = next((it for it in score.messages if it.kind is Kind.FATAL), None)
@@ -65,13 +60,13 @@ def _export(name: str, reader: Reader, options: Options, lost: _Told) -> tuple[i
             f"{name}:{fault.line}:{fault.column}: {fault.code}: {fault.text}; it is not written",
         )
     try:
-        data = options.way.write(score)
+        made = options.way.write(score)
     except ValueError as error:
         return _ERRORS, f"{name}:{error}; it is not written"
     if name == STDIN:
-        write_bytes(data)
+        write_bytes(made)
     else:
-        write(str(_target(name, options)), (data,), is_forced=options.is_forced)
+        write(str(_target(name, options)), (made,), is_forced=options.is_forced)
     lost.tell(name, score)
     return 0, None
 
@@ -79,30 +74,19 @@ def _export(name: str, reader: Reader, options: Options, lost: _Told) -> tuple[i
 def export(options: Options) -> int:
     """Exports the scores, and returns the worst status. Raises `WriteError`, and `SettingsError`
     or `MissingDependency` before any score is read."""
-    status = number = 0
-
-    def fail(name: str, error: OSError) -> None:
-        nonlocal status
-        status = max(status, CANNOT_READ_OR_WRITE)
-        reason = (
-            "there is a file of this name already; --force writes over it"
-            if isinstance(error, FileExistsError)
-            else reason_of(error)
-        )
-        tell(f"cannot export {name}: {reason}")
-
-    reader, lost = Reader.of(options.paths), _Told(options.way)
-    for name in options.settings.kept(
-        find_scores(options.paths, fail, options.exclude), options.paths
-    ):
+    found, lost = Scores(options, "export"), _Told(options.way)
+    for name, content in found.contents():
         try:
-            its, told = _export(name, reader, options, lost)
-        except OSError as error:
-            fail(name, error)
+            status, told = _export(name, content.data, options, lost)
+        except FileExistsError:
+            found.fail(name, "there is a file of this name already; --force writes over it")
             continue
-        status, number = max(status, its), number + (its == 0)
+        except OSError as error:
+            found.cannot(name, error)
+            continue
+        found.add(status, status == 0)
         if told is not None:
             tell(told)
     if not options.quiet:
-        tell(f"{counted(number, 'file')} written")
-    return status
+        tell(f"{counted(found.done, 'file')} written")
+    return found.status

@@ -4,7 +4,7 @@ from __future__ import annotations
 
 import difflib
 import enum
-from collections.abc import Callable, Iterator
+from collections.abc import Iterator
 from contextlib import contextmanager, nullcontext
 from dataclasses import dataclass
 from functools import partial
@@ -15,14 +15,14 @@ from gregorio_chant.format.layout import laid_out
 from gregorio_chant.format.losses import Loss, losses_of
 from gregorio_chant.objects.compiled import Compiled
 from gregorio_chant.report.reports import counted
-from gregorio_chant.work.files import Content, FileChanged, Reader, replace
+from gregorio_chant.work import scores
+from gregorio_chant.work.files import Content, FileChanged, replace
 from gregorio_chant.work.processes import by_processes
-from gregorio_chant.work.progress import Shown, bar
-from gregorio_chant.work.settings import Finder, NoSettings, Settings
-from gregorio_chant.work.staged import StagedFiles
+from gregorio_chant.work.progress import bar
+from gregorio_chant.work.scores import Read, Scores
+from gregorio_chant.work.settings import Settings
 from gregorio_chant.work.statuses import CANNOT_READ_OR_WRITE, NO_MEMORY
 from gregorio_chant.work.streams import STDIN, printable, reason_of, tell, write_data
-from gregorio_chant.work.walk import find_scores
 
 
 @dataclass(frozen=True)
@@ -39,20 +39,14 @@ def style_by(settings: Settings) -> Style:
     return Style(settings.canonical is True, settings.wrap)
 
 
-@dataclass(frozen=True)
-class Options:
+@dataclass(frozen=True, kw_only=True)
+class Options(scores.Options):
     """The options of the command; `allow` has the losses that are allowed."""
 
-    paths: tuple[str, ...]
     style: Style = Style()
     allow: frozenset[str] = frozenset()
     checks: bool = False
     shows_diff: bool = False
-    staged: bool = False
-    jobs: int = 1
-    quiet: bool = False
-    exclude: tuple[str, ...] = ()
-    settings: Finder = NoSettings()
 
     @property
     def writes(self) -> bool:
@@ -134,10 +128,7 @@ class _Done:
     text: str = ""
 
 
-_Read = Callable[[str], Content]
-
-
-def _format(name: str, options: Options, read: _Read) -> _Done:
+def _format(name: str, options: Options, read: Read) -> _Done:
     """Formats a file, or says why it stays as it is."""
     shown = "<stdin>" if name == STDIN else name
     try:
@@ -208,67 +199,52 @@ def _lines(text: str) -> list[str]:
 # ---- many files
 
 
-class _Run:
-    """Counts what became of files."""
+class _Scores(Scores):
+    """The scores that are formatted, and what became of them."""
 
-    def __init__(self) -> None:
-        self.status = 0
+    def __init__(self, options: Options) -> None:
         self.outcomes = {it: 0 for it in Outcome}
-        self.shown: Shown | None = None
+        super().__init__(options)
 
-    def add(self, done: _Done) -> None:
-        with self.shown.aside(told=bool(done.lines)) if self.shown and (
-            done.text or done.lines
-        ) else nullcontext():
-            self._tell(done)
+    def fail(self, name: str, reason: str, status: int = CANNOT_READ_OR_WRITE) -> None:
+        super().fail(name, reason, status)
+        self.outcomes[Outcome.FAILED] += 1
 
-    def _tell(self, done: _Done) -> None:
+    def take(self, done: _Done) -> None:
+        """Counts a file, and writes what is to be written of it."""
         write_data(done.text)
         self.outcomes[done.outcome] += 1
-        self.status = max(self.status, done.status)
+        self.add(done.status)
         for it in done.lines:
             tell(it)
 
-    def cannot_read(self, name: str, error: OSError) -> None:
-        self.add(
-            _Done(
-                Outcome.FAILED, CANNOT_READ_OR_WRITE, (f"cannot read {name}: {reason_of(error)}",)
-            )
-        )
-
     def summary(self) -> str:
         told = [f"{number:,} {it.value}" for it, number in self.outcomes.items() if number]
-        return f"{counted(sum(self.outcomes.values()), 'file')}: {', '.join(told) if told else 'nothing to do'}"
+        files = counted(sum(self.outcomes.values()), "file")
+        return f"{files}: {', '.join(told) if told else 'nothing to do'}"
 
 
 @contextmanager
-def _all_formatted(options: Options, run: _Run) -> Iterator[tuple[int, Iterator[_Done]]]:
-    """Gives how many files there are, and what becomes of each, in order; many of them are
-    formatted by `options.jobs` processes."""
+def _all_formatted(options: Options, found: _Scores) -> Iterator[Iterator[_Done]]:
+    """Gives what becomes of each file, in order; many of them are formatted by `options.jobs`
+    processes."""
+    work = partial(_format, options=options, read=found.read)
     if options.staged:
-        staged = StagedFiles(options.paths)
-        names = options.settings.kept(staged.names, options.paths)
-        yield len(names), (_format(it, options, staged.read) for it in names)
+        yield map(work, found.names)
         return
-    names = options.settings.kept(
-        find_scores(options.paths, run.cannot_read, options.exclude), options.paths
-    )
-    with by_processes(
-        partial(_format, options=options, read=Reader.of(options.paths).read), names, options.jobs
-    ) as all_done:
-        yield len(names), all_done
+    with by_processes(work, found.names, options.jobs) as all_done:
+        yield all_done
 
 
 def format_files(options: Options) -> int:
     """Formats the files, and returns the worst status. Raises `WriteError`, and before any score is
     read `GitError`, `SettingsError` or `MissingDependency`."""
-    run = _Run()
-    with _all_formatted(options, run) as (files_named, all_done), bar(
-        "formatting", files_named
-    ) as run.shown:
+    found = _Scores(options)
+    with _all_formatted(options, found) as all_done, bar("formatting", len(found.names)) as shown:
         for it in all_done:
-            run.add(it)
-            run.shown.advance()
+            with shown.aside(told=bool(it.lines)) if it.text or it.lines else nullcontext():
+                found.take(it)
+            shown.advance()
     if not options.quiet:
-        tell(run.summary())
-    return run.status
+        tell(found.summary())
+    return found.status

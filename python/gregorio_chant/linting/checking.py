@@ -17,32 +17,25 @@ from gregorio_chant.objects.compiled import Compiled
 from gregorio_chant.report.reports import Annotations, Checked, Json, Lines, Reporter, summary_of
 from gregorio_chant.report.sarif import Sarif
 from gregorio_chant.text.source import text_of
-from gregorio_chant.work.files import Content, Reader
+from gregorio_chant.work import scores
 from gregorio_chant.work.needs import MissingDependency
 from gregorio_chant.work.processes import by_processes
 from gregorio_chant.work.progress import bar
-from gregorio_chant.work.settings import Chosen, Finder, NoSettings
-from gregorio_chant.work.staged import StagedFiles
+from gregorio_chant.work.scores import Read, Scores
+from gregorio_chant.work.settings import Chosen
 from gregorio_chant.work.statuses import CANNOT_READ_OR_WRITE, NO_MEMORY
 from gregorio_chant.work.streams import reason_of, tell, write
-from gregorio_chant.work.walk import find_scores
 
 FORMS = ("text", "lines", "json", "github", "sarif")
 
 
-@dataclass(frozen=True)
-class Options:
-    """The options of `check`; `exclude` has patterns of files to leave out of folders."""
+@dataclass(frozen=True, kw_only=True)
+class Options(scores.Options):
+    """The options of `check`."""
 
-    paths: tuple[str, ...]
     chosen: Chosen = Chosen()
     form: str = "text"
     with_rules: bool = False
-    jobs: int = 1
-    quiet: bool = False
-    exclude: tuple[str, ...] = ()
-    staged: bool = False
-    settings: Finder = NoSettings()
 
 
 def found_in(compiled: Compiled, with_rules: bool) -> tuple[Message, ...]:
@@ -72,10 +65,7 @@ def told_of(compiled: Compiled, selection: Selection, with_rules: bool) -> Told:
     return Told(found, messages, text, helps_for(compiled, messages))
 
 
-_Read = Callable[[str], Content]
-
-
-def check_file(name: str, options: Options, read_it: _Read) -> Checked:
+def check_file(name: str, options: Options, read_it: Read) -> Checked:
     """Returns what is found in the file, or why it was not read."""
     try:
         return check_score(name, Compiled(read_it(name).data), options)
@@ -95,7 +85,7 @@ def check_score(name: str, compiled: Compiled, options: Options) -> Checked:
 
 
 @contextmanager
-def _all_checked(names: list[str], options: Options, read_it: _Read) -> Iterator[Iterator[Checked]]:
+def _all_checked(names: list[str], options: Options, read_it: Read) -> Iterator[Iterator[Checked]]:
     """Gives what is found in each file, in order: by threads, since the compiler runs beside
     them; by processes with rules, which are Python."""
     work = partial(check_file, options=options, read_it=read_it)
@@ -130,40 +120,23 @@ def _reporter_of(form: str) -> Reporter:
     return TextReporter()
 
 
-class _Count:
-    """How many files were read, how many could not be, what was found in them, and the worst
-    status."""
+class _Scores(Scores):
+    """The scores that are checked, and what is found in them."""
 
-    def __init__(self) -> None:
-        self.files, self.failed, self.status = 0, 0, 0
+    def __init__(self, options: Options) -> None:
+        super().__init__(options)
         self.kinds = Counter[Kind]()
 
-    def add(self, checked: Checked) -> None:
-        self.status = max(self.status, checked.status)
+    def take(self, checked: Checked) -> None:
+        """Counts a file."""
+        if checked.failure is not None:
+            self.fail(checked.shown_name, checked.failure, checked.status)
+            return
+        self.add(checked.status)
         self.kinds.update(it.kind for it in checked.messages)
-        if checked.failure is None:
-            self.files += 1
-        else:
-            self.fail(checked.shown_name, checked.failure)
-
-    def fail(self, name: str, reason: str) -> None:
-        self.failed += 1
-        self.status = max(self.status, CANNOT_READ_OR_WRITE)
-        tell(f"cannot read {name}: {reason}")
 
     def summary(self) -> str:
-        return summary_of(self.files, self.failed, self.kinds)
-
-
-def _named(options: Options, count: _Count) -> tuple[list[str], _Read]:
-    """Returns the names of what is checked, and what reads each."""
-    if options.staged:
-        staged = StagedFiles(options.paths)
-        return options.settings.kept(staged.names, options.paths), staged.read
-    names = find_scores(
-        options.paths, lambda name, error: count.fail(name, reason_of(error)), options.exclude
-    )
-    return options.settings.kept(names, options.paths), Reader.of(options.paths).read
+        return summary_of(self.done, self.failed, self.kinds)
 
 
 def check(options: Options) -> int:
@@ -171,16 +144,17 @@ def check(options: Options) -> int:
     `WriteError`, and `MissingDependency`, `GitError` or `SettingsError` before any score is read.
     """
     reporter = _reporter_of(options.form)
-    count = _Count()
-    names, read_it = _named(options, count)
-    with _all_checked(names, options, read_it) as all_checked, bar("checking", len(names)) as shown:
+    found = _Scores(options)
+    with _all_checked(found.names, options, found.read) as all_checked, bar(
+        "checking", len(found.names)
+    ) as shown:
         for it in all_checked:
             text = reporter.add(it)
             with shown.aside(told=it.failure is not None) if text or it.failure else nullcontext():
-                count.add(it)
+                found.take(it)
                 write(text)
             shown.advance()
-    write(reporter.end(None if options.quiet else count.summary()))
+    write(reporter.end(None if options.quiet else found.summary()))
     if not options.quiet and not reporter.has_summary:
-        tell(count.summary())
-    return count.status
+        tell(found.summary())
+    return found.status

@@ -6,15 +6,13 @@ from gregorio_chant.linting.checking import Options
 from gregorio_chant.linting.repairing import How, repair
 from gregorio_chant.report.reports import counted
 from gregorio_chant.work import files
-from gregorio_chant.work.statuses import CANNOT_READ_OR_WRITE
-from gregorio_chant.work.streams import reason_of, tell, write_data
-from gregorio_chant.work.walk import find_scores
+from gregorio_chant.work.scores import Scores
+from gregorio_chant.work.streams import tell, write_data
 
 
-def _fix(name: str, reader: files.Reader, how: How, shows_diff: bool) -> bool:
+def _fix(name: str, content: files.Content, how: How, shows_diff: bool) -> bool:
     """Repairs a file, or shows what would be repaired, tells each guess, and returns whether there
     is something to repair. Raises `OSError` and `files.FileChanged`."""
-    content = reader.read(name)
     made = repair(content.data, how)
     if made.data == content.data:
         return False
@@ -35,30 +33,18 @@ def fix_files(options: Options, allow_unsafe: bool, shows_diff: bool) -> int:
     """Repairs what `check` would report of the files, and returns 0, or 1 where a diff shows
     something, or 4 where a file cannot be read or written. Raises `WriteError`, and `SettingsError`
     or `MissingDependency` before any score is read."""
-    status = number = 0
-
-    def fail(name: str, reason: str) -> None:
-        nonlocal status
-        status = CANNOT_READ_OR_WRITE
-        tell(f"cannot repair {name}: {reason}; it stays as it was")
-
-    reader = files.Reader.of(options.paths)
-    names = find_scores(
-        options.paths, lambda name, error: fail(name, reason_of(error)), options.exclude
-    )
-    for name in options.settings.kept(names, options.paths):
+    scores = Scores(options, "repair", "; it stays as it was")
+    for name, content in scores.contents():
         settings = options.settings.of(name)
+        with_rules = options.with_rules or settings.rules is True
+        how = How(allow_unsafe, with_rules, settings.selection(name, options.chosen))
         try:
-            how = How(
-                allow_unsafe,
-                options.with_rules or settings.rules is True,
-                settings.selection(name, options.chosen),
-            )
-            number += _fix(name, reader, how, shows_diff)
+            scores.add(0, _fix(name, content, how, shows_diff))
         except OSError as error:
-            fail(name, reason_of(error))
+            scores.cannot(name, error)
         except files.FileChanged as error:
-            fail(name, str(error))
+            scores.fail(name, str(error))
     if not options.quiet:
-        tell(f"{counted(number, 'file')} {'would be repaired' if shows_diff else 'repaired'}")
-    return max(status, int(shows_diff and number > 0))
+        told = "would be repaired" if shows_diff else "repaired"
+        tell(f"{counted(scores.done, 'file')} {told}")
+    return max(scores.status, int(shows_diff and scores.done > 0))

@@ -18,29 +18,24 @@ from gregorio_chant.picture import Look, Names, draw
 from gregorio_chant.picture.page import NARROW, Entry, Shown, index_of, page_of
 from gregorio_chant.report.reports import Checked, counted, summary_of
 from gregorio_chant.text.source import text_of
-from gregorio_chant.work import files
-from gregorio_chant.work.settings import Finder, NoSettings
-from gregorio_chant.work.statuses import CANNOT_READ_OR_WRITE
-from gregorio_chant.work.streams import STDIN, WriteError, printable, reason_of, tell, write_data
-from gregorio_chant.work.walk import find_scores
+from gregorio_chant.work import files, scores
+from gregorio_chant.work.scores import Scores
+from gregorio_chant.work.streams import STDIN, WriteError, printable, tell, write_data
 
 MOST = 200
 _INDEX = "index.html"
 
 
-@dataclass(frozen=True)
-class Options:
+@dataclass(frozen=True, kw_only=True)
+class Options(scores.Options):
     """The options of `show`. `output` is a file or a folder, and `None` standard output."""
 
-    paths: tuple[str, ...]
     output: str | None = None
     svg: bool = False
     look: Look = field(default_factory=Look)
     with_messages: bool = True
     sings: bool = False
     with_rules: bool = False
-    exclude: tuple[str, ...] = ()
-    settings: Finder = NoSettings()
 
     @property
     def into_folder(self) -> bool:
@@ -52,42 +47,23 @@ class Options:
         return [] if self.output is None else [Path(self.output)]
 
 
-class _Scores:
-    """Reads the scores, and counts what is found."""
+class _Scores(Scores):
+    """The scores that are shown, and what is found in them."""
 
     def __init__(self, options: Options) -> None:
+        super().__init__(options)
         self._options = options
         self._checking = checking.Options(
-            options.paths, with_rules=options.with_rules, settings=options.settings
+            paths=options.paths, with_rules=options.with_rules, settings=options.settings
         )
-        self._reader = files.Reader.of(options.paths)
-        self.files, self.failed, self.status = 0, 0, 0
         self.kinds = Counter[Kind]()
 
-    def names(self) -> list[str]:
-        found = find_scores(
-            self._options.paths,
-            lambda name, error: self._fail(name, reason_of(error)),
-            self._options.exclude,
-        )
-        return self._options.settings.kept(found, self._options.paths)
-
-    def _fail(self, name: str, reason: str) -> None:
-        self.failed += 1
-        self.status = max(self.status, CANNOT_READ_OR_WRITE)
-        tell(f"cannot read {name}: {reason}")
-
-    def all(self, names: Iterable[str]) -> Iterator[tuple[Checked, Compiled]]:
+    def all(self) -> Iterator[tuple[Checked, Compiled]]:
         """Yields what is found in each score, and what the compiler says of it."""
-        for name in names:
-            try:
-                compiled = Compiled(self._reader.read(name).data)
-            except OSError as error:
-                self._fail(name, reason_of(error))
-                continue
+        for name, content in self.contents():
+            compiled = Compiled(content.data)
             checked = checking.check_score(name, compiled, self._checking)
-            self.files += 1
-            self.status = max(self.status, checked.status)
+            self.add(checked.status)
             self.kinds.update(it.kind for it in checked.messages)
             yield checked, compiled
 
@@ -118,7 +94,7 @@ class _Scores:
         )
 
     def summary(self) -> str:
-        return summary_of(self.files, self.failed, self.kinds)
+        return summary_of(self.done, self.failed, self.kinds)
 
 
 def _put(path: Path, pieces: Iterable[str], below: Path | None = None) -> None:
@@ -165,27 +141,26 @@ def _identity(path: str | Path) -> tuple[int, int] | None:
 def show(options: Options) -> int:
     """Writes what is wanted, and returns the worst status. Raises `WriteError`, `UsageError`,
     and `MissingDependency` or `SettingsError` before any score is read."""
-    scores = _Scores(options)
-    names = scores.names()
+    found = _Scores(options)
     if options.svg:
-        _show_one(options, scores, names)
+        _show_one(options, found)
     elif options.into_folder:
-        _show_folder(options, scores, names)
+        _show_folder(options, found)
     else:
-        _show_page(options, scores, names)
-    return scores.status
+        _show_page(options, found)
+    return found.status
 
 
-def _show_one(options: Options, scores: _Scores, names: list[str]) -> None:
+def _show_one(options: Options, found: _Scores) -> None:
     """Writes one picture. Raises `UsageError` where there is not one score."""
-    if len(names) != 1 or options.into_folder:
+    if len(found.names) != 1 or options.into_folder:
         raise UsageError(
-            f"--svg writes one picture, and here are {counted(len(names), 'score')}"
-            if len(names) != 1
+            f"--svg writes one picture, and here are {counted(len(found.names), 'score')}"
+            if len(found.names) != 1
             else "--svg writes a file, and no folder"
         )
-    _refuse_own_input(options.files, names)
-    for checked, compiled in scores.all(names):
+    _refuse_own_input(options.files, found.names)
+    for checked, compiled in found.all():
         _write(
             options,
             draw(
@@ -194,13 +169,13 @@ def _show_one(options: Options, scores: _Scores, names: list[str]) -> None:
         )
 
 
-def _show_page(options: Options, scores: _Scores, names: list[str]) -> None:
+def _show_page(options: Options, found: _Scores) -> None:
     """Writes one page: each score that is named, and of folders those with messages."""
-    _refuse_own_input(options.files, names)
+    _refuse_own_input(options.files, found.names)
     named = {it for it in options.paths if it == STDIN or not os.path.isdir(it)}
     shown: list[Shown] = []
     left_out = from_folders = 0
-    for checked, compiled in scores.all(names):
+    for checked, compiled in found.all():
         if checked.name not in named:
             if not checked.messages:
                 continue
@@ -208,7 +183,7 @@ def _show_page(options: Options, scores: _Scores, names: list[str]) -> None:
             if from_folders > MOST:
                 left_out += 1
                 continue
-        shown.append(scores.shown(checked, compiled, f"p{len(shown) + 1}-"))
+        shown.append(found.shown(checked, compiled, f"p{len(shown) + 1}-"))
     note = (
         f"{counted(left_out, 'score')} more with messages: -o FOLDER/ writes a page for each."
         if left_out
@@ -216,8 +191,8 @@ def _show_page(options: Options, scores: _Scores, names: list[str]) -> None:
     )
     title = (
         shown[0].picture.name or shown[0].name
-        if len(names) == len(shown) == 1
-        else scores.summary()
+        if len(found.names) == len(shown) == 1
+        else found.summary()
     )
     _write(options, page_of(shown, title, note))
 
@@ -244,14 +219,14 @@ def _page_names(names: list[str], paths: tuple[str, ...]) -> Iterator[str]:
         yield page
 
 
-def _show_folder(options: Options, scores: _Scores, names: list[str]) -> None:
+def _show_folder(options: Options, found: _Scores) -> None:
     """Writes a page for each score, and an index."""
     folder = Path(options.output or ".")
-    pages = dict(zip(names, _page_names(names, options.paths)))
-    _refuse_own_input([folder / it for it in (*pages.values(), _INDEX)], names)
+    pages = dict(zip(found.names, _page_names(found.names, options.paths)))
+    _refuse_own_input([folder / it for it in (*pages.values(), _INDEX)], found.names)
     entries: list[Entry] = []
-    for checked, compiled in scores.all(names):
-        shown = scores.shown(checked, compiled, "")
+    for checked, compiled in found.all():
+        shown = found.shown(checked, compiled, "")
         page = pages[checked.name]
         _put(
             folder / page,
@@ -266,5 +241,5 @@ def _show_folder(options: Options, scores: _Scores, names: list[str]) -> None:
         entries.append(
             Entry(shown.name, shown.picture.name, quote(os.fsencode(page)), kinds, codes)
         )
-    _put(folder / _INDEX, index_of(entries, scores.failed), folder)
-    tell(scores.summary())
+    _put(folder / _INDEX, index_of(entries, found.failed), folder)
+    tell(found.summary())

@@ -13,10 +13,10 @@ from gregorio_chant._native.results import Kind, Message, Status
 from gregorio_chant.objects.score import Score, ScoreError
 from gregorio_chant.report.reports import counted, json_of
 from gregorio_chant.text.source import Source
-from gregorio_chant.work.files import Reader
+from gregorio_chant.work import scores
 from gregorio_chant.work.processes import by_processes
 from gregorio_chant.work.progress import bar
-from gregorio_chant.work.settings import Finder
+from gregorio_chant.work.scores import Read, Scores
 from gregorio_chant.work.statuses import CANNOT_READ_OR_WRITE, NO_MEMORY
 from gregorio_chant.work.streams import (
     STDIN,
@@ -27,7 +27,6 @@ from gregorio_chant.work.streams import (
     write,
     write_data,
 )
-from gregorio_chant.work.walk import find_scores
 
 FORMS = ("text", "csv", "json")
 _CSV_END = "\r\n"
@@ -59,16 +58,11 @@ class Maker(Protocol):
         """Returns the rows, in order."""
 
 
-@dataclass(frozen=True)
-class Options:
+@dataclass(frozen=True, kw_only=True)
+class Options(scores.Options):
     """The options of a table; `has_mark` puts a byte order mark before CSV."""
 
-    paths: tuple[str, ...]
-    form: str
-    jobs: int
-    exclude: tuple[str, ...]
-    settings: Finder
-    quiet: bool
+    form: str = "text"
     has_mark: bool = False
 
 
@@ -96,10 +90,10 @@ class Made:
         return None
 
 
-def made_of(name: str, make: Maker, reader: Reader) -> Made:
+def made_of(name: str, make: Maker, read: Read) -> Made:
     """Returns the rows of a file."""
     try:
-        score = Score.parse(reader.read(name).data)
+        score = Score.parse(read(name).data)
         fault = next((it for it in score.messages if it.kind is Kind.FATAL), None)
         return Made(name, tuple(make(score)), fault, None, int(Status.FATAL) if fault else 0)
     except ScoreError as error:
@@ -217,24 +211,14 @@ def for_each(options: Options, make: Maker, take: Callable[[Made], str]) -> int:
     """Makes the rows of all files by all processors, writes what `take` returns for each in order,
     and returns the worst status. Raises `WriteError`, and `SettingsError` or `MissingDependency`
     before any score is read."""
-    status = count = number = 0
-    put = put_for(options)
-
-    def fail(name: str, error: OSError) -> None:
-        nonlocal status
-        status = max(status, CANNOT_READ_OR_WRITE)
-        tell(f"cannot read {name}: {reason_of(error)}")
-
-    names = options.settings.kept(find_scores(options.paths, fail, options.exclude), options.paths)
-    with by_processes(
-        partial(made_of, make=make, reader=Reader.of(options.paths)), names, options.jobs
-    ) as all_made, bar("reading", len(names)) as shown:
+    found, count, put = Scores(options), 0, put_for(options)
+    work = partial(made_of, make=make, read=found.read)
+    with by_processes(work, found.names, options.jobs) as all_made, bar(
+        "reading", len(found.names)
+    ) as shown:
         for it in all_made:
-            status, count, number = (
-                max(status, it.status),
-                count + sum(row.count for row in it.rows),
-                number + (it.failure is None),
-            )
+            found.add(it.status, it.failure is None)
+            count += sum(row.count for row in it.rows)
             text, told = take(it), it.told()
             with shown.aside(told=told is not None) if text or told else nullcontext():
                 put(text)
@@ -242,8 +226,8 @@ def for_each(options: Options, make: Maker, take: Callable[[Made], str]) -> int:
                     tell(told)
             shown.advance()
     if not options.quiet:
-        tell(f"{counted(number, 'file')}: {count:,} found")
-    return status
+        tell(f"{counted(found.done, 'file')}: {count:,} found")
+    return found.status
 
 
 def write_table(options: Options, columns: Sequence[str], make: Maker) -> int:

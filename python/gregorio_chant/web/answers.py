@@ -36,7 +36,9 @@ class Answers:
     def of(self, data: bytes, width: float = USUAL_WIDTH) -> Answer:
         """Returns what is made of a score, with a picture this wide. Raises `MemoryError`."""
         compiled = Compiled(data)
-        options = checking.Options((STDIN,), with_rules=self.with_rules, settings=self.settings)
+        options = checking.Options(
+            paths=(STDIN,), with_rules=self.with_rules, settings=self.settings
+        )
         checked = checking.check_score(STDIN, compiled, options)
         names = Names(_PREFIX, links=True, has_heads=True)
         picture = draw(compiled, checked.messages, look=Look(width=width), names=names)
