@@ -24,7 +24,8 @@ ROOT = HERE.parent
 LIBRARY = ROOT / "crates" / "gregorio_c" / "out" / "c" / "libgregorio.so"
 PACKAGE = "gregorio_chant"
 EDITORS = ROOT / "editors"
-# The files of the package: its modules, its table of helps, those of its page, and its outlines with their licence.
+# The files of the package: its modules, its table of helps, those of its page, and its outlines with
+# their licence.
 SUFFIXES = (".py", ".json", ".html", ".css", ".js", ".tsv", ".txt")
 
 

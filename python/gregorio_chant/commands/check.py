@@ -20,7 +20,10 @@ from gregorio_chant.linting.selection import codes_in
 from gregorio_chant.work.settings import Chosen
 from gregorio_chant.work.streams import STDIN
 
-ABOUT = f"Checks scores, and says what to write instead of each mistake. It writes no file without --fix. {OUTSIDE}"
+ABOUT = (
+    "Checks scores, and says what to write instead of each mistake. It writes no file without"
+    f" --fix. {OUTSIDE}"
+)
 EPILOG = epilog(
     (
         "gregorio-chant check scores",
@@ -43,7 +46,10 @@ def add(parser: Parser) -> None:
     parser.add_argument(
         "--select",
         metavar="CODES",
-        help="report only these: codes with commas between them; E, W or F is a whole kind, rules are all rules",
+        help=(
+            "report only these: codes with commas between them; E, W or F is a whole kind, rules"
+            " are all rules"
+        ),
     )
     parser.add_argument(
         "--ignore", metavar="CODES", help="do not report these; a fatal fault is always reported"
@@ -64,7 +70,9 @@ def add(parser: Parser) -> None:
     parser.add_argument(
         "--unsafe-fixes",
         action="store_true",
-        help="with --fix: also guess, as where a bracket is missing; each guess says what it changes",
+        help=(
+            "with --fix: also guess, as where a bracket is missing; each guess says what it changes"
+        ),
     )
     parser.add_argument(
         "--diff",

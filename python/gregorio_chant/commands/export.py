@@ -20,8 +20,10 @@ from gregorio_chant.work.needs import need
 _TEMPO = 140
 # The formats but MIDI, which wants a package.
 _WAYS = {it.name: it for it in (volpiano.WAY, musicxml.WAY, mei.WAY)}
-ABOUT = f"""Writes scores in another format, into files with the same name and another ending: volpiano (.volpiano) for chant databases, musicxml (.musicxml) for
-editors of modern notation, mei (.mei) for scholars, midi (.mid) for listening. A line names each kind of sign that the format loses. {OUTSIDE}"""
+ABOUT = f"""Writes scores in another format, into files with the same name and another ending:
+volpiano (.volpiano) for chant databases, musicxml (.musicxml) for editors of modern notation, mei
+(.mei) for scholars, midi (.mid) for listening. A line names each kind of sign that the format
+loses. {OUTSIDE}"""
 EPILOG = epilog(
     (
         "gregorio-chant export --to musicxml score.gabc",

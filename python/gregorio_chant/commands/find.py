@@ -17,8 +17,9 @@ from gregorio_chant.tables.searching import (
 )
 from gregorio_chant.tables.tables import write_table
 
-ABOUT = f"""Finds intervals, melodies, neumes or words in scores, and writes the place of each. With several options it writes what the first of them
-in this list finds, if that shares a note with something that each other one finds. It writes no file. {OUTSIDE}"""
+ABOUT = f"""Finds intervals, melodies, neumes or words in scores, and writes the place of each. With
+several options it writes what the first of them in this list finds, if that shares a note with
+something that each other one finds. It writes no file. {OUTSIDE}"""
 EPILOG = epilog(
     (
         'gregorio-chant find --interval "+2 +1 -3" scores',

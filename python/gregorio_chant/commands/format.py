@@ -18,9 +18,10 @@ from gregorio_chant.format import formatting
 from gregorio_chant.format.losses import REASONS
 from gregorio_chant.text.nearest import did_you_mean
 
-ABOUT = f"""Writes headers and syllables in canonical spelling, and keeps lines, empty lines and comments. A part with a message keeps its
-spelling. A file is written only if the compiler gives the same canonical form, dump and messages for the new text. The new file is written beside the
-old one, and then replaces it. {OUTSIDE}"""
+ABOUT = f"""Writes headers and syllables in canonical spelling, and keeps lines, empty lines and
+comments. A part with a message keeps its spelling. A file is written only if the compiler gives the
+same canonical form, dump and messages for the new text. The new file is written beside the old one,
+and then replaces it. {OUTSIDE}"""
 EPILOG = epilog(
     (
         "gregorio-chant format scores",
@@ -52,13 +53,18 @@ def add(parser: Parser) -> None:
     parser.add_argument(
         "--canonical",
         action="store_true",
-        help="write the canonical form, one word on each line and no comments, if only blanks change",
+        help=(
+            "write the canonical form, one word on each line and no comments, if only blanks change"
+        ),
     )
     parser.add_argument(
         "--allow",
         metavar="REASONS",
         default="",
-        help=f"with --canonical: allow these losses, with commas between them: {', '.join(sorted(REASONS))}",
+        help=(
+            "with --canonical: allow these losses, with commas between them:"
+            f" {', '.join(sorted(REASONS))}"
+        ),
     )
     add_jobs(parser)
     add_no_config(parser)
@@ -71,7 +77,8 @@ def _allowed(words: argparse.Namespace) -> frozenset[str]:
     allow = frozenset(it.strip() for it in words.allow.split(",") if it.strip())
     for word in sorted(allow - REASONS):
         raise UsageError(
-            f"--allow {word}: nothing goes for this; {did_you_mean(word, REASONS, '--help lists the reasons')}"
+            f"--allow {word}: nothing goes for this;"
+            f" {did_you_mean(word, REASONS, '--help lists the reasons')}"
         )
     if words.canonical and words.wrap is not None:
         raise UsageError("--wrap is not for --canonical, which has a word on each line")

@@ -8,8 +8,9 @@ from gregorio_chant.commands.words import OUTSIDE, Parser, epilog
 from gregorio_chant.tables.indexing import Index
 from gregorio_chant.tables.tables import write_table
 
-ABOUT = f"""Writes a row for each score: its name, office part and mode, its first words and degrees, its last, lowest and highest degree, the steps between the
-lowest and the highest, and its beginning in Volpiano. {OUTSIDE}"""
+ABOUT = f"""Writes a row for each score: its name, office part and mode, its first words and
+degrees, its last, lowest and highest degree, the steps between the lowest and the highest, and its
+beginning in Volpiano. {OUTSIDE}"""
 EPILOG = epilog(
     (
         "gregorio-chant index scores",

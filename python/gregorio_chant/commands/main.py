@@ -1,5 +1,5 @@
-"""The command `gregorio-chant`: its sub-commands, and its statuses. A sub-command is imported when it
-is asked for, so that each begins at once."""
+"""The command `gregorio-chant`: its sub-commands, and its statuses. A sub-command is imported when
+it is asked for, so that each begins at once."""
 from __future__ import annotations
 
 from collections.abc import Iterable, Sequence

@@ -9,7 +9,8 @@ from gregorio_chant.tables.searching import NEUME, each_neume
 from gregorio_chant.tables.tables import write_table
 from gregorio_chant.tables.totals import write_totals
 
-ABOUT = f"""Counts the neumes of scores. It writes a row for each kind, the most frequent first, with the place of the first one. {OUTSIDE}"""
+ABOUT = f"""Counts the neumes of scores. It writes a row for each kind, the most frequent first,
+with the place of the first one. {OUTSIDE}"""
 EPILOG = epilog(
     (
         "gregorio-chant neumes scores",

@@ -21,9 +21,10 @@ from gregorio_chant.work.needs import need
 from gregorio_chant.work.statuses import CANNOT_READ_OR_WRITE
 from gregorio_chant.work.streams import is_terminal, printable, reason_of, tell
 
-ABOUT = f"""Writes a page with a picture of each score, its messages and its source. The page needs no script and no network. From folders only the scores
-with messages are shown, at most {showing.MOST} of them. With -o FOLDER/ each score has a page, and an index leads to them. The picture is a view of the
-score, and no typesetting. {OUTSIDE}"""
+ABOUT = f"""Writes a page with a picture of each score, its messages and its source. The page needs
+no script and no network. From folders only the scores with messages are shown, at most
+{showing.MOST} of them. With -o FOLDER/ each score has a page, and an index leads to them. The
+picture is a view of the score, and no typesetting. {OUTSIDE}"""
 EPILOG = epilog(
     (
         "gregorio-chant show -o page.html score.gabc",
@@ -40,7 +41,10 @@ def add(parser: Parser) -> None:
         "-o",
         "--output",
         metavar="FILE",
-        help="write the page into this file; into a folder, or a name that ends in /, write an index and a page for each score",
+        help=(
+            "write the page into this file; into a folder, or a name that ends in /, write an index"
+            " and a page for each score"
+        ),
     )
     parser.add_argument(
         "--svg", action="store_true", help="write only the picture of one score, as SVG"
@@ -68,7 +72,10 @@ def add(parser: Parser) -> None:
     parser.add_argument(
         "--font",
         metavar="FILE",
-        help="draw neumes with this font, which must have GregorioTeX's glyph names, as greciliae.ttf",
+        help=(
+            "draw neumes with this font, which must have GregorioTeX's glyph names, as"
+            " greciliae.ttf"
+        ),
     )
     parser.add_argument(
         "--no-initial",
@@ -83,7 +90,9 @@ def add(parser: Parser) -> None:
     parser.add_argument(
         "--play",
         action="store_true",
-        help="let the page sing each score, with a script; a double click on a syllable begins there",
+        help=(
+            "let the page sing each score, with a script; a double click on a syllable begins there"
+        ),
     )
     parser.add_argument(
         "--watch",
@@ -145,5 +154,6 @@ def _face_of(font: str) -> Face:
         return face_of(font)
     except NoFace:
         raise UsageError(
-            f"--font {printable(font)}: it is no font with the glyph names of GregorioTeX, as greciliae.ttf"
+            f"--font {printable(font)}: it is no font with the glyph names of GregorioTeX, as"
+            " greciliae.ttf"
         ) from None

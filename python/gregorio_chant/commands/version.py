@@ -8,7 +8,10 @@ from gregorio_chant.commands.words import Parser
 from gregorio_chant.work.streams import NAME as COMMAND
 from gregorio_chant.work.streams import write
 
-ABOUT = "Writes the versions of the command and of its library, and the commit and the kit from which the library was built."
+ABOUT = (
+    "Writes the versions of the command and of its library, and the commit and the kit from which"
+    " the library was built."
+)
 EPILOG = ""
 
 

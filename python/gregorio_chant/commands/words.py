@@ -18,10 +18,14 @@ if TYPE_CHECKING:
     from gregorio_chant.work.settings import Finder
 
 OUTSIDE = "The compiler is proved; this command is tested."
-STATUSES = """exit status, the highest of: 0 no error, 1 errors (format: a file would change or was refused), 2 a fatal fault,
-3 wrong arguments or a missing package, 4 a file could not be read or written, 5 no memory"""
+STATUSES = """exit status, the highest of: 0 no error, 1 errors (format: a file would change or was
+refused), 2 a fatal fault, 3 wrong arguments or a missing package, 4 a file could not be read or
+written, 5 no memory"""
 _STAGED = "read all staged scores of git, or those below the PATHs, and not the files"
-_PATHS = f"a file, a folder for the scores below it, or {STDIN} for standard input; after -- every argument is a path"
+_PATHS = (
+    f"a file, a folder for the scores below it, or {STDIN} for standard input; after -- every"
+    " argument is a path"
+)
 
 
 class Help(argparse.HelpFormatter):
@@ -111,7 +115,10 @@ def add_files(parser: Parser, more: str = "") -> None:
         action="append",
         default=[],
         metavar="PATTERN",
-        help="leave these files out of folders, as a line of .gitignore would; may be given several times",
+        help=(
+            "leave these files out of folders, as a line of .gitignore would; may be given several"
+            " times"
+        ),
     )
 
 

@@ -145,9 +145,10 @@ def check(options: Options) -> int:
     """
     reporter = _reporter_of(options.form)
     found = _Scores(options)
-    with _all_checked(found.names, options, found.read) as all_checked, bar(
-        "checking", len(found.names)
-    ) as shown:
+    with (
+        _all_checked(found.names, options, found.read) as all_checked,
+        bar("checking", len(found.names)) as shown,
+    ):
         for it in all_checked:
             text = reporter.add(it)
             with shown.aside(told=it.failure is not None) if text or it.failure else nullcontext():

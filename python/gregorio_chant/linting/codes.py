@@ -54,21 +54,30 @@ _ERRORS = (
     Code(
         "E1",
         "character left out of the notes",
-        "A character of the notes fits nowhere, and was left out. Look for a typing mistake, such as a capital letter or a digit after the wrong note.",
+        (
+            "A character of the notes fits nowhere, and was left out. Look for a typing mistake,"
+            " such as a capital letter or a digit after the wrong note."
+        ),
         "Ky(g5)ri(g)",
         "Ky(g.)ri(g)",
     ),
     Code(
         "E2",
         "character left out of the text",
-        "A character of a text was left out: a ), ] or > without its opening bracket. Remove it, or write $ before it.",
+        (
+            "A character of a text was left out: a ), ] or > without its opening bracket. Remove"
+            " it, or write $ before it."
+        ),
         "Ky(f))ri(g)",
         "Ky(f)ri(g)",
     ),
     Code(
         "E3",
         "character left out of the NABC notes",
-        "A character of the NABC notes fits nowhere, and was left out. Compare the descriptor with the manual.",
+        (
+            "A character of the NABC notes fits nowhere, and was left out. Compare the descriptor"
+            " with the manual."
+        ),
         "Ky(fg|pe1)",
         "Ky(fg|peS1)",
         before=_NABC,
@@ -94,7 +103,10 @@ _ERRORS = (
     Code(
         "E6",
         "unfinished end of the notes left out",
-        "The notes of a syllable end too early, for example with a - and no note after it. Finish or remove the end.",
+        (
+            "The notes of a syllable end too early, for example with a - and no note after it."
+            " Finish or remove the end."
+        ),
         "Ky(fg-)",
         "Ky(f-g)",
     ),
@@ -122,14 +134,20 @@ _WARNINGS = (
     Code(
         "W3",
         "style tag not matched",
-        "A style tag has no partner, or a style is open at the end of a syllable. Close each style in its own syllable.",
+        (
+            "A style tag has no partner, or a style is open at the end of a syllable. Close each"
+            " style in its own syllable."
+        ),
         "<i>Ky(f)ri</i>(g)",
         "<i>Ky</i>(f)<i>ri</i>(g)",
     ),
     Code(
         "W4",
         "centring brace not matched or second",
-        "A brace of the centre has no partner, is the second of its kind, or is still open. Keep one pair in a syllable.",
+        (
+            "A brace of the centre has no partner, is the second of its kind, or is still open."
+            " Keep one pair in a syllable."
+        ),
         "{K}{y}(f)",
         "{Ky}(f)",
     ),
@@ -238,7 +256,10 @@ _FAULTS = (
     Code(
         "F6",
         "input ends inside notes, a tag, a raw part or a translation",
-        "The input ends inside notes, a tag, a raw part or a translation. Close the part that begins at this place.",
+        (
+            "The input ends inside notes, a tag, a raw part or a translation. Close the part that"
+            " begins at this place."
+        ),
         "Ky(f)ri(g",
         "Ky(f)ri(g)",
     ),

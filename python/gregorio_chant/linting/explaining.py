@@ -42,7 +42,8 @@ def page_uri(name: str) -> str:
     code = CODES.get(name)
     if code is None:
         return f"{PAGES}/RULES.md#{name}"
-    return f"{PAGES}/LANGUAGE.md#{'fatal-faults' if code.kind is Kind.FATAL else 'errors-and-warnings'}"
+    section = "fatal-faults" if code.kind is Kind.FATAL else "errors-and-warnings"
+    return f"{PAGES}/LANGUAGE.md#{section}"
 
 
 def example_of(name: str) -> tuple[str, str]:
@@ -64,7 +65,10 @@ def _page(title: str, meaning: str, wrong: str, right: str) -> str:
 
 def _silence(name: str) -> str:
     """Returns how to silence a rule: on a line, and in a score."""
-    return f"\nSilence it, on its line or in the whole score:\n    % gregorio: ignore {name}\n    % gregorio: ignore-file {name}\n"
+    return (
+        f"\nSilence it, on its line or in the whole score:\n    % gregorio: ignore {name}\n    %"
+        f" gregorio: ignore-file {name}\n"
+    )
 
 
 def _repair_of(repair: Repair) -> str:

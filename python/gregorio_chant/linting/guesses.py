@@ -21,13 +21,20 @@ _STRUCK_FOR_OPENER, _STRUCK_FOR_CLOSER = "89", "09"
 _SIGNS = ("'", "!", "-", "_", ".", "~", *"0123456789")
 _MARKUP = re.compile(r"<(v|alt)>.*?</\1>|<[^>\n]*>|[{}]", re.DOTALL)
 _NOTES = re.compile(
-    r"(?:-?[a-npA-NP](?:[vVsoOwWqrR=~<>.'_0-9!/@xy#`+ ]|-?[a-npA-NP]|\[[^\]\n]*\])*)?(?:[,;:`][,;:?'_0-9]*)?(?:z0?|Z|[a-m]\+)?|(?:c|f|cb|fb)[1-5]"
+    r"(?:-?[a-npA-NP](?:[vVsoOwWqrR=~<>.'_0-9!/@xy#`+"
+    r" ]|-?[a-npA-NP]|\[[^\]\n]*\])*)?(?:[,;:`][,;:?'_0-9]*)?(?:z0?|Z|[a-m]\+)?|(?:c|f|cb|fb)[1-5]"
 )
 # Notes with neumes of NABC, which end at a blank.
 _NABC = re.compile(r"[^|\s]*(?:\|[^|\s]+)+")
-_ONSET = "qu|ngu|chr|sch|scr|spr|str|thr|phr|phl|shr|[bcdfgkptv]r|[bcfgkps]l|[cgkprstw]h|g[nu]|kn|mn|p[nst]|s[cmnptqwuk]|tw|wr|[bcdfghjklmnpqrstvwxz]"
+_ONSET = (
+    "qu|ngu|chr|sch|scr|spr|str|thr|phr|phl|shr|[bcdfgkptv]r|[bcfgkps]l|[cgkprstw]h|g[nu]|kn|mn"
+    "|p[nst]|s[cmnptqwuk]|tw|wr|[bcdfghjklmnpqrstvwxz]"
+)
 _NUCLEUS = "[aeiouyæœ]|ae|oe|au|eu|[aeo][eiouy]|ie|ou"
-_CODA = "[bcdfghklmnprstwxyz]|[lnr][bcdfgkpstxz]|[bcp]s|[cps]t|nct|n[cg]s|[cgst]h|ght|[fls]{2}|ck|nn|mm|wn|rn"
+_CODA = (
+    "[bcdfghklmnprstwxyz]|[lnr][bcdfgkpstxz]|[bcp]s|[cps]t|nct|n[cg]s|[cgst]h|ght|[fls]{2}|ck|nn"
+    "|mm|wn|rn"
+)
 _SYLLABLE = re.compile(rf"({_ONSET})?({_NUCLEUS})({_CODA})?")
 # How often a syllable of Latin ends so, among a thousand; one that is not here is rarer.
 _CODAS = {

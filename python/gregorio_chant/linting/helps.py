@@ -33,8 +33,8 @@ def _kinds(names: Iterable[str]) -> tuple[NodeKind, ...]:
 
 @dataclass(frozen=True)
 class _Row:
-    """A row of the table: what it asks for, the facts that it needs, and its sentence. If `is_once`,
-    a later message with the same help refers to the first one."""
+    """A row of the table: what it asks for, the facts that it needs, and its sentence. If
+    `is_once`, a later message with the same help refers to the first one."""
 
     help: str
     nodes: tuple[NodeKind, ...]

@@ -45,7 +45,10 @@ class _Ignore:
             return f"{self.code} is no code, so it silences nothing"
         if self.code[0] == "F":
             return f"{self.code} is fatal, so it cannot be silenced"
-        return f"there is no {self.code} {'in the score' if self.in_file else 'on this line'} to silence"
+        return (
+            f"there is no {self.code} {'in the score' if self.in_file else 'on this line'} to"
+            " silence"
+        )
 
 
 def _keys_of(message: Message) -> set[_Key]:

@@ -448,7 +448,10 @@ REPAIRS: dict[str, Repair] = {
         Repair(
             "html-tag",
             _codes("W6"),
-            "Remove a tag of HTML, or the end of a tag that is not open; or write the tag of GABC for it.",
+            (
+                "Remove a tag of HTML, or the end of a tag that is not open; or write the tag of"
+                " GABC for it."
+            ),
             "a tag goes",
             _html_tag,
             "Ky<br>(f)",

@@ -48,23 +48,30 @@ def _unused_ignore(subject: Subject) -> Iterator[Found]:
 _ALL = (
     Rule(
         "outside-staff",
-        "A note, a sign or a custos is higher than the staff allows: more than three steps above its top line (header staff-lines, or 4 lines). "
-        "Look for a typing mistake.",
+        (
+            "A note, a sign or a custos is higher than the staff allows: more than three steps"
+            " above its top line (header staff-lines, or 4 lines). Look for a typing mistake."
+        ),
         outside_staff,
         "Ky(fn)",
         "Ky(fm)",
     ),
     Rule(
         "bracket-in-attribute",
-        "An attribute or a spacing in brackets contains a ( or a ). Its ] may be missing: write it.",
+        (
+            "An attribute or a spacing in brackets contains a ( or a ). Its ] may be missing:"
+            " write it."
+        ),
         bracket_in_attribute,
         "Ky(f[cs:a)ri(g])",
         "Ky(f[cs:a])ri(g)",
     ),
     Rule(
         "nabc-without-header",
-        "The notes have a |, but there is no header nabc-lines. Write one, such as nabc-lines: 1;. This message replaces the E1 of each "
-        "character after the |.",
+        (
+            "The notes have a |, but there is no header nabc-lines. Write one, such as nabc-lines:"
+            " 1;. This message replaces the E1 of each character after the |."
+        ),
         nabc_without_header,
         "%%\n(c4) Ky(f|pu) ri(gh|pe)",
         "nabc-lines: 1;\n%%\n(c4) Ky(f|pu) ri(gh|pe)",
@@ -73,22 +80,31 @@ _ALL = (
     ),
     Rule(
         "comment",
-        "The score has a comment, and the canonical form keeps none. This rule is tried only if the settings ask for the canonical form, "
-        "or if --select names it. Write the comment into a header, such as user-notes.",
+        (
+            "The score has a comment, and the canonical form keeps none. This rule is tried only if"
+            " the settings ask for the canonical form, or if --select names it. Write the comment"
+            " into a header, such as user-notes."
+        ),
         comment,
         "Ky(f) % by hand",
         "Ky(f)",
     ),
     Rule(
         "asterisk-without-bar",
-        "An asterisk marks the entry of the choir. This one has no bar, but there is one after the next word: look whether they belong together.",
+        (
+            "An asterisk marks the entry of the choir. This one has no bar, but there is one after"
+            " the next word: look whether they belong together."
+        ),
         asterisk_without_bar,
         "Ky(f)ri(g)e(h) *() e(f)lé(g) (,) i(f)",
         "Ky(f)ri(g)e(h) *(,) e(f)lé(g) (,) i(f)",
     ),
     Rule(
         "clef-off-staff",
-        "A clef is on a line that the staff does not have (header staff-lines, or 4 lines). Look for a typing mistake.",
+        (
+            "A clef is on a line that the staff does not have (header staff-lines, or 4 lines)."
+            " Look for a typing mistake."
+        ),
         clef_off_staff,
         "(c5) Ky(f)",
         "(c4) Ky(f)",
@@ -105,7 +121,10 @@ _ALL = (
     ),
     Rule(
         "mode-without-number",
-        "The header mode has words or a Roman number. GregorioTeX needs 1 to 8 there. Write that, and the Roman number as an annotation.",
+        (
+            "The header mode has words or a Roman number. GregorioTeX needs 1 to 8 there. Write"
+            " that, and the Roman number as an annotation."
+        ),
         mode_without_number,
         "mode: VII;",
         "mode: 7;",
@@ -114,7 +133,10 @@ _ALL = (
     ),
     Rule(
         "misspelled-header",
-        "The name of a header is nearly one of GregorioTeX's. An unknown header is kept, and does nothing: correct the name.",
+        (
+            "The name of a header is nearly one of GregorioTeX's. An unknown header is kept, and"
+            " does nothing: correct the name."
+        ),
         misspelled_header,
         "moed: 7;",
         "mode: 7;",
@@ -123,49 +145,70 @@ _ALL = (
     ),
     Rule(
         "blank-before-notes",
-        "There is a blank between a word and the ( of its notes. GregorioTeX sets it as part of the text. Remove it.",
+        (
+            "There is a blank between a word and the ( of its notes. GregorioTeX sets it as part of"
+            " the text. Remove it."
+        ),
         blank_before_notes,
         "Ky (f)ri(g)",
         "Ky(f)ri(g)",
     ),
     Rule(
         "late-punctuation",
-        "A comma or another sign of punctuation follows the notes of its word. Write it before their (.",
+        (
+            "A comma or another sign of punctuation follows the notes of its word. Write it before"
+            " their (."
+        ),
         late_punctuation,
         "Ky(f)ri(g)e(h), (;)",
         "Ky(f)ri(g)e,(h) (;)",
     ),
     Rule(
         "missing-blank",
-        "A syllable ends with punctuation, and a letter follows its notes directly. So both are one word: write a blank after the ).",
+        (
+            "A syllable ends with punctuation, and a letter follows its notes directly. So both are"
+            " one word: write a blank after the )."
+        ),
         missing_blank,
         "me,(f)et(g)",
         "me,(f) et(g)",
     ),
     Rule(
         "bar-as-text",
-        "A ; or another sign of a bar is in a text, and would be sung. Write a bar with ( and ) around it.",
+        (
+            "A ; or another sign of a bar is in a text, and would be sung. Write a bar with ( and )"
+            " around it."
+        ),
         bar_as_text,
         "me(f) ; et(g)",
         "me(f) (;) et(g)",
     ),
     Rule(
         "typed-hyphen",
-        "A syllable ends with a hyphen. GregorioTeX writes hyphens between syllables by itself. Remove it.",
+        (
+            "A syllable ends with a hyphen. GregorioTeX writes hyphens between syllables by itself."
+            " Remove it."
+        ),
         typed_hyphen,
         "Ky-(f)ri-(g)e(h)",
         "Ky(f)ri(g)e(h)",
     ),
     Rule(
         "html-entity",
-        "A text has the name of a character in HTML. It is kept letter for letter: write the character itself.",
+        (
+            "A text has the name of a character in HTML. It is kept letter for letter: write the"
+            " character itself."
+        ),
         html_entity,
         "D&oacute;(f)mi(g)",
         "D\u00f3(f)mi(g)",
     ),
     Rule(
         "syllable-without-notes",
-        "A syllable within a word has letters, and no notes. Write its notes, or join it to the next syllable.",
+        (
+            "A syllable within a word has letters, and no notes. Write its notes, or join it to the"
+            " next syllable."
+        ),
         syllable_without_notes,
         "De()us(f)",
         "De(g)us(f)",
@@ -179,36 +222,51 @@ _ALL = (
     ),
     Rule(
         "unused-alteration",
-        "No note at the pitch of a flat, a natural or a sharp follows in its word, before the next clef or bar. Write it before the note that it alters.",
+        (
+            "No note at the pitch of a flat, a natural or a sharp follows in its word, before the"
+            " next clef or bar. Write it before the note that it alters."
+        ),
         unused_alteration,
         "De(hiix)us(h)",
         "De(hixi)us(h)",
     ),
     Rule(
         "second-score-line",
-        "The score has a line %%, which is only a comment there. Remove it, or split two scores into two files.",
+        (
+            "The score has a line %%, which is only a comment there. Remove it, or split two scores"
+            " into two files."
+        ),
         second_score_line,
         "Ky(f)\n%%\nri(g)",
         "Ky(f)\nri(g)",
     ),
     Rule(
         "lone-capital",
-        "A capital pitch, which is a punctum inclinatum, is alone among notes with small letters. It may be a typing mistake. "
-        "If it is right, silence the message by a comment.",
+        (
+            "A capital pitch, which is a punctum inclinatum, is alone among notes with small"
+            " letters. It may be a typing mistake. If it is right, silence the message by a"
+            " comment."
+        ),
         lone_capital,
         "Ky(f)ri(G)e(h)",
         "Ky(f)ri(g)e(h)",
     ),
     Rule(
         "unknown-special",
-        "The text between <sp> and </sp> is none of GregorioTeX's own special characters. Look for a typing mistake, or define it there.",
+        (
+            "The text between <sp> and </sp> is none of GregorioTeX's own special characters. Look"
+            " for a typing mistake, or define it there."
+        ),
         unknown_special,
         "<sp>Rx</sp>(::)",
         "<sp>R/</sp>(::)",
     ),
     Rule(
         "unused-ignore",
-        "A comment silences a code that has no message on its line, or in the score. Remove the code, or look for a mistake in it.",
+        (
+            "A comment silences a code that has no message on its line, or in the score. Remove the"
+            " code, or look for a mistake in it."
+        ),
         _unused_ignore,
         "<it>Ky</it>(f) % gregorio: ignore W6, W7, comment",
         "<it>Ky</it>(f) % gregorio: ignore W6, comment",

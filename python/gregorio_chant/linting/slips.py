@@ -33,7 +33,8 @@ _AROUND = 16
 _SHORT_LINE = 40
 _STYLE_TAG = re.compile(r"\$.|<(/?)(b|c|e|i|sc|tt|ul)>", re.DOTALL)
 _CLEF = re.compile(
-    r"(?P<turned>[1-5])(?P<kind>[cfCF]b?)|(?P<letter>[cfCF]b?)[lI]?(?P<line>[1-5])|[A-Za-z]b?[lI]?[0-9]"
+    r"(?P<turned>[1-5])(?P<kind>[cfCF]b?)|(?P<letter>[cfCF]b?)[lI]?(?P<line>[1-5])"
+    r"|[A-Za-z]b?[lI]?[0-9]"
 )
 _BARS = re.compile(r"[ \t]*\|(?:[ \t]*\|)*[ \t]*")
 _UNREAD_SCORE_LINE = re.compile(r"^[ \t]+%%", re.MULTILINE)

@@ -42,7 +42,8 @@ _SUNG = re.compile(b"[%c%c]" % (NodeKind.NOTE, NodeKind.CLEF))
 
 
 class ScoreError(GregorioError, ValueError):
-    """The headers of a score are not whole, so nothing of it was written. `message` is the fault."""
+    """The headers of a score are not whole, so nothing of it was written. `message` is the
+    fault."""
 
     def __init__(self, message: Message) -> None:
         super().__init__(f"{message.line}:{message.column}: {message.code}: {message.text}")

@@ -102,7 +102,10 @@ def _look_at_messages(old: Score, new: Score, moved: _Moved) -> None:
             change = moved.change_of(at) or moved.changes[0]
             raise EditError(
                 change.source,
-                f"with it something would be left out, at {it.line}:{it.column} of the new file: {it.code}: {it.text}",
+                (
+                    f"with it something would be left out, at {it.line}:{it.column} of the new"
+                    f" file: {it.code}: {it.text}"
+                ),
             )
 
 

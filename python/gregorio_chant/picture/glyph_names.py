@@ -94,9 +94,11 @@ def _single_name(note: Note, shape: str, rises: bool) -> str | None:
         return (
             None
             if note.is_hollow
-            else f"PunctumInclinatum{'Auctus' if end == 'Ascendens' else 'Deminutus'}"
-            if end
-            else None
+            else (
+                f"PunctumInclinatum{'Auctus' if end == 'Ascendens' else 'Deminutus'}"
+                if end
+                else None
+            )
         )
     if shape in ("oriscus", "oriscus-scapus"):
         begin = f"{'Ascendens' if rises else 'Descendens'}Oriscus{'Scapus' if shape.endswith('scapus') else ''}"

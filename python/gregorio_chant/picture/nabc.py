@@ -3,7 +3,6 @@ glyphs with points at both sides and letters at their places around them (Gregor
 from __future__ import annotations
 
 import itertools
-import re
 from collections.abc import Iterable, Iterator, Sequence
 from functools import lru_cache
 from typing import NamedTuple

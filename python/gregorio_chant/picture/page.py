@@ -108,8 +108,9 @@ def sing_panel(sounds: Iterable[Sound], prefixes: str) -> str:
     prefixes."""
     notes = json.dumps(notes_of(sounds), separators=(",", ":"))
     return (
-        f'<p class="sing" data-prefixes="{escape(prefixes)}" data-sounds="{escape(notes)}" hidden><button type="button">Sing</button> '
-        '<label>Notes a minute <input type="range" min="60" max="240" value="140"></label></p>\n'
+        f'<p class="sing" data-prefixes="{escape(prefixes)}" data-sounds="{escape(notes)}"'
+        ' hidden><button type="button">Sing</button> <label>Notes a minute <input type="range"'
+        ' min="60" max="240" value="140"></label></p>\n'
     )
 
 
@@ -124,8 +125,10 @@ def head(title: str, *, sings: bool = False) -> str:
     does."""
     policy = f"{_POLICY}; script-src {_hash_of(SINGER)}" if sings else _POLICY
     return (
-        f'<!DOCTYPE html>\n<html lang="en">\n<head>\n<meta charset="utf-8">\n<meta http-equiv="Content-Security-Policy" content="{policy}">\n'
-        f'<meta name="viewport" content="width=device-width, initial-scale=1">\n<title>{text(title)}</title>\n<style>{STYLE}</style>\n</head>\n<body>\n'
+        '<!DOCTYPE html>\n<html lang="en">\n<head>\n<meta charset="utf-8">\n<meta'
+        f' http-equiv="Content-Security-Policy" content="{policy}">\n'
+        '<meta name="viewport" content="width=device-width,'
+        f' initial-scale=1">\n<title>{text(title)}</title>\n<style>{STYLE}</style>\n</head>\n<body>\n'
     )
 
 
@@ -141,8 +144,9 @@ def leading_to(address: str) -> str:
     drops the place in it."""
     to = escape(address)
     return (
-        f'<!DOCTYPE html>\n<html lang="en">\n<meta charset="utf-8">\n<meta http-equiv="refresh" content="0;url={to}">\n<title>The picture</title>\n'
-        f'<p><a href="{to}">The picture</a></p>\n</html>\n'
+        '<!DOCTYPE html>\n<html lang="en">\n<meta charset="utf-8">\n<meta http-equiv="refresh"'
+        f' content="0;url={to}">\n<title>The picture</title>\n<p><a href="{to}">The'
+        " picture</a></p>\n</html>\n"
     )
 
 
@@ -156,7 +160,11 @@ def list_of_messages(score: Shown) -> Iterator[str]:
     for number, (message, help) in enumerate(score.checked.helped(), 1):
         link = "".join(_links(score, number))
         line = f'<a href="#{score.prefix}l{message.line}">{message.line}:{message.column}</a>'
-        told = f'<span class="kind {message.kind.value}">{message.kind.value} {text(message.code)}</span>: {text(message.text)}'
+        told = (
+            '<span class="kind'
+            f' {message.kind.value}">{message.kind.value} {text(message.code)}</span>:'
+            f" {text(message.text)}"
+        )
         more = f'<span class="help">{text(help)}</span>' if help else ""
         yield f'<li id="{score.prefix}m{number}">{line} {told}{link}{more}</li>\n'
     yield "</ol>\n"
@@ -244,12 +252,17 @@ def index_of(entries: Sequence[Entry], failed: int) -> Iterator[str]:
             for code, count in sorted(codes.items(), key=lambda it: (-it[1], it[0]))
         )
         yield "</table>\n"
-    yield '<table class="index">\n<tr><th>Score<th>Name<th class="n">Errors<th class="n">Warnings<th>Codes</tr>\n'
+    yield (
+        '<table class="index">\n<tr><th>Score<th>Name<th class="n">Errors<th'
+        ' class="n">Warnings<th>Codes</tr>\n'
+    )
     common = _common_folder([it.name for it in entries])
     for it in sorted(entries, key=lambda it: it.rank):
         errors = it.kinds[Kind.ERROR] + it.kinds[Kind.FATAL]
         yield (
-            f'<tr><td><a href="{escape(it.address)}"><bdi>{text(it.name[len(common) :])}</bdi></a><td><bdi>{text(it.title)}</bdi><td class="n">{errors:,}'
-            f'<td class="n">{it.kinds[Kind.WARNING]:,}<td>{text(" ".join(sorted(it.codes)))}</tr>\n'
+            "<tr><td><a"
+            f' href="{escape(it.address)}"><bdi>{text(it.name[len(common) :])}</bdi></a><td><bdi>{text(it.title)}</bdi><td'
+            f' class="n">{errors:,}<td'
+            f" class=\"n\">{it.kinds[Kind.WARNING]:,}<td>{text(' '.join(sorted(it.codes)))}</tr>\n"
         )
     yield f"</table>\n{FOOT}"

@@ -19,9 +19,12 @@ from gregorio_chant.picture.words import SIZE
 MARGIN = SPACES.margin
 # The style of pictures: a file of its own holds it, a page has it once.
 STYLE = (
-    f".chant{{color:#000;font-family:{FACES};fill:currentColor}}.chant .paper{{fill:#fff}}.chant .staff{{fill:none;stroke:#a43;stroke-width:.7}}"
-    ".chant .curve{fill:none;stroke:currentColor;stroke-width:.9}.chant .red{fill:#b00}.chant .mark{fill:#c00;fill-opacity:.09;stroke:#c00;stroke-width:.7}.chant .mark.w{fill:#960;stroke:#960;stroke-dasharray:3 2}"
-    f".chant .code{{fill:#a00;font:bold {CODE_SIZE:.0f}px sans-serif}}"
+    f".chant{{color:#000;font-family:{FACES};fill:currentColor}}.chant .paper{{fill:#fff}}.chant"
+    " .staff{fill:none;stroke:#a43;stroke-width:.7}.chant"
+    " .curve{fill:none;stroke:currentColor;stroke-width:.9}.chant .red{fill:#b00}.chant"
+    " .mark{fill:#c00;fill-opacity:.09;stroke:#c00;stroke-width:.7}.chant"
+    " .mark.w{fill:#960;stroke:#960;stroke-dasharray:3 2}.chant .code{fill:#a00;font:bold"
+    f" {CODE_SIZE:.0f}px sans-serif}}"
 )
 _ATTRIBUTES = {
     "b": ("font-weight", "bold"),
@@ -317,5 +320,8 @@ class Painter:
         add(
             code,
             "title",
-            f"{message.line}:{message.column}: {message.kind.value}: {message.code}: {message.text}",
+            (
+                f"{message.line}:{message.column}: {message.kind.value}: {message.code}:"
+                f" {message.text}"
+            ),
         )

@@ -58,7 +58,10 @@ class Reporter(Protocol):
 
 def line_of(name: str, message: Message) -> str:
     """Returns a message as editors want it, as the program writes it."""
-    return f"{printable(name)}:{message.line}:{message.column}: {message.kind.value}: {message.code}: {message.text}\n"
+    return (
+        f"{printable(name)}:{message.line}:{message.column}: {message.kind.value}: {message.code}:"
+        f" {message.text}\n"
+    )
 
 
 class Lines:

@@ -14,7 +14,6 @@ from gregorio_chant.objects.compiled import Compiled
 from gregorio_chant.server.diagnostics import diagnostic, range_of
 from gregorio_chant.server.document import Document
 from gregorio_chant.server.protocol import Json, Params
-from gregorio_chant.server.text import Text
 
 # Of so many messages the repairs are looked for at one request.
 _MOST_MESSAGES = 20

@@ -143,7 +143,8 @@ class NeumeSearch:
         pattern = word.casefold()
         if not fnmatch.filter(KINDS, pattern):
             raise UsageError(
-                f"{word} is no kind of neume: {did_you_mean(word, KINDS, 'docs/LANGUAGE.md lists them')}"
+                f"{word} is no kind of neume:"
+                f" {did_you_mean(word, KINDS, 'docs/LANGUAGE.md lists them')}"
             )
         return cls(pattern)
 

@@ -86,7 +86,10 @@ class Made:
         if self.failure is not None:
             return f"cannot read {self.name}: {self.failure}"
         if self.fault is not None:
-            return f"{self.shown_name}:{self.fault.line}:{self.fault.column}: {self.fault.code}: {self.fault.text}; nothing after it was read"
+            return (
+                f"{self.shown_name}:{self.fault.line}:{self.fault.column}: {self.fault.code}:"
+                f" {self.fault.text}; nothing after it was read"
+            )
         return None
 
 
@@ -213,9 +216,10 @@ def for_each(options: Options, make: Maker, take: Callable[[Made], str]) -> int:
     before any score is read."""
     found, count, put = Scores(options), 0, put_for(options)
     work = partial(made_of, make=make, read=found.read)
-    with by_processes(work, found.names, options.jobs) as all_made, bar(
-        "reading", len(found.names)
-    ) as shown:
+    with (
+        by_processes(work, found.names, options.jobs) as all_made,
+        bar("reading", len(found.names)) as shown,
+    ):
         for it in all_made:
             found.add(it.status, it.failure is None)
             count += sum(row.count for row in it.rows)

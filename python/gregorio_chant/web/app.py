@@ -31,7 +31,10 @@ _TYPES = {
     ".svg": "image/svg+xml",
 }
 _LEAST_WIDTH, _MOST_WIDTH, _MOST_DIGITS = 280, 1200, 6
-_ICON = f'<svg xmlns="http://www.w3.org/2000/svg" viewBox="-8 -11 22 22"><path fill="#a43" fill-rule="evenodd" d="{SHAPES["c-clef"].path}"/></svg>'
+_ICON = (
+    '<svg xmlns="http://www.w3.org/2000/svg" viewBox="-8 -11 22 22"><path fill="#a43"'
+    f' fill-rule="evenodd" d="{SHAPES["c-clef"].path}"/></svg>'
+)
 
 
 def _files() -> dict[str, str]:

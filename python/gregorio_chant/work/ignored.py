@@ -123,7 +123,10 @@ def _patterns_of(lines: Sequence[str], most: int) -> list[str]:
         if is_pattern and len(patterns) == most:
             raise OSError(
                 0,
-                f"line {number}: there are at most {MOST:,} patterns, with those of the folders above",
+                (
+                    f"line {number}: there are at most {MOST:,} patterns, with those of the folders"
+                    " above"
+                ),
             )
         patterns += [line] * is_pattern
     return patterns

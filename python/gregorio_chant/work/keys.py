@@ -107,7 +107,10 @@ FORMAT_KEYS = (
         "canonical",
         Kind.FLAG,
         "`false`",
-        "Writes the canonical form. It has one word on each line, so it cannot stand beside `wrap`.",
+        (
+            "Writes the canonical form. It has one word on each line, so it cannot stand beside"
+            " `wrap`."
+        ),
         "true",
         "--canonical",
     ),

@@ -26,7 +26,8 @@ class MissingDependency(GregorioError):
 
     def __init__(self, part: str, package: str) -> None:
         super().__init__(
-            f"{part} needs the package {package}: apt install {_DEBIAN[package]} in Debian, else pip install {package}"
+            f"{part} needs the package {package}: apt install {_DEBIAN[package]} in Debian, else"
+            f" pip install {package}"
         )
 
 
