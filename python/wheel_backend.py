@@ -24,8 +24,8 @@ ROOT = HERE.parent
 LIBRARY = ROOT / "crates" / "gregorio_c" / "out" / "c" / "libgregorio.so"
 PACKAGE = "gregorio_chant"
 EDITORS = ROOT / "editors"
-# The files of the package: its modules, its table of helps, those of its page, and its outlines with
-# their licence.
+# The files of the package: its modules, its table of helps, those of its page, and its outlines
+# with their licence.
 SUFFIXES = (".py", ".json", ".html", ".css", ".js", ".tsv", ".txt")
 
 
@@ -103,9 +103,8 @@ def build_wheel(
     files[f"{info}/licenses/LICENSE"] = (ROOT / "LICENSE").read_bytes()
     scripts = "".join(f"{name} = {call}\n" for name, call in project["scripts"].items())
     files[f"{info}/entry_points.txt"] = f"[console_scripts]\n{scripts}".encode()
-    files[
-        f"{info}/WHEEL"
-    ] = f"Wheel-Version: 1.0\nGenerator: wheel_backend\nRoot-Is-Purelib: false\nTag: {tag}\n".encode()
+    kind = f"Generator: wheel_backend\nRoot-Is-Purelib: false\nTag: {tag}\n"
+    files[f"{info}/WHEEL"] = f"Wheel-Version: 1.0\n{kind}".encode()
     record = [_row(name, content) for name, content in files.items()]
     files[f"{info}/RECORD"] = "\n".join([*record, f"{info}/RECORD,,", ""]).encode()
     name = f"{PACKAGE}-{version}-{tag}.whl"
