@@ -23,7 +23,7 @@ class Lengths(ctypes.Structure):
     _fields_ = [("output", ctypes.c_size_t), ("messages", ctypes.c_size_t)]
 
 
-LIBRARY = ctypes.CDLL(str(built("libgregorio.so")))
+LIBRARY = ctypes.CDLL(built("libgregorio.so"))
 _compile = LIBRARY.gregorio_compile
 _compile.restype = ctypes.c_uint32
 _compile.argtypes = [

@@ -29,7 +29,7 @@ def origin() -> Origin:
     version = ctypes.string_at(
         ctypes.addressof(ctypes.c_char.in_dll(library.LIBRARY, "gregorio_version"))
     )
-    lines = _lines_of(built("BUILD"))
+    lines = _lines_of(Path(built("BUILD")))
     return Origin(
         __version__, version.decode(), lines.get("commit", _UNKNOWN), lines.get("kit", _UNKNOWN)
     )

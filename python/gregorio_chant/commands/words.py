@@ -10,7 +10,6 @@ from typing import TYPE_CHECKING, Any, NoReturn, Protocol, TypedDict
 
 from gregorio_chant.errors import UsageError
 from gregorio_chant.text.nearest import did_you_mean
-from gregorio_chant.work.keys import FILE
 from gregorio_chant.work.statuses import REFUSED
 from gregorio_chant.work.streams import STDIN, tell, write
 
@@ -141,6 +140,8 @@ def add_jobs(parser: Parser) -> None:
 
 def add_no_config(parser: Parser) -> None:
     """Adds `--no-config`."""
+    from gregorio_chant.work.keys import FILE
+
     parser.add_argument("--no-config", action="store_true", help=f"read no {FILE}")
 
 

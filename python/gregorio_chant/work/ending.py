@@ -6,7 +6,6 @@ lock behind.
 """
 from __future__ import annotations
 
-import ctypes
 import os
 import signal
 import sys
@@ -58,6 +57,8 @@ def end_with_parent() -> None:
     """Has this process killed when the one that made it ends, however that ends. Only Linux can do
     so."""
     if sys.platform == "linux":
+        import ctypes
+
         parent = os.getppid()
         ctypes.CDLL(None).prctl(_SET_SIGNAL_AT_END_OF_PARENT, signal.SIGKILL)
         if os.getppid() != parent:
