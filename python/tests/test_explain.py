@@ -10,8 +10,9 @@ from support import ROOT, command
 
 from gregorio_chant import check
 from gregorio_chant.linting.codes import CODES
+from gregorio_chant.linting.finding import messages_with_rules
 from gregorio_chant.linting.repairs import REPAIRS
-from gregorio_chant.linting.rules import RULES, messages_with_rules
+from gregorio_chant.linting.rules import RULES
 from gregorio_chant.objects.compiled import Compiled
 
 

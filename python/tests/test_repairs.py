@@ -12,10 +12,11 @@ from unittest import mock
 from support import EXAMPLES, InFolder, command, scores_of_tables
 
 from gregorio_chant import Status, check
-from gregorio_chant.linting import repairs
+from gregorio_chant.linting import mending, repairs
 from gregorio_chant.linting.checking import found_in
+from gregorio_chant.linting.mending import MENDERS, Edit, Edits
 from gregorio_chant.linting.repairing import How, repair
-from gregorio_chant.linting.repairs import REPAIRS, Edit, Edits
+from gregorio_chant.linting.repairs import REPAIRS
 from gregorio_chant.linting.selection import Selection
 from gregorio_chant.linting.slips import Subject
 from gregorio_chant.objects.compiled import Compiled
@@ -66,6 +67,7 @@ def codes_of(score: bytes) -> Counter[str]:
 
 class Repairs(unittest.TestCase):
     def test_each(self) -> None:
+        self.assertEqual(set(MENDERS), set(REPAIRS))
         for it in REPAIRS.values():
             with self.subTest(it.name):
                 wrong, right = it.score_with(it.wrong), it.score_with(it.right)
@@ -167,8 +169,8 @@ class Repairs(unittest.TestCase):
             ((escape, Edit(elsewhere + 2, " ", "  ")), True),
             ((Edit(elsewhere + 2, " ", "  "),), False),
         ):
-            wrong = replace(REPAIRS["escape"], find=lambda subject, offset, edits=edits: edits)
-            with mock.patch.dict(repairs.REPAIRS, {"escape": wrong}):
+            wrong = {"escape": lambda subject, offset, edits=edits: edits}
+            with mock.patch.dict(mending.MENDERS, wrong):
                 self.assertEqual(repaired(score, SAFE) != score, is_made, edits)
 
     def test_nothing_between_two_edits_is_changed(self) -> None:
@@ -179,8 +181,11 @@ class Repairs(unittest.TestCase):
             Edit(score.index(b"b("), "", "["),
             Edit(score.index(b" d("), "", "]"),
         )
-        wrong = replace(REPAIRS["escape"], changes="a guess", find=lambda subject, offset: edits)
-        with mock.patch.dict(repairs.REPAIRS, {"escape": wrong}):
+        guess = replace(REPAIRS["escape"], changes="a guess")
+        wrong = {"escape": lambda subject, offset: edits}
+        with mock.patch.dict(repairs.REPAIRS, {"escape": guess}), mock.patch.dict(
+            mending.MENDERS, wrong
+        ):
             self.assertEqual(repaired(score, ALL), score)
 
     def test_what_is_refused_takes_nothing_else_with_it(self) -> None:
@@ -189,7 +194,7 @@ class Repairs(unittest.TestCase):
         score = "".join(
             [_SCORE, *(f"a{'&' if it % 7 == 3 else ''}>(g) " for it in range(50)), "\n"]
         )
-        right = REPAIRS["escape"].find
+        right = MENDERS["escape"]
 
         def find(subject: Subject, offset: int) -> Edits:
             return (
@@ -198,7 +203,7 @@ class Repairs(unittest.TestCase):
                 else (Edit(offset, ">", "(q)"),)
             )
 
-        with mock.patch.dict(repairs.REPAIRS, {"escape": replace(REPAIRS["escape"], find=find)}):
+        with mock.patch.dict(mending.MENDERS, {"escape": find}):
             made = repaired(score.encode(), SAFE).decode()
         self.assertEqual(made, score.replace("a>", "a$>"))
 
@@ -236,8 +241,8 @@ class Repairs(unittest.TestCase):
         """Where a fault stops a score, a repair inserts and takes nothing away."""
         score = b"name: a\n%%\n(c4)\n"
         for edits, is_made in (((Edit(7, "", ";"),), True), ((Edit(6, "a", "b;"),), False)):
-            wrong = replace(REPAIRS["end-header"], find=lambda subject, offset, edits=edits: edits)
-            with mock.patch.dict(repairs.REPAIRS, {"end-header": wrong}):
+            wrong = {"end-header": lambda subject, offset, edits=edits: edits}
+            with mock.patch.dict(mending.MENDERS, wrong):
                 self.assertEqual(check(repaired(score, ALL)).status is not Status.FATAL, is_made)
         for score in (
             b"name: \xe9\n%%\n(c4) a>(g",

@@ -8,7 +8,8 @@ from pathlib import Path
 from support import EXAMPLES, InFolder, command, scores_of_tables
 
 from gregorio_chant import Kind, Status, compile
-from gregorio_chant.linting.rules import RULES, messages_with_rules
+from gregorio_chant.linting.finding import FINDERS, messages_with_rules
+from gregorio_chant.linting.rules import RULES
 from gregorio_chant.objects.compiled import Compiled
 
 
@@ -22,6 +23,10 @@ def found(score: str, name: str) -> list[tuple[int, int, str]]:
 
 
 class Rules(unittest.TestCase):
+    def test_table(self) -> None:
+        """Each rule of the table has what finds it."""
+        self.assertEqual(list(FINDERS), list(RULES))
+
     def test_outside_staff(self) -> None:
         told = "pitch {} is outside a staff of {} lines, which goes from a to {}"
         for lines, highest, over in (("2", "i", "j"), ("3", "k", "l"), ("4", "m", "n")):

@@ -10,8 +10,8 @@ from functools import partial
 
 from gregorio_chant import __version__
 from gregorio_chant._native.results import Kind, Message
+from gregorio_chant.linting.finding import messages_with_rules, unsilenced
 from gregorio_chant.linting.helps import helps_for
-from gregorio_chant.linting.rules import messages_with_rules, unsilenced
 from gregorio_chant.linting.selection import Selection
 from gregorio_chant.objects.compiled import Compiled
 from gregorio_chant.report.reports import Annotations, Checked, Json, Lines, Reporter, summary_of

@@ -18,9 +18,11 @@ from gregorio_chant._native.node_kinds import NodeKind
 from gregorio_chant._native.results import Kind, Message
 from gregorio_chant.linting.codes import CODES
 from gregorio_chant.linting.facts import named
+from gregorio_chant.linting.finding import messages_with_rules, unsilenced
+from gregorio_chant.linting.mending import MENDERS, Edit, Edits
 from gregorio_chant.linting.problems import Change, ProblemRepair
-from gregorio_chant.linting.repairs import REPAIRS, Edit, Edits, Repair
-from gregorio_chant.linting.rules import RULES, messages_with_rules, unsilenced
+from gregorio_chant.linting.repairs import REPAIRS, Repair
+from gregorio_chant.linting.rules import RULES
 from gregorio_chant.linting.selection import Selection
 from gregorio_chant.linting.slips import Subject, readings
 from gregorio_chant.objects.compiled import Compiled
@@ -263,7 +265,7 @@ def _proposals(
     for message in messages:
         found = []
         for repair in wanted[message.code]:
-            edits = tuple(sorted(repair.find(subject, subject.offset(message))))
+            edits = tuple(sorted(MENDERS[repair.name](subject, subject.offset(message))))
             if edits and edits not in known:
                 known.add(edits)
                 found.append(Proposal(message, repair, edits))

@@ -1,18 +1,15 @@
-"""What a rule is, what it reads, and what it finds."""
+"""What rules read, and what they find."""
 from __future__ import annotations
 
 import re
-from collections.abc import Callable, Iterator
+from collections.abc import Iterator
 from dataclasses import dataclass
 from functools import cached_property
 
 from gregorio_chant._native.node_kinds import NodeKind
 from gregorio_chant._native.nodes import Node, Tree
-from gregorio_chant._native.results import Kind
 from gregorio_chant.objects.item import Item
 from gregorio_chant.objects.score import Score
-
-_SCORE = "name: Kyrie;\n%%\n(c4) "
 
 
 @dataclass(frozen=True)
@@ -62,22 +59,3 @@ class Subject:
     def found(self, item: Item, text: str) -> Found:
         """Returns what is found at the begin of an item."""
         return Found(item.begin, text)
-
-
-@dataclass(frozen=True)
-class Rule:
-    """A rule. `wrong` is a line that breaks it, and `right` one that does not, where `before`
-    stands before and `after` after it."""
-
-    name: str
-    meaning: str
-    find: Callable[[Subject], Iterator[Found]]
-    wrong: str
-    right: str
-    before: str = _SCORE
-    after: str = "\n"
-    kind: Kind = Kind.WARNING
-
-    def score_with(self, line: str) -> bytes:
-        """Returns the whole score in which `line` stands."""
-        return (self.before + line + self.after).encode()

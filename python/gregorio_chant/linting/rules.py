@@ -1,48 +1,31 @@
-"""The rules: what the compiler leaves open, over the objects of a score. They are off unless they
-are asked for."""
+"""The table of rules: what the compiler leaves open, and is looked for if it is asked for.
+`finding` has what finds each."""
 from __future__ import annotations
 
-from collections.abc import Iterator
+from dataclasses import dataclass
 
-from gregorio_chant._native.results import Kind, Message
-from gregorio_chant.linting.codes import CODES
-from gregorio_chant.linting.ignores import silenced
-from gregorio_chant.linting.rule import Found, Rule, Subject
-from gregorio_chant.linting.rules_notes import (
-    bracket_in_attribute,
-    clef_off_staff,
-    lone_capital,
-    nabc_after_bars,
-    nabc_without_header,
-    outside_staff,
-    unused_alteration,
-)
-from gregorio_chant.linting.rules_text import (
-    asterisk_without_bar,
-    bar_as_text,
-    blank_before_notes,
-    comment,
-    html_entity,
-    late_punctuation,
-    missing_blank,
-    misspelled_header,
-    mode_without_number,
-    notes_in_translation,
-    second_score_line,
-    syllable_without_notes,
-    typed_hyphen,
-    unknown_mode,
-    unknown_special,
-)
-from gregorio_chant.objects.compiled import Compiled
-from gregorio_chant.objects.pauses import Pause, go_on
+from gregorio_chant._native.results import Kind
 
+_SCORE = "name: Kyrie;\n%%\n(c4) "
 _BEGUN, _BODY = "name: Kyrie;\n", "\n%%\n(c4) Ky(f)\n"
 
 
-def _unused_ignore(subject: Subject) -> Iterator[Found]:
-    """Finds nothing by itself: what is silenced is known when all other rules have been tried."""
-    return iter(())
+@dataclass(frozen=True)
+class Rule:
+    """A rule. `wrong` is a line that breaks it, and `right` one that does not, where `before`
+    stands before and `after` after it."""
+
+    name: str
+    meaning: str
+    wrong: str
+    right: str
+    before: str = _SCORE
+    after: str = "\n"
+    kind: Kind = Kind.WARNING
+
+    def score_with(self, line: str) -> bytes:
+        """Returns the whole score in which `line` stands."""
+        return (self.before + line + self.after).encode()
 
 
 _ALL = (
@@ -52,7 +35,6 @@ _ALL = (
             "A note, a sign or a custos is higher than the staff allows: more than three steps"
             " above its top line (header staff-lines, or 4 lines). Look for a typing mistake."
         ),
-        outside_staff,
         "Ky(fn)",
         "Ky(fm)",
     ),
@@ -62,7 +44,6 @@ _ALL = (
             "An attribute or a spacing in brackets contains a ( or a ). Its ] may be missing:"
             " write it."
         ),
-        bracket_in_attribute,
         "Ky(f[cs:a)ri(g])",
         "Ky(f[cs:a])ri(g)",
     ),
@@ -72,7 +53,6 @@ _ALL = (
             "The notes have a |, but there is no header nabc-lines. Write one, such as nabc-lines:"
             " 1;. This message replaces the E1 of each character after the |."
         ),
-        nabc_without_header,
         "%%\n(c4) Ky(f|pu) ri(gh|pe)",
         "nabc-lines: 1;\n%%\n(c4) Ky(f|pu) ri(gh|pe)",
         _BEGUN,
@@ -85,7 +65,6 @@ _ALL = (
             " the settings ask for the canonical form, or if --select names it. Write the comment"
             " into a header, such as user-notes."
         ),
-        comment,
         "Ky(f) % by hand",
         "Ky(f)",
     ),
@@ -95,7 +74,6 @@ _ALL = (
             "An asterisk marks the entry of the choir. This one has no bar, but there is one after"
             " the next word: look whether they belong together."
         ),
-        asterisk_without_bar,
         "Ky(f)ri(g)e(h) *() e(f)lé(g) (,) i(f)",
         "Ky(f)ri(g)e(h) *(,) e(f)lé(g) (,) i(f)",
     ),
@@ -105,7 +83,6 @@ _ALL = (
             "A clef is on a line that the staff does not have (header staff-lines, or 4 lines)."
             " Look for a typing mistake."
         ),
-        clef_off_staff,
         "(c5) Ky(f)",
         "(c4) Ky(f)",
         before="name: Kyrie;\n%%\n",
@@ -113,7 +90,6 @@ _ALL = (
     Rule(
         "unknown-mode",
         "The header mode begins with a number other than 1 to 8. Look for a typing mistake.",
-        unknown_mode,
         "mode: 9;",
         "mode: 6;",
         _BEGUN,
@@ -125,7 +101,6 @@ _ALL = (
             "The header mode has words or a Roman number. GregorioTeX needs 1 to 8 there. Write"
             " that, and the Roman number as an annotation."
         ),
-        mode_without_number,
         "mode: VII;",
         "mode: 7;",
         _BEGUN,
@@ -137,7 +112,6 @@ _ALL = (
             "The name of a header is nearly one of GregorioTeX's. An unknown header is kept, and"
             " does nothing: correct the name."
         ),
-        misspelled_header,
         "moed: 7;",
         "mode: 7;",
         _BEGUN,
@@ -149,7 +123,6 @@ _ALL = (
             "There is a blank between a word and the ( of its notes. GregorioTeX sets it as part of"
             " the text. Remove it."
         ),
-        blank_before_notes,
         "Ky (f)ri(g)",
         "Ky(f)ri(g)",
     ),
@@ -159,7 +132,6 @@ _ALL = (
             "A comma or another sign of punctuation follows the notes of its word. Write it before"
             " their (."
         ),
-        late_punctuation,
         "Ky(f)ri(g)e(h), (;)",
         "Ky(f)ri(g)e,(h) (;)",
     ),
@@ -169,7 +141,6 @@ _ALL = (
             "A syllable ends with punctuation, and a letter follows its notes directly. So both are"
             " one word: write a blank after the )."
         ),
-        missing_blank,
         "me,(f)et(g)",
         "me,(f) et(g)",
     ),
@@ -179,7 +150,6 @@ _ALL = (
             "A ; or another sign of a bar is in a text, and would be sung. Write a bar with ( and )"
             " around it."
         ),
-        bar_as_text,
         "me(f) ; et(g)",
         "me(f) (;) et(g)",
     ),
@@ -189,7 +159,6 @@ _ALL = (
             "A syllable ends with a hyphen. GregorioTeX writes hyphens between syllables by itself."
             " Remove it."
         ),
-        typed_hyphen,
         "Ky-(f)ri-(g)e(h)",
         "Ky(f)ri(g)e(h)",
     ),
@@ -199,7 +168,6 @@ _ALL = (
             "A text has the name of a character in HTML. It is kept letter for letter: write the"
             " character itself."
         ),
-        html_entity,
         "D&oacute;(f)mi(g)",
         "D\u00f3(f)mi(g)",
     ),
@@ -209,14 +177,12 @@ _ALL = (
             "A syllable within a word has letters, and no notes. Write its notes, or join it to the"
             " next syllable."
         ),
-        syllable_without_notes,
         "De()us(f)",
         "De(g)us(f)",
     ),
     Rule(
         "notes-in-translation",
         "A translation in [ and ] is within a word, and looks like notes. Write notes in ( and ).",
-        notes_in_translation,
         "D\u00f3[hi]mi(f)ne(g)",
         "D\u00f3(hi)mi(f)ne(g)",
     ),
@@ -226,7 +192,6 @@ _ALL = (
             "No note at the pitch of a flat, a natural or a sharp follows in its word, before the"
             " next clef or bar. Write it before the note that it alters."
         ),
-        unused_alteration,
         "De(hiix)us(h)",
         "De(hixi)us(h)",
     ),
@@ -236,7 +201,6 @@ _ALL = (
             "The score has a line %%, which is only a comment there. Remove it, or split two scores"
             " into two files."
         ),
-        second_score_line,
         "Ky(f)\n%%\nri(g)",
         "Ky(f)\nri(g)",
     ),
@@ -247,7 +211,6 @@ _ALL = (
             " letters. It may be a typing mistake. If it is right, silence the message by a"
             " comment."
         ),
-        lone_capital,
         "Ky(f)ri(G)e(h)",
         "Ky(f)ri(g)e(h)",
     ),
@@ -257,7 +220,6 @@ _ALL = (
             "The text between <sp> and </sp> is none of GregorioTeX's own special characters. Look"
             " for a typing mistake, or define it there."
         ),
-        unknown_special,
         "<sp>Rx</sp>(::)",
         "<sp>R/</sp>(::)",
     ),
@@ -267,55 +229,8 @@ _ALL = (
             "A comment silences a code that has no message on its line, or in the score. Remove the"
             " code, or look for a mistake in it."
         ),
-        _unused_ignore,
         "<it>Ky</it>(f) % gregorio: ignore W6, W7, comment",
         "<it>Ky</it>(f) % gregorio: ignore W6, comment",
     ),
 )
 RULES: dict[str, Rule] = {it.name: it for it in _ALL}
-_KNOWN = frozenset((*CODES, *RULES))
-
-
-def messages_with_rules(compiled: Compiled, pause: Pause = go_on) -> tuple[Message, ...]:
-    """Returns what the compiler and the rules find in a score, in the order of their places,
-    without what is silenced. Where a fatal fault stops it, no rule is tried. There is a pause
-    before each rule."""
-    if compiled.fault is not None:
-        return unsilenced(compiled)
-    subject = Subject(compiled.score)
-    found = list(_found(subject, pause))
-    messages = compiled.messages
-    if any(it.code == "nabc-without-header" for it in found):
-        messages = _without_nabc(subject)
-    kept, unused = silenced(compiled, (*messages, *found), _KNOWN)
-    kept += tuple(
-        Message(it.place.line, it.place.column, Kind.WARNING, "unused-ignore", it.text)
-        for it in unused
-    )
-    return tuple(sorted(kept, key=lambda it: (it.line, it.column)))
-
-
-def _found(subject: Subject, pause: Pause) -> Iterator[Message]:
-    """Yields what all rules find."""
-    for rule in _ALL:
-        pause()
-        for it in rule.find(subject):
-            place = subject.tree.place(it.byte)
-            yield Message(place.line, place.column, rule.kind, rule.name, it.text)
-
-
-def unsilenced(compiled: Compiled) -> tuple[Message, ...]:
-    """Returns those of the compiler's messages that no comment of the score silences."""
-    return silenced(compiled, compiled.messages, _KNOWN)[0]
-
-
-def _without_nabc(subject: Subject) -> tuple[Message, ...]:
-    """Returns the messages without each `E1` after a `|` in its syllable."""
-    tree = subject.tree
-    after = [tuple(map(tree.place, it)) for it in nabc_after_bars(subject)]
-
-    def is_after(message: Message) -> bool:
-        at = message.line, message.column
-        return any(begin[1:] <= at < end[1:] for begin, end in after)
-
-    return tuple(it for it in subject.score.messages if it.code != "E1" or not is_after(it))

@@ -6,10 +6,11 @@ from collections.abc import Iterator
 from itertools import islice
 
 from gregorio_chant._native.results import Kind, Message
+from gregorio_chant.linting.finding import unsilenced
 from gregorio_chant.linting.ignores import IGNORE
+from gregorio_chant.linting.mending import Edit
 from gregorio_chant.linting.repairing import How, has_safe_repair, proposals_for, repair, with_edits
-from gregorio_chant.linting.repairs import Edit
-from gregorio_chant.linting.rules import RULES, unsilenced
+from gregorio_chant.linting.rules import RULES
 from gregorio_chant.objects.compiled import Compiled
 from gregorio_chant.server.diagnostics import diagnostic, range_of
 from gregorio_chant.server.document import Document

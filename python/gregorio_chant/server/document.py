@@ -7,9 +7,9 @@ from functools import cached_property
 
 from gregorio_chant._native.results import Message
 from gregorio_chant.format.formatting import Style, style_by
+from gregorio_chant.linting.finding import messages_with_rules, unsilenced
 from gregorio_chant.linting.helps import helps_for
 from gregorio_chant.linting.repairing import is_text
-from gregorio_chant.linting.rules import messages_with_rules, unsilenced
 from gregorio_chant.linting.selection import Selection
 from gregorio_chant.linting.slips import Subject
 from gregorio_chant.objects.compiled import Compiled
