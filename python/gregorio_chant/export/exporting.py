@@ -7,6 +7,7 @@ from pathlib import Path
 from gregorio_chant._native.results import Kind
 from gregorio_chant.export import Way
 from gregorio_chant.export.losses import losses
+from gregorio_chant.objects.compiled import TooLong
 from gregorio_chant.objects.score import Score, ScoreError
 from gregorio_chant.report.reports import counted
 from gregorio_chant.work import scores
@@ -83,6 +84,9 @@ def export(options: Options) -> int:
             continue
         except OSError as error:
             found.cannot(name, error)
+            continue
+        except TooLong as error:
+            found.fail(name, str(error))
             continue
         found.add(status, status == 0)
         if told is not None:

@@ -13,7 +13,7 @@ from gregorio_chant._native.results import Status
 from gregorio_chant.format.judge import Reading, objection
 from gregorio_chant.format.layout import laid_out
 from gregorio_chant.format.losses import Loss, losses_of
-from gregorio_chant.objects.compiled import Compiled
+from gregorio_chant.objects.compiled import Compiled, TooLong
 from gregorio_chant.report.reports import counted
 from gregorio_chant.work import scores
 from gregorio_chant.work.files import Content, FileChanged, replace
@@ -97,7 +97,8 @@ class Formatted:
 
 
 def formatted(data: bytes, style: Style, allow: frozenset[str] = frozenset()) -> Formatted:
-    """Returns what a score is formatted to; the losses are those that are not allowed."""
+    """Returns what a score is formatted to; the losses are those that are not allowed. Raises
+    `TooLong` for a score of which more than blanks would change, if it is too long for its tree."""
     score = Compiled(data)
     if score.fault is not None:
         it = score.fault
@@ -138,6 +139,8 @@ def _format(name: str, options: Options, read: Read) -> _Done:
         return _Done(
             Outcome.FAILED, CANNOT_READ_OR_WRITE, (f"cannot read {shown}: {reason_of(error)}",)
         )
+    except TooLong as error:
+        return _Done(Outcome.FAILED, error.status, (f"cannot format {shown}: {error}",))
     except MemoryError:
         return _Done(
             Outcome.FAILED, NO_MEMORY, (f"cannot read {shown}: there is no memory for it",)

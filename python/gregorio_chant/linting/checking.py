@@ -13,7 +13,7 @@ from gregorio_chant._native.results import Kind, Message
 from gregorio_chant.linting.finding import messages_with_rules, unsilenced
 from gregorio_chant.linting.helps import helps_for
 from gregorio_chant.linting.selection import Selection
-from gregorio_chant.objects.compiled import Compiled
+from gregorio_chant.objects.compiled import Compiled, TooLong
 from gregorio_chant.report.reports import Annotations, Checked, Json, Lines, Reporter, summary_of
 from gregorio_chant.report.sarif import Sarif
 from gregorio_chant.text.source import text_of
@@ -56,7 +56,8 @@ class Told:
 
 
 def told_of(compiled: Compiled, selection: Selection, with_rules: bool) -> Told:
-    """Returns what is reported of a score."""
+    """Returns what is reported of a score. Raises `TooLong` for one that is too long for its tree,
+    if rules are tried or a comment silences something."""
     found = found_in(compiled, with_rules)
     messages = selection.of(found)
     if not messages:
@@ -71,6 +72,8 @@ def check_file(name: str, options: Options, read_it: Read) -> Checked:
         return check_score(name, Compiled(read_it(name).data), options)
     except OSError as error:
         return Checked(name, failure=reason_of(error), status=CANNOT_READ_OR_WRITE)
+    except TooLong as error:
+        return Checked(name, failure=str(error), status=error.status)
     except MemoryError:
         return Checked(name, failure="there is no memory for it", status=NO_MEMORY)
 

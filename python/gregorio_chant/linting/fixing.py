@@ -4,6 +4,7 @@ from __future__ import annotations
 from gregorio_chant.format.formatting import difference
 from gregorio_chant.linting.checking import Options
 from gregorio_chant.linting.repairing import How, repair
+from gregorio_chant.objects.compiled import TooLong
 from gregorio_chant.report.reports import counted
 from gregorio_chant.work import files
 from gregorio_chant.work.scores import Scores
@@ -42,7 +43,7 @@ def fix_files(options: Options, allow_unsafe: bool, shows_diff: bool) -> int:
             scores.add(0, _fix(name, content, how, shows_diff))
         except OSError as error:
             scores.cannot(name, error)
-        except files.FileChanged as error:
+        except (files.FileChanged, TooLong) as error:
             scores.fail(name, str(error))
     if not options.quiet:
         told = "would be repaired" if shows_diff else "repaired"

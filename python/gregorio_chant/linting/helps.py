@@ -20,7 +20,7 @@ from gregorio_chant._native.node_kinds import NodeKind
 from gregorio_chant._native.results import Kind, Message
 from gregorio_chant.linting.facts import FACTS
 from gregorio_chant.linting.slips import Subject
-from gregorio_chant.objects.compiled import Compiled
+from gregorio_chant.objects.compiled import MOST_BYTES, Compiled
 
 _TABLE = Path(__file__).with_name("helps.json")
 _CLASSES = {"digit": str.isdigit, "letter": str.isalpha}
@@ -142,5 +142,8 @@ def _each_help(subject: Subject, told: Iterable[Message]) -> Iterator[str | None
 
 def helps_for(compiled: Compiled, told: Iterable[Message]) -> tuple[str | None, ...]:
     """Returns the help for each message that is reported of a score. Where several messages have
-    one slip, as a lost bracket, all but the first say so."""
+    one slip, as a lost bracket, all but the first say so. Those of a score that is too long for its
+    tree have none."""
+    if len(compiled.data) > MOST_BYTES:
+        return tuple(None for _ in told)
     return tuple(_each_help(Subject(compiled), told))

@@ -11,11 +11,15 @@ from gregorio_chant._native.nodes import Tree
 from gregorio_chant._native.results import Format, Message, Report, Result, Status
 from gregorio_chant._native.runs import Limits, Run
 from gregorio_chant._native.trees import tree
+from gregorio_chant.errors import GregorioError
 from gregorio_chant.text.source import Lines, text_of
+from gregorio_chant.work.statuses import CANNOT_READ_OR_WRITE
 
 if TYPE_CHECKING:
     from gregorio_chant.objects.score import Score
 
+# The most bytes of a score of which there is a tree: no score has a tenth of it.
+MOST_BYTES = 8_000_000
 # The size of a piece that is compiled to a dump at once, in bytes.
 _PIECE = 1 << 17
 
@@ -40,6 +44,15 @@ def _under(data: bytes, limits: Limits, format: Format) -> Result:
     return Result(output, steps[-1].status or Status.WHOLE, messages, format)
 
 
+class TooLong(GregorioError, ValueError):
+    """A score is too long for its tree."""
+
+    status = CANNOT_READ_OR_WRITE
+
+    def __init__(self, length: int) -> None:
+        super().__init__(f"it has {length:,} bytes, and the limit for this is {MOST_BYTES:,}")
+
+
 class Compiled:
     """The bytes of a score, and what the compiler says of it: its tree, its canonical text and its
     messages, under these limits if they are given."""
@@ -49,7 +62,9 @@ class Compiled:
 
     @cached_property
     def tree(self) -> Tree:
-        """Its tree, under the usual limits."""
+        """Its tree, under the usual limits. Raises `TooLong` above `MOST_BYTES`."""
+        if len(self.data) > MOST_BYTES:
+            raise TooLong(len(self.data))
         return tree(self.data)
 
     @cached_property

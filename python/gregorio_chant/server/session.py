@@ -7,6 +7,7 @@ import os
 from collections.abc import Callable
 from urllib.parse import unquote_to_bytes, urlsplit
 
+from gregorio_chant.objects.compiled import TooLong
 from gregorio_chant.objects.pauses import Pause
 from gregorio_chant.server.diagnostics import diagnostics, no_diagnostics
 from gregorio_chant.server.document import Document, File
@@ -173,7 +174,7 @@ class Session:
             return FEATURES[method](self._asked_about(uri), params)
         except _Overtaken:
             raise ProtocolError(Code.CHANGED, "the document was changed meanwhile") from None
-        except RequestRefused as refused:
+        except (RequestRefused, TooLong) as refused:
             self._warn(str(refused))
             return []
 
@@ -290,6 +291,10 @@ class Session:
             told = diagnostics(document)
             del self._unchecked[uri]
         except _Overtaken:
+            return
+        except TooLong as error:
+            del self._unchecked[uri]
+            self._warn(f"this score could not be checked: {error}")
             return
         except Exception:
             del self._unchecked[uri]

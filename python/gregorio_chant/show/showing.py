@@ -12,7 +12,7 @@ from urllib.parse import quote
 from gregorio_chant._native.results import Kind
 from gregorio_chant.errors import UsageError
 from gregorio_chant.linting import checking
-from gregorio_chant.objects.compiled import Compiled
+from gregorio_chant.objects.compiled import MOST_BYTES, Compiled, TooLong
 from gregorio_chant.objects.sounds import sounds_of_score
 from gregorio_chant.picture import Look, Names, draw
 from gregorio_chant.picture.page import NARROW, Entry, Shown, index_of, page_of
@@ -62,6 +62,9 @@ class _Scores(Scores):
         """Yields what is found in each score, and what the compiler says of it."""
         for name, content in self.contents():
             compiled = Compiled(content.data)
+            if len(compiled.data) > MOST_BYTES:
+                self.fail(name, str(TooLong(len(compiled.data))))
+                continue
             checked = checking.check_score(name, compiled, self._checking)
             self.add(checked.status)
             self.kinds.update(it.kind for it in checked.messages)

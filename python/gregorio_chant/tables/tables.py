@@ -10,6 +10,7 @@ from functools import partial
 from typing import Protocol, Union
 
 from gregorio_chant._native.results import Kind, Message, Status
+from gregorio_chant.objects.compiled import TooLong
 from gregorio_chant.objects.score import Score, ScoreError
 from gregorio_chant.report.reports import counted, json_of
 from gregorio_chant.text.source import Source
@@ -103,6 +104,8 @@ def made_of(name: str, make: Maker, read: Read) -> Made:
         return Made(name, fault=error.message, status=int(Status.FATAL))
     except OSError as error:
         return Made(name, failure=reason_of(error), status=CANNOT_READ_OR_WRITE)
+    except TooLong as error:
+        return Made(name, failure=str(error), status=error.status)
     except MemoryError:
         return Made(name, failure="there is no memory for it", status=NO_MEMORY)
 
