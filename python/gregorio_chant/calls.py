@@ -20,7 +20,8 @@ from gregorio_chant.linting.checking import told_of
 from gregorio_chant.linting.problems import Change, Problem, ProblemRepair, problems_of
 from gregorio_chant.linting.repairing import Guess, How, repair, repair_of_each
 from gregorio_chant.objects.compiled import Compiled
-from gregorio_chant.objects.score import Score, ScoreError
+from gregorio_chant.objects.reading import ScoreError
+from gregorio_chant.objects.score import Score
 from gregorio_chant.tables.indexing import IndexEntry, entry_of
 from gregorio_chant.work.settings import Settings
 from gregorio_chant.work.streams import STDIN

@@ -21,7 +21,8 @@ from gregorio_chant.objects.items import (
 from gregorio_chant.objects.left_out import LeftOut
 from gregorio_chant.objects.nabc import Descriptor, NabcGlyph, NabcLetters, NabcPart, NabcPoints
 from gregorio_chant.objects.passages import Phrase, Word
-from gregorio_chant.objects.score import Score, ScoreError
+from gregorio_chant.objects.reading import ScoreError
+from gregorio_chant.objects.score import Score
 from gregorio_chant.objects.syllables import (
     Element,
     Glyph,

@@ -11,7 +11,7 @@ from support import EXAMPLES
 import gregorio_chant
 from gregorio_chant import Kind, Message, Report, Status, check, compile, dump
 from gregorio_chant._native import library
-from gregorio_chant.objects import edits, items
+from gregorio_chant.objects import edits, score
 
 
 class Calls(unittest.TestCase):
@@ -58,7 +58,7 @@ class Calls(unittest.TestCase):
             self.assertTrue(hasattr(gregorio_chant, name))
 
     def test_examples(self) -> None:
-        for module in (gregorio_chant, library, dump, edits, items):
+        for module in (gregorio_chant, library, score, edits):
             tried = doctest.testmod(module)
             self.assertGreater(tried.attempted, 0, module)
             self.assertEqual(tried.failed, 0, module)

@@ -441,7 +441,7 @@ class Pictures(unittest.TestCase):
             float(it.get("x") or 0) for it in root.iter(f"{SVG}use") if it.get("href") == "#punctum"
         ]
         self.assertEqual(len(notes), 7)
-        self.assertEqual(codes, [notes[0]] * 5 + [notes[6]] * 5)
+        self.assertEqual(codes, [notes[0]] * 5 + [notes[5]] * 4 + [notes[6]])
 
     def test_fatal(self) -> None:
         """What stands before a fatal fault is there, with the messages of that, and the fault at

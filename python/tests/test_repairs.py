@@ -11,7 +11,7 @@ from unittest import mock
 
 from support import EXAMPLES, InFolder, command, scores_of_tables
 
-from gregorio_chant import Status, check
+from gregorio_chant import NodeKind, Status, check
 from gregorio_chant.linting import mending, repairs
 from gregorio_chant.linting.checking import found_in
 from gregorio_chant.linting.mending import MENDERS, Edit, Edits
@@ -119,10 +119,7 @@ class Repairs(unittest.TestCase):
 
     def look_at_comments(self, old: Compiled, new: Compiled) -> None:
         comments = [
-            [
-                it.comparison.source.text[span.begin : span.end]
-                for span in it.comparison.source.comments
-            ]
+            [node.source for node in it.tree.of_kind(NodeKind.COMMENT, NodeKind.HEADER_COMMENT)]
             for it in (old, new)
         ]
         self.assertEqual(comments[0], comments[1])

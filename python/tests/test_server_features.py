@@ -221,9 +221,9 @@ class Outline(Served):
     def test_symbols_with_a_fault(self) -> None:
         self.open("name: a;\n%%\n(c4) Ky(f)ri(g")
         self.assertEqual(
-            [it["name"] for it in self.ask_here("documentSymbol")], ["name: a", "1. Kyri"]
+            [it["name"] for it in self.ask_here("documentSymbol")], ["name: a", "1. Ky"]
         )
-        self.change("no colon\n")
+        self.change("no colon\n%%\n")
         self.assertEqual([it["name"] for it in self.ask_here("documentSymbol")], ["no colon"])
         self.change("")
         self.assertEqual((self.ask_here("documentSymbol"), self.ask_here("foldingRange")), ([], []))

@@ -241,13 +241,14 @@ class Tree:
         return parts.decode("utf-8", "replace").replace("\r", "\n")
 
     def kept_spans(self, first: int, past: int, begin: int, end: int) -> Iterator[tuple[int, int]]:
-        """Yields where these bytes stand."""
+        """Yields where these bytes stand. Nodes before `begin` do not count."""
         for found in _NOT_KEPT.finditer(self.kinds, first, past):
-            number = found.start()
-            if self.wide[_WIDE * number] >= end:
+            at, past_it = self.wide[_WIDE * found.start() : _WIDE * found.start() + 2]
+            if at >= end:
                 break
-            yield begin, self.wide[_WIDE * number]
-            begin = self.wide[_WIDE * number + 1]
+            if at >= begin:
+                yield begin, at
+                begin = past_it
         yield begin, end
 
     def at(self, offset: int) -> Node:

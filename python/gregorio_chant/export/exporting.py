@@ -8,7 +8,8 @@ from gregorio_chant._native.results import Kind
 from gregorio_chant.export import Way
 from gregorio_chant.export.losses import losses
 from gregorio_chant.objects.compiled import TooLong
-from gregorio_chant.objects.score import Score, ScoreError
+from gregorio_chant.objects.reading import ScoreError
+from gregorio_chant.objects.score import Score
 from gregorio_chant.report.reports import counted
 from gregorio_chant.work import scores
 from gregorio_chant.work.files import write

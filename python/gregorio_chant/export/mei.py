@@ -115,7 +115,7 @@ class _Layer:
                 if isinstance(item, Note):
                     made = self._begin(syllable, text) if made is None else made
                     glyph = of_glyphs.get(item)
-                    if neume is None or glyph is not last:
+                    if neume is None or glyph != last:
                         neume = _child(
                             made, "neume", **({"type": glyph.kind} if glyph is not None else {})
                         )

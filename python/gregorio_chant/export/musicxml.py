@@ -119,8 +119,8 @@ def _lyric_of(syllable: Syllable) -> tuple[str, str] | None:
 def _slurs_of(syllable: Syllable, note: Note) -> list[str]:
     """Returns where slurs over neumes begin and end at a note."""
     ends = [(glyph.notes[0], glyph.notes[-1]) for glyph in syllable.glyphs if len(glyph.notes) > 1]
-    return ["stop" for _, last in ends if last is note] + [
-        "start" for first, _ in ends if first is note
+    return ["stop" for _, last in ends if last == note] + [
+        "start" for first, _ in ends if first == note
     ]
 
 

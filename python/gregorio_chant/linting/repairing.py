@@ -29,6 +29,8 @@ from gregorio_chant.objects.compiled import Compiled
 from gregorio_chant.objects.pauses import Pause, go_on
 from gregorio_chant.objects.score import Score
 from gregorio_chant.objects.syllables import Syllable
+from gregorio_chant.objects.written import notes_of
+from gregorio_chant.text.parts import Span
 from gregorio_chant.text.source import raw_offsets
 
 # How many bytes of scores are compiled for one score at most, so that its repairs take seconds;
@@ -125,26 +127,23 @@ def _headers(score: Score) -> list[str]:
 def _differs_there_alone(old: Compiled, new: Compiled, places: Sequence[int]) -> bool:
     """Returns whether the canonical forms differ in headers and syllables alone that hold one of
     the `places` of the old text."""
+    parts = Subject(old).parts
     before, after = old.score, new.score
-    places_of = before.tree.places
-    begin_of_score = places_of.counted(next(before.tree.of_kind(NodeKind.SCORE_LINE)).begin)
-    if _headers(before) != _headers(after) and not any(it <= begin_of_score for it in places):
+    if _headers(before) != _headers(after) and not any(it <= parts.score for it in places):
         return False
     olds = [it.spelling for it in before.syllables]
     news = [it.spelling for it in after.syllables]
     begin = _alike(olds, news)
     end = min(_alike(olds[::-1], news[::-1]), len(olds) - begin, len(news) - begin)
-    changed = before.syllables[begin : len(olds) - end]
+    changed = parts.syllables[begin : len(olds) - end]
     if len(olds) == len(news):
-        changed = tuple(it for it, a, b in zip(before.syllables, olds, news) if a != b)
+        changed = [it for it, a, b in zip(parts.syllables, olds, news) if a != b]
     return all(_is_touched(it, places) for it in changed)
 
 
-def _is_touched(syllable: Syllable, places: Sequence[int]) -> bool:
-    """Returns whether one of the places lies in a syllable, or directly before or after it."""
-    count = syllable.score.tree.places.counted
-    first = bisect.bisect_left(places, count(syllable.node.begin))
-    return first < len(places) and places[first] <= count(syllable.node.end)
+def _is_touched(span: Span, places: Sequence[int]) -> bool:
+    first = bisect.bisect_left(places, span.begin)
+    return first < len(places) and places[first] <= span.end
 
 
 def _sings_the_same(old: Score, new: Score) -> bool:
@@ -154,7 +153,7 @@ def _sings_the_same(old: Score, new: Score) -> bool:
         len(old.syllables) == len(new.syllables)
         and _headers(old) == _headers(new)
         and all(
-            before.written_notes == after.written_notes and _sung(before) == _sung(after)
+            notes_of(before) == notes_of(after) and _sung(before) == _sung(after)
             for before, after in zip(old.syllables, new.syllables)
         )
     )

@@ -9,6 +9,7 @@ from gregorio_chant._native.node_kinds import NodeKind
 from gregorio_chant.linting.rule import Found, Subject
 from gregorio_chant.objects.item import PITCHES, Item
 from gregorio_chant.objects.items import SHAPES, Alteration, Bar, Clef, Note
+from gregorio_chant.objects.written import begin_of_notes
 from gregorio_chant.objects.syllables import Glyph
 from gregorio_chant.report.reports import counted
 
@@ -55,7 +56,7 @@ def nabc_after_bars(subject: Subject) -> list[tuple[int, int]]:
     for it in subject.tree.of_kind(NodeKind.LEFT_OUT):
         if it.a == _E1 and source[it.begin : it.end] == b"|":
             syllable = subject.score.syllable_of(it.number)
-            _, _, begin, _ = syllable.nodes_before(0)
+            begin = begin_of_notes(syllable)
             end = syllable.node.end
             if not _ONLY_BARS.fullmatch(source, begin, end - 1):
                 found.setdefault(syllable.number, (it.begin, end))

@@ -10,6 +10,7 @@ from gregorio_chant.linting.rule import Found, Subject
 from gregorio_chant.linting.slips import ENTITY, MODES
 from gregorio_chant.objects.headers import Header
 from gregorio_chant.objects.items import Bar, Note
+from gregorio_chant.objects.written import begin_of_notes
 from gregorio_chant.objects.syllables import Syllable
 from gregorio_chant.text.nearest import nearest
 from gregorio_chant.text.vocabulary import HEADERS, OLD_HEADERS, SPECIALS
@@ -47,7 +48,7 @@ def blank_before_notes(subject: Subject) -> Iterator[Found]:
     told = "there is a blank between a word and its notes: the compiler drops it"
     source, wide = subject.source, subject.tree.wide
     for syllable in subject.score.syllables:
-        _, _, notes, _ = syllable.nodes_before(0)
+        notes = begin_of_notes(syllable)
         end = notes - 1
         if source[end - 1] in _BLANKS and source[end : end + 1] == b"(":
             begin = len(source[wide[5 * syllable.node.number] : end].rstrip())
@@ -161,7 +162,7 @@ def missing_blank(subject: Subject) -> Iterator[Found]:
 
 def bar_as_text(subject: Subject) -> Iterator[Found]:
     for it in subject.score.syllables:
-        _, _, notes, _ = it.nodes_before(0)
+        notes = begin_of_notes(it)
         found = _BAR_AS_TEXT.match(subject.source, it.node.begin, notes)
         if found is not None:
             mark = found[1].decode()

@@ -1,6 +1,6 @@
 """Changes of a score that keep the rest of its file character for character.
 
->>> from gregorio_chant.objects.dump import Score
+>>> from gregorio_chant.dump import Score
 >>> score = Score.parse("name: Kyrie;\\n%%  the simple tone\\n(c4)  Ky(f)ri(gfg)")
 >>> print(score.edited().transpose(1).replace(score.headers[0], "name: Kyrie II;").text())
 name: Kyrie II;

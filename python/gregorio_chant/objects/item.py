@@ -1,12 +1,14 @@
 """What all objects of a score are: views of nodes of its tree, made when they are asked for."""
 from __future__ import annotations
 
-from typing import TYPE_CHECKING
+from typing import TYPE_CHECKING, cast
 
 from gregorio_chant._native.nodes import Node
+from gregorio_chant.objects.written import notes_before
 from gregorio_chant.text.source import Place, Source
 
 if TYPE_CHECKING:
+    from gregorio_chant.objects.reading import Reading
     from gregorio_chant.objects.score import Score
     from gregorio_chant.objects.syllables import Syllable
 
@@ -21,7 +23,7 @@ class Item:
 
     __slots__ = ("_number", "_score")
 
-    def __init__(self, score: Score, number: int) -> None:
+    def __init__(self, score: Reading, number: int) -> None:
         self._score, self._number = score, number
 
     def __eq__(self, other: object) -> bool:
@@ -38,7 +40,7 @@ class Item:
     @property
     def score(self) -> Score:
         """The score that it is of."""
-        return self._score
+        return cast("Score", self._score)
 
     @property
     def node(self) -> Node:
@@ -76,7 +78,7 @@ class Item:
     def shift(self) -> int:
         """How many characters of the canonical text stand between the `(` of its syllable and
         it."""
-        return len(self._score.tree.kept_text(*self.syllable.nodes_before(self._bytes[0])))
+        return len(notes_before(self.syllable, self._bytes[0]))
 
     def offset_of(self, index: int) -> int:
         """Returns how many characters stand in the file before the character `index`, from 0, of

@@ -9,7 +9,7 @@ from gregorio_chant.objects.item import PITCHES, SIGNS, Item
 from gregorio_chant.objects.signs import Episema, NoteSigns, signs_of
 
 if TYPE_CHECKING:
-    from gregorio_chant.objects.score import Score
+    from gregorio_chant.objects.reading import Reading
 
 SHAPES = (
     "punctum",
@@ -54,7 +54,7 @@ class Clef(Item):
 
     __slots__ = ("_is_second",)
 
-    def __init__(self, score: Score, number: int, is_second: bool = False) -> None:
+    def __init__(self, score: Reading, number: int, is_second: bool = False) -> None:
         super().__init__(score, number)
         self._is_second = is_second
 

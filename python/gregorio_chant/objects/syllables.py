@@ -20,11 +20,12 @@ from gregorio_chant.objects.items import (
 )
 from gregorio_chant.objects.nabc import Descriptor
 from gregorio_chant.objects.texts import Piece, pieces_of, written_text
+from gregorio_chant.objects.written import notes_of, text_of
 from gregorio_chant.text.source import Place
 
 if TYPE_CHECKING:
     from gregorio_chant.objects.passages import Word
-    from gregorio_chant.objects.score import Score
+    from gregorio_chant.objects.reading import Reading
 
 _BASES = (
     "pes",
@@ -85,7 +86,7 @@ class Element(Item):
 
     __slots__ = ("items",)
 
-    def __init__(self, score: Score, items: tuple[Item, ...]) -> None:
+    def __init__(self, score: Reading, items: tuple[Item, ...]) -> None:
         super().__init__(score, items[0]._number)
         self.items = items
 
@@ -163,7 +164,7 @@ class NabcSnippet(_Snippet):
 Snippet = Union[NoteSnippet, NabcSnippet]
 
 
-def item_of(score: Score, number: int) -> Item | None:
+def item_of(score: Reading, number: int) -> Item | None:
     """Returns what the node `number` of a snippet is, if it is an item."""
     item = _CLASSES.get(score.tree.kinds[number])
     return item(score, number) if item else None
@@ -174,7 +175,7 @@ class Syllable(Item):
 
     __slots__ = ("number",)
 
-    def __init__(self, score: Score, node: int, number: int) -> None:
+    def __init__(self, score: Reading, node: int, number: int) -> None:
         super().__init__(score, node)
         # Its number in the score, from 1.
         self.number = number
@@ -254,19 +255,7 @@ class Syllable(Item):
     @property
     def spelling(self) -> str:
         """Its canonical text, with that of its notes."""
-        return f"{self.written_text}({self.written_notes})"
-
-    @property
-    def written_notes(self) -> str:
-        """The canonical text of its notes, without their brackets."""
-        tree = self._score.tree
-        return "|".join([tree.kept(it) for it in self._score.snippets_in(self._number)])
-
-    @property
-    def written_text(self) -> str:
-        """Its canonical text with the translation, without its notes."""
-        translation = self.translation
-        return self.text if translation is None else f"{self.text}[{translation}]"
+        return f"{text_of(self)}({notes_of(self)})"
 
     @property
     def place(self) -> Place:
@@ -277,14 +266,6 @@ class Syllable(Item):
     def shift(self) -> int:
         """0: it begins at its text."""
         return 0
-
-    def nodes_before(self, byte: int) -> tuple[int, int, int, int]:
-        """Returns what `Tree.kept_text` takes for the notes before a byte of the file."""
-        tree = self._score.tree
-        first = next(self._score.snippets_in(self._number), None)
-        if first is None:
-            return self._number, self._number, byte, byte
-        return first, self.node.past, tree.wide[5 * first], byte
 
     @property
     def _bytes(self) -> tuple[int, int]:

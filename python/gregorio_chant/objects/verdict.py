@@ -32,7 +32,8 @@ def look_at(old: Score, changes: Sequence[Change], text: str, canonical: str) ->
 
 
 def _parsed(changes: Sequence[Change], text: str) -> Score:
-    from gregorio_chant.objects.score import Score, ScoreError
+    from gregorio_chant.objects.reading import ScoreError
+    from gregorio_chant.objects.score import Score
 
     try:
         new = Score.parse(text)

@@ -8,15 +8,42 @@ from gregorio_chant.text.source import Lines, Place
 
 if TYPE_CHECKING:
     from gregorio_chant.objects.headers import Header
-    from gregorio_chant.objects.score import Score
+    from gregorio_chant.objects.reading import Reading
     from gregorio_chant.objects.syllables import Syllable
+
+
+def text_of(syllable: Syllable) -> str:
+    """Returns the canonical text of a syllable with its translation, without its notes."""
+    translation = syllable.translation
+    return syllable.text if translation is None else f"{syllable.text}[{translation}]"
+
+
+def notes_of(syllable: Syllable) -> str:
+    """Returns the canonical text of the notes of a syllable, without their brackets."""
+    score, number = syllable.score, syllable.node.number
+    return "|".join([score.tree.kept(it) for it in score.snippets_in(number)])
+
+
+def begin_of_notes(syllable: Syllable) -> int:
+    """Returns the byte of the file at which the notes of a syllable begin, after their `(`; its end
+    if it has none."""
+    score, number = syllable.score, syllable.node.number
+    first = next(score.snippets_in(number), None)
+    return syllable.node.end if first is None else score.tree.wide[5 * first]
+
+
+def notes_before(syllable: Syllable, byte: int) -> str:
+    """Returns the canonical text of the notes of a syllable that stand before a byte of the
+    file."""
+    node = syllable.node
+    return node.tree.kept_text(node.number + 1, node.past, begin_of_notes(syllable), byte)
 
 
 class Written:
     """The places of headers, syllables and items in the canonical text of a score."""
 
-    def __init__(self, score: Score) -> None:
-        self._lines = Lines(score.canonical)
+    def __init__(self, canonical: str, score: Reading) -> None:
+        self._lines = Lines(canonical)
         self._headers: dict[Header, int] = {}
         at = 0
         for header in score.headers:
@@ -29,8 +56,8 @@ class Written:
         for it in score.syllables:
             at += it.begins_word
             self.offsets.append(at)
-            self._notes.append(at + len(it.written_text) + 1)
-            at = self._notes[-1] + len(it.written_notes) + 1
+            self._notes.append(at + len(text_of(it)) + 1)
+            at = self._notes[-1] + len(notes_of(it)) + 1
 
     def place(self, offset: int) -> Place:
         """Returns the place of a character."""

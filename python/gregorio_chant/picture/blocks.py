@@ -18,6 +18,7 @@ from gregorio_chant.objects.items import (
     Space,
 )
 from gregorio_chant.objects.syllables import Glyph, NabcSnippet, NoteSnippet, Syllable
+from gregorio_chant.objects.written import notes_of
 from gregorio_chant.picture import staff
 from gregorio_chant.picture.attributes import At, add_attributes
 from gregorio_chant.picture.episemata import Neume, add_signs
@@ -229,7 +230,7 @@ def blocks_of(
             continue
         blocks += _with_nabc(group, nabc, snippet.shift, hand)
         nabc, group = [], _blocks_of_notes(snippet, lines, after[at], face)
-    return blocks + _with_nabc(group, nabc, len(syllable.written_notes), hand)
+    return blocks + _with_nabc(group, nabc, len(notes_of(syllable)), hand)
 
 
 def first_pitch(snippets: Sequence[NoteSnippet | NabcSnippet]) -> str | None:

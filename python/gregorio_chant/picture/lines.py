@@ -82,7 +82,7 @@ class LineMaker:
 
     def _clef_width(self, clef: Clef) -> float:
         """Returns what a clef takes at a line's beginning. The last one is kept."""
-        if clef is not self._measured[0]:
+        if clef != self._measured[0]:
             self._measured = (
                 clef,
                 staff.clef(clef, self._shapes).width + self._spaces.after_line_clef,

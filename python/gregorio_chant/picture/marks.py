@@ -8,6 +8,7 @@ from dataclasses import dataclass, field
 from gregorio_chant._native.node_kinds import NodeKind
 from gregorio_chant._native.results import Kind, Message
 from gregorio_chant.objects.score import Score
+from gregorio_chant.objects.written import begin_of_notes, notes_before
 
 # What stands before all notes of a syllable: its text.
 _TEXT = -1
@@ -36,10 +37,9 @@ class Places:
 def _mark_of(score: Score, number: int, at: int, message: Message, byte: int) -> Mark:
     """Returns the mark of a message at a byte of the syllable `number`."""
     syllable = score.syllables[number]
-    first, past, begin, end = syllable.nodes_before(byte)
-    if byte < begin:
+    if byte < begin_of_notes(syllable):
         return Mark(at, message)
-    return Mark(at, message, len(score.tree.kept_text(first, past, begin, end)))
+    return Mark(at, message, len(notes_before(syllable, byte)))
 
 
 def places_of(score: Score | None, messages: Sequence[Message]) -> Places:

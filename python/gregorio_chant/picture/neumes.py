@@ -268,7 +268,7 @@ class _Pen:
     def _is_up(self, note: Note) -> bool:
         """Returns whether a note is an oriscus that points up."""
         return note.shape in _ORISCI and any(
-            up for it, up in zip(self._glyph.notes, self._up) if it is note
+            up for it, up in zip(self._glyph.notes, self._up) if it == note
         )
 
     def _whole(self, name: str, note: Note, y: float) -> None:

@@ -8,7 +8,8 @@ from gregorio_chant._native.results import Kind
 from gregorio_chant.errors import UsageError
 from gregorio_chant.export.volpiano import volpiano_of
 from gregorio_chant.objects.passages import Word
-from gregorio_chant.objects.score import Score, ScoreError
+from gregorio_chant.objects.reading import ScoreError
+from gregorio_chant.objects.score import Score
 from gregorio_chant.tables.searching import degree_of, degrees_of
 from gregorio_chant.tables.tables import PLACE, Row
 

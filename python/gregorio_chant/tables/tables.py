@@ -11,7 +11,8 @@ from typing import Protocol, Union
 
 from gregorio_chant._native.results import Kind, Message, Status
 from gregorio_chant.objects.compiled import TooLong
-from gregorio_chant.objects.score import Score, ScoreError
+from gregorio_chant.objects.reading import ScoreError
+from gregorio_chant.objects.score import Score
 from gregorio_chant.report.reports import counted, json_of
 from gregorio_chant.text.source import Source
 from gregorio_chant.work import scores
