@@ -61,8 +61,8 @@ def repaired(score: bytes, how: How) -> bytes:
     return repair(score, how).data
 
 
-def codes_of(score: bytes) -> Counter[str]:
-    return Counter(it.code for it in found_in(Compiled(score), True))
+def codes_of(score: bytes, with_rules: bool = True) -> Counter[str]:
+    return Counter(it.code for it in found_in(Compiled(score), with_rules))
 
 
 class Repairs(unittest.TestCase):
@@ -112,8 +112,9 @@ class Repairs(unittest.TestCase):
         old, new = Compiled(score), Compiled(made)
         self.assertIsNone(new.fault)
         if old.fault is None:
-            self.assertLess(sum(codes_of(made).values()), sum(codes_of(score).values()))
-            self.assertEqual(codes_of(made) - codes_of(score), Counter())
+            before, after = (codes_of(it, how.with_rules) for it in (score, made))
+            self.assertLess(sum(after.values()), sum(before.values()))
+            self.assertEqual(after - before, Counter())
             self.look_at_comments(old, new)
         return True
 

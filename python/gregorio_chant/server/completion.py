@@ -90,7 +90,7 @@ def _in_text(document: Document, before: str, end: int) -> Json:
 def _in_notes(document: Document, made: Tree, before: str, end: int) -> Json:
     """Returns the codes of NABC where a line of it stands."""
     snippet = list(made.of_kind(NodeKind.SNIPPET))[-1]
-    code = _CODE.search(before, max(map(before.rfind, "|(")) + 1)
+    code = _CODE.search(before, max(map(before.rfind, "|(")))
     if snippet.a == 0 or code is None:
         return []
     begin = end - len(code[1])
