@@ -23,8 +23,8 @@ from support import files_of_scores
 from gregorio_chant import Format, Status, compile
 from gregorio_chant.dump import Score, ScoreError
 from gregorio_chant.linting.checking import found_in
-from gregorio_chant.objects.compiled import Compiled
 from gregorio_chant.linting.repairing import How, repair
+from gregorio_chant.objects.compiled import Compiled
 
 _SAFE, _ALL = How(with_rules=True), How(allow_unsafe=True, with_rules=True)
 _PLACES = int(os.environ.get("GREGORIO_SLIPS", "0"))

@@ -6,7 +6,7 @@ import bisect
 import re
 import sys
 from collections.abc import Collection, Iterator
-from functools import cached_property
+from functools import cached_property, lru_cache
 
 from gregorio_chant._native.node_kinds import NOT_KEPT, NodeKind
 from gregorio_chant.text.byte_places import BytePlaces
@@ -21,7 +21,15 @@ _KIND_BYTE = 2 * _KIND + (sys.byteorder == "big")
 _KINDS = tuple(NodeKind)
 # What stands before a syllable, and is none of it.
 _BLANKS = bytes(NOT_KEPT - {NodeKind.LEFT_OUT} | {NodeKind.TEXT_BLANK})
-_NOT_KEPT = re.compile(b"[%s]" % re.escape(bytes(NOT_KEPT)))
+
+
+@lru_cache(maxsize=64)
+def kinds_pattern(*kinds: NodeKind) -> re.Pattern[bytes]:
+    """Returns a pattern for one node of these kinds in `Tree.kinds`."""
+    return re.compile(b"[%s]" % re.escape(bytes(kinds)))
+
+
+NOT_KEPT_PATTERN = kinds_pattern(*NOT_KEPT)
 
 
 class Node:
@@ -194,8 +202,11 @@ class Tree:
 
     def of_kind(self, *kinds: NodeKind) -> Iterator[Node]:
         """Yields the nodes of these kinds, in order."""
-        wanted = frozenset(map(int, kinds))
-        return (Node(self, number) for number, kind in enumerate(self.kinds) if kind in wanted)
+        return (Node(self, it) for it in self.numbers_of(*kinds))
+
+    def numbers_of(self, *kinds: NodeKind) -> Iterator[int]:
+        """Yields the numbers of the nodes of these kinds, in order."""
+        return (it.start() for it in kinds_pattern(*kinds).finditer(self.kinds))
 
     def said_but_of(self, kinds: Collection[NodeKind]) -> Iterator[memoryview]:
         """Yields what each node says that is of none of these kinds, in order: its kind and its
@@ -231,18 +242,23 @@ class Tree:
     def kept(self, number: int) -> str:
         """Returns what was kept of the node `number`."""
         begin, end, inner = self.wide[_WIDE * number : _WIDE * number + _INNER + 1]
-        return self.kept_text(number + 1, number + 1 + inner, begin, end)
+        if inner:
+            return self.kept_text(number + 1, number + 1 + inner, begin, end)
+        return self.source[begin:end].decode("utf-8", "replace").replace("\r", "\n")
 
     def kept_text(self, first: int, past: int, begin: int, end: int) -> str:
         """Returns what was kept of the bytes from `begin` up to `end`, in which no nodes lie but
         those from `first` up to `past`."""
-        kept = self.kept_spans(first, past, begin, end)
-        parts = b"".join([self.source[begin:end] for begin, end in kept])
-        return parts.decode("utf-8", "replace").replace("\r", "\n")
+        source = self.source
+        if NOT_KEPT_PATTERN.search(self.kinds, first, past) is None:
+            kept = source[begin:end]
+        else:
+            kept = b"".join([source[a:b] for a, b in self.kept_spans(first, past, begin, end)])
+        return kept.decode("utf-8", "replace").replace("\r", "\n")
 
     def kept_spans(self, first: int, past: int, begin: int, end: int) -> Iterator[tuple[int, int]]:
         """Yields where these bytes stand. Nodes before `begin` do not count."""
-        for found in _NOT_KEPT.finditer(self.kinds, first, past):
+        for found in NOT_KEPT_PATTERN.finditer(self.kinds, first, past):
             at, past_it = self.wide[_WIDE * found.start() : _WIDE * found.start() + 2]
             if at >= end:
                 break

@@ -1,7 +1,6 @@
 """What rules read, and what they find."""
 from __future__ import annotations
 
-import re
 from collections.abc import Iterator
 from dataclasses import dataclass
 from functools import cached_property
@@ -10,6 +9,8 @@ from gregorio_chant._native.node_kinds import NodeKind
 from gregorio_chant._native.nodes import Node, Tree
 from gregorio_chant.objects.item import Item
 from gregorio_chant.objects.score import Score
+
+_SNIPPET = int(NodeKind.SNIPPET)
 
 
 @dataclass(frozen=True)
@@ -53,8 +54,20 @@ class Subject:
 
     def numbers(self, *kinds: NodeKind) -> Iterator[int]:
         """Yields the numbers of the nodes of these kinds."""
-        pattern = re.compile(b"[%s]" % re.escape(bytes(kinds)))
-        return (it.start() for it in pattern.finditer(self.tree.kinds))
+        return self.tree.numbers_of(*kinds)
+
+    @cached_property
+    def texts(self) -> list[tuple[int, int]]:
+        """The bytes of each syllable up to its notes: where it begins, and where its `(` stands, or
+        its end if it has no notes."""
+        return list(self._texts())
+
+    def _texts(self) -> Iterator[tuple[int, int]]:
+        wide, kinds = self.tree.wide, self.tree.kinds
+        for number in self.tree.numbers_of(NodeKind.SYLLABLE):
+            begin, end, inner = wide[5 * number : 5 * number + 3]
+            first = kinds.find(_SNIPPET, number, number + 1 + inner)
+            yield begin, end if first < 0 else wide[5 * first] - 1
 
     def found(self, item: Item, text: str) -> Found:
         """Returns what is found at the begin of an item."""

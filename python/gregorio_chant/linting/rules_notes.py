@@ -9,8 +9,8 @@ from gregorio_chant._native.node_kinds import NodeKind
 from gregorio_chant.linting.rule import Found, Subject
 from gregorio_chant.objects.item import PITCHES, Item
 from gregorio_chant.objects.items import SHAPES, Alteration, Bar, Clef, Note
-from gregorio_chant.objects.written import begin_of_notes
 from gregorio_chant.objects.syllables import Glyph
+from gregorio_chant.objects.written import begin_of_notes
 from gregorio_chant.report.reports import counted
 
 _STAFFS = ("2", "3", "4", "5")

@@ -6,11 +6,11 @@ import re
 from collections.abc import Iterator, Sequence
 
 from gregorio_chant._native.node_kinds import NOT_KEPT, NodeKind
+from gregorio_chant._native.nodes import kinds_pattern
 from gregorio_chant.linting.rule import Found, Subject
 from gregorio_chant.linting.slips import ENTITY, MODES
 from gregorio_chant.objects.headers import Header
 from gregorio_chant.objects.items import Bar, Note
-from gregorio_chant.objects.written import begin_of_notes
 from gregorio_chant.objects.syllables import Syllable
 from gregorio_chant.text.nearest import nearest
 from gregorio_chant.text.vocabulary import HEADERS, OLD_HEADERS, SPECIALS
@@ -29,6 +29,18 @@ _BAR_AS_TEXT = re.compile(rb"[ \t\r\n]*([;:,])[ \t\r\n]+[\w\x80-\xff]")
 _LETTER = re.compile(rb"[\w\x80-\xff]")
 _BLANKS = b" \t\r\n"
 _SPECIAL = 1
+# What may stand in a snippet of notes.
+_ITEMS = kinds_pattern(
+    NodeKind.NOTE,
+    NodeKind.ALTERATION,
+    NodeKind.CLEF,
+    NodeKind.BAR,
+    NodeKind.SPACING,
+    NodeKind.CUSTOS,
+    NodeKind.LINE_BREAK,
+    NodeKind.ATTRIBUTE,
+    NodeKind.FUSION,
+)
 # What stands beside letters in a text, and is no letter.
 _NO_LETTERS = NOT_KEPT - {NodeKind.LEFT_OUT} | {
     NodeKind.TEXT_BLANK,
@@ -46,14 +58,12 @@ def comment(subject: Subject) -> Iterator[Found]:
 
 def blank_before_notes(subject: Subject) -> Iterator[Found]:
     told = "there is a blank between a word and its notes: the compiler drops it"
-    source, wide = subject.source, subject.tree.wide
-    for syllable in subject.score.syllables:
-        notes = begin_of_notes(syllable)
-        end = notes - 1
+    source = subject.source
+    for number, (begin, end) in enumerate(subject.texts):
         if source[end - 1] in _BLANKS and source[end : end + 1] == b"(":
-            begin = len(source[wide[5 * syllable.node.number] : end].rstrip())
-            if begin and _is_word(syllable):
-                yield Found(syllable.node.begin + begin, told)
+            length = len(source[begin:end].rstrip())
+            if length and _is_word(subject.score.syllables[number]):
+                yield Found(begin + length, told)
 
 
 def _is_word(syllable: Syllable) -> bool:
@@ -161,9 +171,8 @@ def missing_blank(subject: Subject) -> Iterator[Found]:
 
 
 def bar_as_text(subject: Subject) -> Iterator[Found]:
-    for it in subject.score.syllables:
-        notes = begin_of_notes(it)
-        found = _BAR_AS_TEXT.match(subject.source, it.node.begin, notes)
+    for begin, end in subject.texts:
+        found = _BAR_AS_TEXT.match(subject.source, begin, end)
         if found is not None:
             mark = found[1].decode()
             told = f"'{mark}' is alone in a text: did you mean the bar ({mark})?"
@@ -197,8 +206,8 @@ def html_entity(subject: Subject) -> Iterator[Found]:
 
 def syllable_without_notes(subject: Subject) -> Iterator[Found]:
     for it, plain in zip(subject.score.syllables, subject.plains):
-        if it.position in ("beginning", "middle") and not it.items:
-            if any(map(str.isalpha, plain)):
+        if any(map(str.isalpha, plain)) and it.position in ("beginning", "middle"):
+            if _ITEMS.search(subject.tree.kinds, it.node.number, it.node.past) is None:
                 yield subject.found(it, f"'{plain.strip()}' has no notes within its word")
 
 

@@ -1,7 +1,7 @@
 """How high notes stand and how far they are from each other."""
 from __future__ import annotations
 
-from collections.abc import Iterable, Sequence
+from collections.abc import Sequence
 from dataclasses import dataclass
 
 from gregorio_chant.objects.items import Note
@@ -40,12 +40,3 @@ def interval(first: Note, second: Note) -> Interval | None:
 def intervals(notes: Sequence[Note]) -> tuple[Interval | None, ...]:
     """Returns the interval from each of the notes to the next one."""
     return tuple(interval(a, b) for a, b in zip(notes, notes[1:]))
-
-
-def range_of(notes: Iterable[Note]) -> Range | None:
-    """Returns the lowest and the highest of the notes; `None` if all come before any clef, or there
-    are no notes."""
-    by_height = [(it.semitones, it) for it in notes if it.semitones is not None]
-    if not by_height:
-        return None
-    return Range(min(by_height, key=lambda it: it[0])[1], max(by_height, key=lambda it: it[0])[1])

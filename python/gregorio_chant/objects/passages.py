@@ -2,7 +2,7 @@
 from __future__ import annotations
 
 import re
-from collections.abc import Collection, Iterator, Sequence
+from collections.abc import Collection, Iterable, Iterator, Sequence
 from dataclasses import dataclass
 
 from gregorio_chant.objects.item import Item
@@ -83,24 +83,33 @@ class Phrase:
         return first.source
 
 
-def words_of(syllables: Sequence[Syllable]) -> tuple[Word, ...]:
-    """Returns the words of syllables: all that have a letter or a digit."""
-    words: list[list[Syllable]] = []
+def each_word(syllables: Iterable[Syllable]) -> Iterator[Word]:
+    """Yields the words of syllables: all that have a letter or a digit."""
+    inside: list[Syllable] = []
     for it in syllables:
-        if it.begins_word or not words:
-            words.append([])
-        words[-1].append(it)
-    return tuple(
-        Word(tuple(it)) for it in words if any(_has_letters(syllable.plain) for syllable in it)
-    )
+        if inside and it.begins_word:
+            yield from _word(inside)
+            inside = []
+        inside.append(it)
+    yield from _word(inside)
+
+
+def _word(syllables: list[Syllable]) -> Iterator[Word]:
+    """Yields the word of these syllables, if they are one."""
+    if any(_has_letters(it.plain) for it in syllables):
+        yield Word(tuple(syllables))
+
+
+def words_of(syllables: Iterable[Syllable]) -> tuple[Word, ...]:
+    """Returns the words of syllables."""
+    return tuple(each_word(syllables))
 
 
 def word_of(syllables: Sequence[Syllable], at: int) -> Word | None:
     """Returns the word of the syllable `at`, from 0, of all those of a score, if it is in one."""
     begin = next((it for it in range(at, 0, -1) if syllables[it].begins_word), 0)
     ends = (it for it in range(at + 1, len(syllables)) if syllables[it].begins_word)
-    words = words_of(syllables[begin : next(ends, len(syllables))])
-    return words[0] if words else None
+    return next(each_word(syllables[begin : next(ends, len(syllables))]), None)
 
 
 def _divided(syllables: Sequence[Syllable], kinds: Collection[str] | None) -> Iterator[Phrase]:

@@ -2,11 +2,11 @@
 from __future__ import annotations
 
 import bisect
-import re
 from collections.abc import Iterator
 from functools import cached_property
 
 from gregorio_chant._native.node_kinds import NodeKind
+from gregorio_chant._native.nodes import kinds_pattern
 from gregorio_chant._native.results import Message
 from gregorio_chant.errors import GregorioError
 from gregorio_chant.objects.compiled import Compiled
@@ -18,14 +18,13 @@ from gregorio_chant.objects.syllables import Glyph, Syllable, item_of
 from gregorio_chant.objects.written import Written, begin_of_notes
 from gregorio_chant.text.source import Source
 
-_NOTES = re.compile(re.escape(bytes((NodeKind.NOTE,))))
-_GLYPHS = re.compile(re.escape(bytes((NodeKind.GLYPH,))))
-_CLEFS = re.compile(re.escape(bytes((NodeKind.CLEF,))))
-_SYLLABLES = re.compile(re.escape(bytes((NodeKind.SYLLABLE,))))
+_NOTES = kinds_pattern(NodeKind.NOTE)
+_GLYPHS = kinds_pattern(NodeKind.GLYPH)
+_SNIPPETS = kinds_pattern(NodeKind.SNIPPET)
 
 
 class ScoreError(GregorioError, ValueError):
-    """The headers of a score are not whole, so nothing of it was written. `message` is the fault."""
+    """The headers of a score are not whole, so nothing of it was read. `message` is the fault."""
 
     def __init__(self, message: Message) -> None:
         super().__init__(f"{message.line}:{message.column}: {message.code}: {message.text}")
@@ -41,8 +40,7 @@ class Reading:
         self.compiled, self.tree = compiled, compiled.tree
         if not compiled.has_score:
             raise ScoreError(compiled.messages[-1])
-        kinds = self.tree.kinds
-        self._syllables = [it.start() for it in _SYLLABLES.finditer(kinds)][: compiled.count]
+        self._syllables = list(self.tree.numbers_of(NodeKind.SYLLABLE))[: compiled.count]
 
     @cached_property
     def written(self) -> Written:
@@ -125,7 +123,7 @@ class Reading:
 
     @cached_property
     def _clefs(self) -> list[int]:
-        return [it.start() for it in _CLEFS.finditer(self.tree.kinds)]
+        return list(self.tree.numbers_of(NodeKind.CLEF))
 
     def clef_before(self, number: int) -> Clef | None:
         """Returns the last clef before a node."""
@@ -142,8 +140,8 @@ class Reading:
 
     def snippets_in(self, syllable: int) -> Iterator[int]:
         """Yields the numbers of the snippets of a syllable."""
-        kinds = self.tree.kinds
-        return (it for it in self.tree.children(syllable) if kinds[it] == NodeKind.SNIPPET)
+        past = syllable + 1 + self.tree.wide[5 * syllable + 2]
+        return (it.start() for it in _SNIPPETS.finditer(self.tree.kinds, syllable, past))
 
     def items_in(self, snippet: int) -> Iterator[Item]:
         """Yields the items of a snippet."""

@@ -10,17 +10,17 @@ ri [('sol', 3, 14), ('fa', 3, 15), ('sol', 3, 16)]
 from __future__ import annotations
 
 import bisect
-import re
 from array import array
 from functools import cached_property
 
 from gregorio_chant._native.memory import bytes_of
 from gregorio_chant._native.node_kinds import NodeKind
+from gregorio_chant._native.nodes import kinds_pattern
 from gregorio_chant._native.results import Message
 from gregorio_chant._native.runs import Limits
 from gregorio_chant.objects.compiled import Compiled
 from gregorio_chant.objects.edits import Edited
-from gregorio_chant.objects.heights import Range, range_of
+from gregorio_chant.objects.heights import Range
 from gregorio_chant.objects.items import Clef, Note, semitones_of
 from gregorio_chant.objects.left_out import LeftOut, left_out_of
 from gregorio_chant.objects.passages import FINALIS, Phrase, Word, phrases_of, words_of
@@ -28,7 +28,15 @@ from gregorio_chant.objects.reading import Reading
 
 # What stands in the arrays for a note before any clef.
 NO_STEP = -128
-_SUNG = re.compile(b"[%c%c]" % (NodeKind.NOTE, NodeKind.CLEF))
+_NOTES = kinds_pattern(NodeKind.NOTE)
+_SUNG = kinds_pattern(NodeKind.NOTE, NodeKind.CLEF)
+
+
+def rises_of(heights: array[int]) -> array[int]:
+    """Returns how much higher each of these is than the one before; `NO_STEP` if one of both is
+    that."""
+    pairs = zip(heights, heights[1:])
+    return array("b", [NO_STEP if NO_STEP in (a, b) else b - a for a, b in pairs])
 
 
 class Score(Reading):
@@ -86,7 +94,7 @@ class Score(Reading):
 
     # ---- syllables and their notes
 
-    @property
+    @cached_property
     def notes(self) -> tuple[Note, ...]:
         return tuple(self.notes_in(0, self.past))
 
@@ -112,7 +120,13 @@ class Score(Reading):
     @property
     def range(self) -> Range | None:
         """The lowest and the highest note; `None` if all notes come before any clef."""
-        return range_of(self.notes)
+        heights = self.semitones
+        sounding = [it for it in heights if it != NO_STEP]
+        if not sounding:
+            return None
+        notes = self.notes
+        low, high = heights.index(min(sounding)), heights.index(max(sounding))
+        return Range(notes[low], notes[high])
 
     @property
     def final(self) -> Note | None:
@@ -130,7 +144,9 @@ class Score(Reading):
     @cached_property
     def pitches(self) -> array[int]:
         """The height of each note: 0 for `a`, a step for each letter."""
-        return array("b", [it.height for it in self.notes_in(0, self.past)])
+        narrow = self.tree.narrow
+        found = _NOTES.finditer(self.tree.kinds, 0, self.past)
+        return array("b", [narrow[10 * it.start() + 7] & 15 for it in found])
 
     @property
     def steps(self) -> array[int]:
@@ -146,9 +162,7 @@ class Score(Reading):
     def intervals(self) -> array[int]:
         """The steps from each note to the next one; `NO_STEP` if one of both comes before any
         clef."""
-        steps = self.steps
-        pairs = zip(steps, steps[1:])
-        return array("b", [NO_STEP if NO_STEP in it else it[1] - it[0] for it in pairs])
+        return rises_of(self.steps)
 
     @cached_property
     def _heights(self) -> tuple[array[int], array[int]]:

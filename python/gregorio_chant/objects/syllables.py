@@ -19,7 +19,7 @@ from gregorio_chant.objects.items import (
     Space,
 )
 from gregorio_chant.objects.nabc import Descriptor
-from gregorio_chant.objects.texts import Piece, pieces_of, written_text
+from gregorio_chant.objects.texts import Piece, letters_of, pieces_of, written_text
 from gregorio_chant.objects.written import notes_of, text_of
 from gregorio_chant.text.source import Place
 
@@ -221,7 +221,7 @@ class Syllable(Item):
     def plain(self) -> str:
         """Its text without tags, braces and escapes, special characters as they look, and nothing
         of raw TeX."""
-        return "".join([it.letters for it in self.pieces])
+        return letters_of(self._score.tree, self._number)
 
     @property
     def translation(self) -> str | None:

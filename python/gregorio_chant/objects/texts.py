@@ -3,11 +3,10 @@ from __future__ import annotations
 
 import re
 from collections.abc import Iterator, Sequence
-from itertools import takewhile
 from typing import NamedTuple
 
 from gregorio_chant._native.node_kinds import NodeKind
-from gregorio_chant._native.nodes import Tree
+from gregorio_chant._native.nodes import Tree, kinds_pattern
 
 STYLES = ("b", "c", "e", "i", "sc", "tt", "ul")
 # The bit of the centre beside those of the styles.
@@ -31,19 +30,17 @@ _SPECIAL = {
 }
 _VERBATIM, _SP, _ALT = 0, 1, 2
 _TAG_LENGTHS = {_VERBATIM: 3, _SP: 4, _ALT: 5}
-_OF_TEXT = frozenset(
-    map(
-        int,
-        (
-            NodeKind.CHARACTERS,
-            NodeKind.ESCAPE,
-            NodeKind.TEXT_BLANK,
-            NodeKind.RAW,
-            NodeKind.TAG,
-            NodeKind.SPAN_MARK,
-        ),
-    )
+_OF_TEXT = kinds_pattern(
+    NodeKind.CHARACTERS,
+    NodeKind.ESCAPE,
+    NodeKind.TEXT_BLANK,
+    NodeKind.RAW,
+    NodeKind.TAG,
+    NodeKind.SPAN_MARK,
+    NodeKind.BRACE,
 )
+_CHARACTERS, _ESCAPE, _RAW = map(int, (NodeKind.CHARACTERS, NodeKind.ESCAPE, NodeKind.RAW))
+_TEXT_BLANK, _BRACE, _SNIPPET = map(int, (NodeKind.TEXT_BLANK, NodeKind.BRACE, NodeKind.SNIPPET))
 _BRACES = ("{", "}")
 
 
@@ -96,32 +93,43 @@ def _raw_piece(kept: str, styles: int, kind: int) -> Piece:
 
 
 def _piece_of(tree: Tree, number: int) -> Piece | None:
-    """Returns the piece that this node is, if it is one."""
-    kind = tree.kinds[number]
-    if kind == NodeKind.BRACE:
-        return Piece("", "", brace=_BRACES[tree.narrow[10 * number + 8]])
-    if kind not in _OF_TEXT:
-        return None
-    _, styles, value = tree.narrow[10 * number + 6 : 10 * number + 9]
-    if kind == NodeKind.TEXT_BLANK:
-        return Piece(" ", " ", _STYLES_OF[styles & 127], bool(styles & _CENTRE)) if value else None
+    """Returns the piece that this node of a text is; a further blank is none."""
+    kind, styles, value = tree.narrow[10 * number + 6 : 10 * number + 9]
+    if kind == _BRACE:
+        return Piece("", "", brace=_BRACES[value])
+    styled = _STYLES_OF[styles & 127], bool(styles & _CENTRE)
+    if kind == _TEXT_BLANK:
+        return Piece(" ", " ", *styled) if value else None
     kept = tree.kept(number)
-    if kind == NodeKind.RAW:
+    if kind == _RAW:
         return _raw_piece(kept, styles, value)
-    letters, written = "", kept
-    if kind == NodeKind.CHARACTERS:
-        letters, written = kept, _SPECIAL_CHARACTER.sub(r"$\g<0>", kept)
-    elif kind == NodeKind.ESCAPE:
-        letters = kept[1:]
-    return Piece(letters, written, _STYLES_OF[styles & 127], bool(styles & _CENTRE))
+    if kind == _CHARACTERS:
+        return Piece(kept, _SPECIAL_CHARACTER.sub(r"$\g<0>", kept), *styled)
+    return Piece(kept[1:] if kind == _ESCAPE else "", kept, *styled)
+
+
+def _numbers(tree: Tree, syllable: int) -> Iterator[int]:
+    """Yields the numbers of the nodes of the text of a syllable."""
+    past = syllable + 1 + tree.wide[5 * syllable + 2]
+    end = tree.kinds.find(_SNIPPET, syllable, past)
+    found = _OF_TEXT.finditer(tree.kinds, syllable, past if end < 0 else end)
+    return (it.start() for it in found)
 
 
 def pieces_of(tree: Tree, syllable: int) -> Iterator[Piece]:
     """Yields the pieces of the text of the syllable with this number."""
-    for number in takewhile(lambda it: tree.kinds[it] != NodeKind.SNIPPET, tree.children(syllable)):
-        piece = _piece_of(tree, number)
-        if piece is not None:
-            yield piece
+    return filter(None, (_piece_of(tree, it) for it in _numbers(tree, syllable)))
+
+
+def letters_of(tree: Tree, syllable: int) -> str:
+    """Returns what is sung of the text of the syllable with this number."""
+    letters = []
+    for number in _numbers(tree, syllable):
+        if tree.kinds[number] == _CHARACTERS:
+            letters.append(tree.kept(number))
+        elif (piece := _piece_of(tree, number)) is not None:
+            letters.append(piece.letters)
+    return "".join(letters)
 
 
 # ---- the canonical text

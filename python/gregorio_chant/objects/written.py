@@ -4,6 +4,7 @@ from __future__ import annotations
 from array import array
 from typing import TYPE_CHECKING
 
+from gregorio_chant._native.node_kinds import NodeKind
 from gregorio_chant.text.source import Lines, Place
 
 if TYPE_CHECKING:
@@ -27,9 +28,9 @@ def notes_of(syllable: Syllable) -> str:
 def begin_of_notes(syllable: Syllable) -> int:
     """Returns the byte of the file at which the notes of a syllable begin, after their `(`; its end
     if it has none."""
-    score, number = syllable.score, syllable.node.number
-    first = next(score.snippets_in(number), None)
-    return syllable.node.end if first is None else score.tree.wide[5 * first]
+    node = syllable.node
+    first = node.tree.kinds.find(NodeKind.SNIPPET, node.number, node.past)
+    return node.end if first < 0 else node.tree.wide[5 * first]
 
 
 def notes_before(syllable: Syllable, byte: int) -> str:

@@ -3,11 +3,12 @@ from __future__ import annotations
 
 from collections.abc import Iterator, Sequence
 from dataclasses import dataclass, field, fields
+from itertools import islice
 
 from gregorio_chant._native.results import Kind
 from gregorio_chant.errors import UsageError
 from gregorio_chant.export.volpiano import volpiano_of
-from gregorio_chant.objects.passages import Word
+from gregorio_chant.objects.passages import Word, each_word
 from gregorio_chant.objects.reading import ScoreError
 from gregorio_chant.objects.score import Score
 from gregorio_chant.tables.searching import degree_of, degrees_of
@@ -58,7 +59,7 @@ def entry_of(score: Score, headers: Sequence[str] = ()) -> IndexEntry:
     """Returns what an index says of a score, with these headers."""
     notes, reach = score.notes, score.range
     first = notes[0] if notes else score.syllables[0] if score.syllables else None
-    words = score.words[:_WORDS]
+    words = list(islice(each_word(score.syllables), _WORDS))
     fault = next((it for it in score.messages if it.kind is Kind.FATAL), None)
     return IndexEntry(
         first.source.line if first else 1,

@@ -4,6 +4,7 @@ from __future__ import annotations
 import fnmatch
 import re
 import unicodedata
+from array import array
 from collections import Counter
 from collections.abc import Iterator, Sequence
 from dataclasses import dataclass
@@ -13,7 +14,7 @@ from gregorio_chant.errors import UsageError
 from gregorio_chant.export.volpiano import LETTERS, letter_of
 from gregorio_chant.objects.items import Note
 from gregorio_chant.objects.passages import text_of_syllables
-from gregorio_chant.objects.score import Score
+from gregorio_chant.objects.score import Score, rises_of
 from gregorio_chant.objects.syllables import Glyph, Syllable
 from gregorio_chant.tables.tables import Row
 from gregorio_chant.text.nearest import did_you_mean
@@ -172,30 +173,22 @@ class IntervalSearch:
         return cls(tuple(map(int, steps)), in_semitones)
 
     def matches(self, score: Score) -> Iterator[Match]:
-        of_notes = [(syllable, note) for syllable in score.syllables for note in syllable.notes]
-        heights = [note.semitones if self.in_semitones else note.step for _, note in of_notes]
-        count = len(self.wanted)
-        rises = tuple(
-            None if a is None or b is None else b - a for a, b in zip(heights, heights[1:])
-        )
-        for at in range(len(rises) - count + 1):
-            if rises[at : at + count] == self.wanted:
-                yield _match_of(of_notes[at : at + count + 1])
+        heights = score.semitones if self.in_semitones else score.steps
+        rises = rises_of(heights).tobytes()
+        wanted = array("b", self.wanted).tobytes()
+        at = rises.find(wanted)
+        notes = score.notes if at >= 0 else ()
+        while at >= 0:
+            yield _match_of(notes[at : at + len(wanted) + 1])
+            at = rises.find(wanted, at + 1)
 
 
-def _match_of(found: Sequence[tuple[Syllable, Note]]) -> Match:
-    """Returns the match of notes that follow each other, each with its syllable."""
-    notes = tuple(note for _, note in found)
-    syllables = list({it.number: it for it, _ in found}.values())
-    return Match(
-        notes,
-        Row.at(
-            notes[0].source,
-            "".join(it.pitch for it in notes),
-            degrees_of(notes),
-            text_of_syllables(syllables),
-        ),
-    )
+def _match_of(notes: Sequence[Note]) -> Match:
+    """Returns the match of notes that follow each other."""
+    syllables = list(dict.fromkeys(it.syllable for it in notes))
+    pitches = "".join(it.pitch for it in notes)
+    row = Row.at(notes[0].source, pitches, degrees_of(notes), text_of_syllables(syllables))
+    return Match(tuple(notes), row)
 
 
 @dataclass(frozen=True)
@@ -214,13 +207,8 @@ class VolpianoSearch:
         return cls(letters)
 
     def matches(self, score: Score) -> Iterator[Match]:
-        sung = [
-            (syllable, note)
-            for syllable in score.syllables
-            for note in syllable.notes
-            for _ in range(note.times)
-        ]
-        melody = "".join(letter_of(note) or "?" for _, note in sung)
+        sung = [note for note in score.notes for _ in range(note.times)]
+        melody = "".join(letter_of(note) or "?" for note in sung)
         at = melody.find(self.letters)
         while at >= 0:
             yield _match_of(list(dict.fromkeys(sung[at : at + len(self.letters)])))
