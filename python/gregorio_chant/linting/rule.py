@@ -4,11 +4,13 @@ from __future__ import annotations
 from collections.abc import Iterator
 from dataclasses import dataclass
 from functools import cached_property
+from typing import NamedTuple
 
 from gregorio_chant._native.node_kinds import NodeKind
 from gregorio_chant._native.nodes import Node, Tree
 from gregorio_chant.objects.item import Item
 from gregorio_chant.objects.score import Score
+from gregorio_chant.objects.texts import all_letters
 
 _SNIPPET = int(NodeKind.SNIPPET)
 
@@ -19,6 +21,16 @@ class Found:
 
     byte: int
     text: str
+
+
+class Text(NamedTuple):
+    """The text of the syllable `number` of a tree, whose nodes go up to `past`: its bytes from
+    `begin` up to `end`, where the `(` stands."""
+
+    number: int
+    past: int
+    begin: int
+    end: int
 
 
 class Subject:
@@ -39,7 +51,7 @@ class Subject:
     @cached_property
     def plains(self) -> list[str]:
         """The text of each syllable, without markup."""
-        return [it.plain for it in self.score.syllables]
+        return all_letters(self.tree)
 
     @cached_property
     def comments(self) -> list[Node]:
@@ -57,17 +69,16 @@ class Subject:
         return self.tree.numbers_of(*kinds)
 
     @cached_property
-    def texts(self) -> list[tuple[int, int]]:
-        """The bytes of each syllable up to its notes: where it begins, and where its `(` stands, or
-        its end if it has no notes."""
+    def texts(self) -> list[Text]:
+        """The text of each syllable, as its node and its bytes."""
         return list(self._texts())
 
-    def _texts(self) -> Iterator[tuple[int, int]]:
+    def _texts(self) -> Iterator[Text]:
         wide, kinds = self.tree.wide, self.tree.kinds
         for number in self.tree.numbers_of(NodeKind.SYLLABLE):
             begin, end, inner = wide[5 * number : 5 * number + 3]
             first = kinds.find(_SNIPPET, number, number + 1 + inner)
-            yield begin, end if first < 0 else wide[5 * first] - 1
+            yield Text(number, number + 1 + inner, begin, end if first < 0 else wide[5 * first] - 1)
 
     def found(self, item: Item, text: str) -> Found:
         """Returns what is found at the begin of an item."""

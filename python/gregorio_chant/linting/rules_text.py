@@ -59,7 +59,7 @@ def comment(subject: Subject) -> Iterator[Found]:
 def blank_before_notes(subject: Subject) -> Iterator[Found]:
     told = "there is a blank between a word and its notes: the compiler drops it"
     source = subject.source
-    for number, (begin, end) in enumerate(subject.texts):
+    for number, (_, _, begin, end) in enumerate(subject.texts):
         if source[end - 1] in _BLANKS and source[end : end + 1] == b"(":
             length = len(source[begin:end].rstrip())
             if length and _is_word(subject.score.syllables[number]):
@@ -171,7 +171,7 @@ def missing_blank(subject: Subject) -> Iterator[Found]:
 
 
 def bar_as_text(subject: Subject) -> Iterator[Found]:
-    for begin, end in subject.texts:
+    for _, _, begin, end in subject.texts:
         found = _BAR_AS_TEXT.match(subject.source, begin, end)
         if found is not None:
             mark = found[1].decode()
@@ -205,9 +205,11 @@ def html_entity(subject: Subject) -> Iterator[Found]:
 
 
 def syllable_without_notes(subject: Subject) -> Iterator[Found]:
-    for it, plain in zip(subject.score.syllables, subject.plains):
-        if any(map(str.isalpha, plain)) and it.position in ("beginning", "middle"):
-            if _ITEMS.search(subject.tree.kinds, it.node.number, it.node.past) is None:
+    kinds, syllables = subject.tree.kinds, subject.score.syllables
+    for it, text, plain in zip(syllables, subject.texts, subject.plains):
+        if _ITEMS.search(kinds, text.number, text.past) is None:
+            is_within = it.position in ("beginning", "middle")
+            if is_within and any(map(str.isalpha, plain)):
                 yield subject.found(it, f"'{plain.strip()}' has no notes within its word")
 
 

@@ -30,7 +30,7 @@ _SPECIAL = {
 }
 _VERBATIM, _SP, _ALT = 0, 1, 2
 _TAG_LENGTHS = {_VERBATIM: 3, _SP: 4, _ALT: 5}
-_OF_TEXT = kinds_pattern(
+_TEXTS = (
     NodeKind.CHARACTERS,
     NodeKind.ESCAPE,
     NodeKind.TEXT_BLANK,
@@ -39,6 +39,8 @@ _OF_TEXT = kinds_pattern(
     NodeKind.SPAN_MARK,
     NodeKind.BRACE,
 )
+_OF_TEXT, _OF_ALL_TEXTS = kinds_pattern(*_TEXTS), kinds_pattern(NodeKind.SYLLABLE, *_TEXTS)
+_SYLLABLE = int(NodeKind.SYLLABLE)
 _CHARACTERS, _ESCAPE, _RAW = map(int, (NodeKind.CHARACTERS, NodeKind.ESCAPE, NodeKind.RAW))
 _TEXT_BLANK, _BRACE, _SNIPPET = map(int, (NodeKind.TEXT_BLANK, NodeKind.BRACE, NodeKind.SNIPPET))
 _BRACES = ("{", "}")
@@ -130,6 +132,21 @@ def letters_of(tree: Tree, syllable: int) -> str:
         elif (piece := _piece_of(tree, number)) is not None:
             letters.append(piece.letters)
     return "".join(letters)
+
+
+def all_letters(tree: Tree) -> list[str]:
+    """Returns what is sung of the text of each syllable of a score."""
+    letters: list[str] = []
+    for found in _OF_ALL_TEXTS.finditer(tree.kinds):
+        number = found.start()
+        kind = tree.kinds[number]
+        if kind == _SYLLABLE:
+            letters.append("")
+        elif kind == _CHARACTERS:
+            letters[-1] += tree.kept(number)
+        elif (piece := _piece_of(tree, number)) is not None:
+            letters[-1] += piece.letters
+    return letters
 
 
 # ---- the canonical text
