@@ -34,14 +34,13 @@ class _Word:
 
 def _is_laid_out(score: Compiled) -> bool:
     """Returns whether a score is its canonical text but that LF and blank are alike after the
-    headers: then it stays as it is."""
-    canonical = score.canonical.encode("utf-8")
+    headers, and but for empty lines between others: then it stays as it is."""
+    canonical, data = score.canonical.encode("utf-8"), score.data
     begin = canonical.find(b"%%\n") + 3
-    return (
-        score.data.startswith(canonical[:begin])
-        and score.data.endswith(b"\n")
-        and score.data.replace(b"\n", b" ") == canonical.replace(b"\n", b" ")
-    )
+    if data.endswith(b"\n\n") or b"\n\n\n" in data or not data.startswith(canonical[:begin]):
+        return False
+    data = data.replace(b"\n\n", b"\n")
+    return data.endswith(b"\n") and data.replace(b"\n", b" ") == canonical.replace(b"\n", b" ")
 
 
 def laid_out(score: Compiled, width: int | None = None) -> bytes:

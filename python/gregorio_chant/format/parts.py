@@ -9,6 +9,7 @@ from __future__ import annotations
 import bisect
 from collections.abc import Iterator
 from dataclasses import dataclass
+from functools import cached_property
 
 from gregorio_chant._native.node_kinds import NodeKind
 from gregorio_chant._native.nodes import Node, Tree
@@ -17,8 +18,6 @@ from gregorio_chant.objects.compiled import Compiled
 BLANKS = b" \t\n\r"
 COMMENTS = (NodeKind.COMMENT, NodeKind.HEADER_COMMENT)
 _HEADERS = (NodeKind.HEADER, NodeKind.HEADER_LEFT_OUT)
-# What may stand before the text of a syllable.
-_LEAD = (NodeKind.TEXT_BLANK, NodeKind.FURTHER_BLANK, NodeKind.COMMENT, NodeKind.SILENT)
 _MARK = "\ufeff".encode()
 
 
@@ -61,23 +60,56 @@ def header_pairs(source: Tree, written: Tree) -> dict[int, Node]:
     return pairs
 
 
+class _Written:
+    """The canonical text of a score, syllable by syllable. Its tree is made when one of them is
+    spelled in another way than in the score."""
+
+    def __init__(self, score: Compiled) -> None:
+        self._score, self._text = score, score.canonical.encode("utf-8")
+        self._number = -1
+        # Where the next syllable begins: after the line `%%`.
+        self._at = 2 if self._text.startswith(b"%%") else self._text.find(b"\n%%") + 3
+
+    @cached_property
+    def _syllables(self) -> list[Node]:
+        return [*self._score.written.root.children(NodeKind.SYLLABLE)]
+
+    def headers(self) -> dict[int, Node]:
+        """Returns the header that is written for each header of the score, unless all are spelled
+        so already."""
+        if self._score.data.startswith(self._text[: self._at]):
+            return {}
+        return header_pairs(self._score.tree, self._score.written)
+
+    def next(self, before: bytes) -> Node | None:
+        """Passes a syllable that is spelled so in the score, and returns what is written of it if
+        that is spelled in another way. What stands before it may differ."""
+        self._number += 1
+        for spelling in (b"\n" + before, before):
+            if self._text.startswith(spelling, self._at):
+                self._at += len(spelling)
+                return None
+        node = self._syllables[self._number] if self._number < len(self._syllables) else None
+        self._at = len(self._text) if node is None else node.end
+        return node
+
+
 class _Parts:
     """The parts of one score."""
 
     def __init__(self, score: Compiled) -> None:
-        self._tree, self._written = score.tree, score.written
-        self._source, self._canonical = score.tree.source, score.written.source
+        self._tree, self._source = score.tree, score.data
+        self._written = _Written(score)
         self._told = sorted(map(score.byte, score.messages))
         self._comments = [it.begin for it in self._tree.of_kind(*COMMENTS)]
         # Where the part before ends, and where a character stands that was left out after it.
         self._end, self._left_out = 0, -1
 
     def __iter__(self) -> Iterator[Part]:
-        headers = header_pairs(self._tree, self._written)
-        syllables = self._written.root.children(NodeKind.SYLLABLE)
+        headers = self._written.headers()
         for node in self._tree.root.children():
             if node.kind == NodeKind.SYLLABLE:
-                part = self._syllable(node, next(syllables, None))
+                part = self._syllable(node)
             elif node.kind in _HEADERS:
                 part = self._header(node, headers.get(node.number))
             elif node.kind == NodeKind.SCORE_LINE:
@@ -110,15 +142,14 @@ class _Parts:
         same = _header_letters(before) == _header_letters(after)
         return Part(begin, node.end, after if same else None)
 
-    def _syllable(self, node: Node, written: Node | None) -> Part:
-        begin = self._left_out if self._left_out >= self._end else _after_lead(node)
-        stays = Part(begin, node.end)
-        if written is None:
+    def _syllable(self, node: Node) -> Part:
+        begin = self._left_out if self._left_out >= self._end else self._tree.core(node.number)[0]
+        stays, before = Part(begin, node.end), self._source[begin : node.end]
+        written = self._written.next(before)
+        if written is None or _MARK in before or self._stays(begin, node.end):
             return stays
-        before, spelling = self._source[begin : node.end], written.source
+        spelling = written.source
         after = spelling.removeprefix(b"\n")
-        if before == after or _MARK in before or self._stays(begin, node.end):
-            return stays
         keeps_blanks = before.count(b"\n") == after.count(b"\n") and (
             spelling == after or begin > self._end
         )
@@ -136,17 +167,6 @@ class _Parts:
 
 def _header_letters(text: bytes) -> bytes:
     return text.translate(None, BLANKS + b";")
-
-
-def _after_lead(syllable: Node) -> int:
-    """Returns where the first byte of a syllable stands that is no blank and lies in no comment."""
-    at = syllable.begin
-    for number in range(syllable.number + 1, syllable.past):
-        it = Node(syllable.tree, number)
-        if it.begin != at or it.kind not in _LEAD:
-            break
-        at = it.end
-    return at
 
 
 def parts_of(score: Compiled) -> Iterator[Part]:
