@@ -42,37 +42,28 @@ if TYPE_CHECKING:
     from gregorio_chant._native.runs import Limits, Run, pieces
     from gregorio_chant._native.trees import tree
     from gregorio_chant.calls import draw, fix, format_text, index, lint
+    from gregorio_chant.errors import GregorioError, UsageError
     from gregorio_chant.work.settings import Settings
 
     __version__: str
 
-# Where each name stands. A module is imported when a name of it is asked for, so that the command
+# Where the names stand. A module is imported when a name of it is asked for, so that the command
 # begins at once.
-_MODULES = {
-    **dict.fromkeys(("check", "compile"), "_native.library"),
-    **dict.fromkeys(("Limits", "Run", "pieces"), "_native.runs"),
-    **dict.fromkeys(("draw", "fix", "format_text", "index", "lint"), "calls"),
-    "Settings": "work.settings",
-    **dict.fromkeys(("Node", "Tree"), "_native.nodes"),
-    "NodeKind": "_native.node_kinds",
-    "tree": "_native.trees",
-    **dict.fromkeys(
-        (
-            "Format",
-            "Kind",
-            "Message",
-            "Report",
-            "Result",
-            "RunOverError",
-            "StateError",
-            "Status",
-            "Step",
-        ),
-        "_native.results",
-    ),
+_NAMES = {
+    "_native.library": "check compile",
+    "_native.node_kinds": "NodeKind",
+    "_native.nodes": "Node Tree",
+    "_native.results": "Format Kind Message Report Result RunOverError StateError Status Step",
+    "_native.runs": "Limits Run pieces",
+    "_native.trees": "tree",
+    "calls": "draw fix format_text index lint",
+    "errors": "GregorioError UsageError",
+    "work.settings": "Settings",
 }
+_MODULES = {name: module for module, names in _NAMES.items() for name in names.split()}
 __all__ = [
     "Format",
+    "GregorioError",
     "Kind",
     "Limits",
     "Message",
@@ -87,6 +78,7 @@ __all__ = [
     "Status",
     "Step",
     "Tree",
+    "UsageError",
     "check",
     "compile",
     "draw",

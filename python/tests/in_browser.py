@@ -78,7 +78,10 @@ class Browsing(InFolder):
 
     def is_seen(self, selector: str) -> bool:
         """Returns whether the element stands within the window."""
-        seen = f"(b => b.width > 0 && b.height > 0 && b.bottom > 0 && b.top < innerHeight)(document.querySelector('{selector}').getBoundingClientRect())"
+        seen = (
+            "(b => b.width > 0 && b.height > 0 && b.bottom > 0 && b.top <"
+            f" innerHeight)(document.querySelector('{selector}').getBoundingClientRect())"
+        )
         return bool(self.look(seen))
 
     def assert_quiet(self) -> None:
@@ -216,7 +219,8 @@ class Shown(Browsing):
         self.find(".sing button").click()
         self.assertIsNone(self.look("document.querySelector('.now')"))
         self.browser.execute_script(
-            "document.querySelector('#p1-s20').dispatchEvent(new MouseEvent('dblclick', { bubbles: true }))"
+            "document.querySelector('#p1-s20').dispatchEvent(new MouseEvent('dblclick', { bubbles:"
+            " true }))"
         )
         self.await_(
             lambda: bool(self.look("document.querySelector('.now')?.parentElement.id") == "p1-s20"),
@@ -247,10 +251,14 @@ class Shown(Browsing):
                 ),
             )
             lacking = self.browser.execute_script(
-                "return [...document.querySelectorAll('.sing')].map((panel) => JSON.parse(panel.dataset.sounds).filter(([syllable, head, key]) => key !== null &&"
-                " panel.dataset.prefixes.split(' ').some((prefix) => { let left = head; let group = document.getElementById(`${prefix}s${syllable}`);"
-                " for (let part = 2; group; part += 1) { const heads = group.dataset.heads.split(' ').filter(Boolean).length; if (left < heads) return false; left -= heads;"
-                " group = document.getElementById(`${prefix}s${syllable}-${part}`); } return true; })).length)"
+                "return [...document.querySelectorAll('.sing')].map((panel) =>"
+                " JSON.parse(panel.dataset.sounds).filter(([syllable, head, key]) => key !== null"
+                " && panel.dataset.prefixes.split(' ').some((prefix) => { let left = head; let"
+                " group = document.getElementById(`${prefix}s${syllable}`); for (let part = 2;"
+                " group; part += 1) { const heads = group.dataset.heads.split('"
+                " ').filter(Boolean).length; if (left < heads) return false; left -= heads; group ="
+                " document.getElementById(`${prefix}s${syllable}-${part}`); } return true;"
+                " })).length)"
             )
             self.assertEqual(lacking, [0, 0, 0, 0], face)
 
@@ -284,7 +292,8 @@ class Shown(Browsing):
         texts = "[...document.querySelectorAll('.wide text[textLength]')]"
         self.assertEqual(
             self.look(
-                f"{texts}.filter(it => Math.abs({length} - it.textLength.baseVal.value) > 0.5).map(it => it.textContent)"
+                f"{texts}.filter(it => Math.abs({length} - it.textLength.baseVal.value) >"
+                " 0.5).map(it => it.textContent)"
             ),
             [],
         )
@@ -315,7 +324,10 @@ class Written(Browsing):
 
     def await_seen(self, text: str, selector: str = "#picture svg") -> None:
         """Waits until a text stands in the picture, or in another part of the page."""
-        script = f"(document.querySelector({json.dumps(selector)})?.textContent ?? '').includes({json.dumps(text)})"
+        script = (
+            f"(document.querySelector({json.dumps(selector)})?.textContent ??"
+            f" '').includes({json.dumps(text)})"
+        )
         self.await_(lambda: bool(self.look(script)), f"{text} is not seen")
 
     def cursor(self) -> int:
@@ -398,8 +410,12 @@ class Written(Browsing):
             (b"name: b;\n%%\n(c4) Ag(f)nus(g) \xff", "Ag"),
         ):
             self.browser.execute_script(
-                "const data = new DataTransfer(); data.items.add(new File([new Uint8Array(arguments[0])], 'b.gabc'));"
-                "document.querySelector('#score').dispatchEvent(new DragEvent('drop', { dataTransfer: data, bubbles: true, cancelable: true }))",
+                (
+                    "const data = new DataTransfer(); data.items.add(new File([new"
+                    " Uint8Array(arguments[0])],"
+                    " 'b.gabc'));document.querySelector('#score').dispatchEvent(new"
+                    " DragEvent('drop', { dataTransfer: data, bubbles: true, cancelable: true }))"
+                ),
                 list(content),
             )
             self.await_seen(seen)
@@ -468,7 +484,8 @@ class Written(Browsing):
         """A long score is read at the button; one that is too long is not sent, and a line says
         so."""
         self.browser.execute_script(
-            "const it = document.querySelector('#score'); it.value = ' '.repeat(1000001); it.dispatchEvent(new Event('input'))"
+            "const it = document.querySelector('#score'); it.value = ' '.repeat(1000001);"
+            " it.dispatchEvent(new Event('input'))"
         )
         self.await_seen("A score above 100,000 bytes is read at the button.", "#state")
         self.find("#read").click()

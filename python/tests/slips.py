@@ -8,11 +8,11 @@ from dataclasses import dataclass
 
 # A score in which nothing is found, and each slip can be planted.
 SCORE = (
-    "name: Asperges me;\noffice-part: Antiphona;\nmode: 7;\nannotation: Ant.;\nannotation: VII;\n%%\n"
-    "(c3) A(e)spér(eh)ges(hh) me,(h.) *(,) Dó(hi)mi(h)ne,(h.) (;) hys(h)só(j)po,(ji..) (:)\n"
-    "et(h) mun(hh)dá(ij)bor:(h.) la(f)vá(h)bis(g') me,(f.) (;)\n"
-    "et(f) su(h)per(g) ni(f)vem(gf) <i>de</i>(e)al(fe)bá(e.f!gwh)bor.(e.) <sp>V/</sp>.(::)\n"
-    "Mi(e)se(eh)ré(hjh)re(h>) me(hv)i,(ixhi) De(h)us(h.) (::)\n"
+    "name: Asperges me;\noffice-part: Antiphona;\nmode: 7;\nannotation: Ant.;\nannotation:"
+    " VII;\n%%\n(c3) A(e)spér(eh)ges(hh) me,(h.) *(,) Dó(hi)mi(h)ne,(h.) (;) hys(h)só(j)po,(ji..)"
+    " (:)\net(h) mun(hh)dá(ij)bor:(h.) la(f)vá(h)bis(g') me,(f.) (;)\net(f) su(h)per(g)"
+    " ni(f)vem(gf) <i>de</i>(e)al(fe)bá(e.f!gwh)bor.(e.) <sp>V/</sp>.(::)\nMi(e)se(eh)ré(hjh)re(h>)"
+    " me(hv)i,(ixhi) De(h)us(h.) (::)\n"
 )
 BACK, STAYS = "back", "stays"
 

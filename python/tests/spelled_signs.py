@@ -6,7 +6,8 @@ import re
 
 from gregorio_chant.objects.signs import AUTO, OVER, UNDER, Episema, NoteSigns
 
-# What a sign of a bar or a note is, beside the letters of shapes: a letter or a run of `_`, with its digits.
+# What a sign of a bar or a note is, beside the letters of shapes: a letter or a run of `_`, with
+# its digits.
 _SIGN = re.compile(r"([.'~<>roO]|_+)([0-9]*)")
 _LIQUESCENCES = {"~": "deminutus", "<": "augmented", ">": "diminished"}
 _OVER_STAFF = {

@@ -85,9 +85,11 @@ def takes(schema: dict[str, Any], value: Any, known: dict[str, Any]) -> bool:
             isinstance(value, dict)
             and set(schema.get("required", ())) <= set(value)
             and all(
-                takes(its[name], it, known)
-                if name in its
-                else other is not False and takes(other, it, known)
+                (
+                    takes(its[name], it, known)
+                    if name in its
+                    else other is not False and takes(other, it, known)
+                )
                 for name, it in value.items()
             )
         )

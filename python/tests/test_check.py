@@ -113,9 +113,8 @@ class Forms(InFolder):
         ran = command("check", "--output-format", "github", "a,b:c%.gabc")
         self.assertEqual(
             ran.stdout,
-            b"::error file=a%2Cb%3Ac%25.gabc,line=3,col=10,title=E1::character left out of the notes: "
-            + HELP.encode()
-            + b"\n",
+            b"::error file=a%2Cb%3Ac%25.gabc,line=3,col=10,title=E1::character left out of the"
+            b" notes: " + HELP.encode() + b"\n",
         )
 
     def test_sarif(self) -> None:

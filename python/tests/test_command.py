@@ -101,7 +101,10 @@ class SameWords(unittest.TestCase):
             )
 
     def test_bash(self) -> None:
-        ask = f". {shlex.quote(str(BASH))}; for name in {' '.join(options())}; do _gregorio_chant_options $name; done"
+        ask = (
+            f". {shlex.quote(str(BASH))}; for name in {' '.join(options())}; do"
+            " _gregorio_chant_options $name; done"
+        )
         lines = subprocess.run(
             ["bash", "--norc", "-c", ask], capture_output=True, text=True, check=True
         ).stdout.split("\n")

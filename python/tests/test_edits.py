@@ -21,7 +21,10 @@ from gregorio_chant.dump import (
     Syllable,
 )
 
-SCORE = "\ufeffname:Kyrie ; % the first\r\nmode: 1;\r\n%% c\r\n(c4) Ky(f.&)ri( gf%x\r\ng)e,(-e.) % (fgh)\r\n <b>e</b>(ixi) (::)"
+SCORE = (
+    "\ufeffname:Kyrie ; % the first\r\nmode: 1;\r\n%% c\r\n(c4) Ky(f.&)ri( gf%x\r\ng)e,(-e.) %"
+    " (fgh)\r\n <b>e</b>(ixi) (::)"
+)
 
 
 def files() -> Iterator[bytes]:
@@ -312,7 +315,10 @@ class ByHand(unittest.TestCase):
             )
         self.assertEqual(
             self.refused("%%\na(f) b(g", lambda it: it.edited()),
-            "2:7: the score is not whole: F6: input ends inside notes, a tag, a raw part or a translation",
+            (
+                "2:7: the score is not whole: F6: input ends inside notes, a tag, a raw part or a"
+                " translation"
+            ),
         )
 
     def test_nabc(self) -> None:

@@ -83,8 +83,11 @@ class Command(unittest.TestCase):
         ran = command("explain", "e6")
         self.assertEqual(
             ran.stdout.decode(),
-            "E6: error: unfinished end of the notes left out\n\nThe notes of a syllable end too early, for example with a - and no note after\nit. Finish or remove the end.\n\n"
-            "Wrong:\n    Ky(fg-)\n\nRight:\n    Ky(f-g)\n",
+            (
+                "E6: error: unfinished end of the notes left out\n\nThe notes of a syllable end too"
+                " early, for example with a - and no note after\nit. Finish or remove the"
+                " end.\n\nWrong:\n    Ky(fg-)\n\nRight:\n    Ky(f-g)\n"
+            ),
         )
         self.assertEqual((ran.returncode, ran.stderr), (0, b""))
 
@@ -120,9 +123,11 @@ class Command(unittest.TestCase):
         self.assertEqual(
             shown,
             (
-                "late-punctuation: warning, by check --rules alone\n\nA comma or another sign of punctuation follows the notes of its word. Write it\n"
-                "before their (.\n\nWrong:\n    Ky(f)ri(g)e(h), (;)\n\nRight:\n    Ky(f)ri(g)e,(h) (;)\n\nSilence it, on its line or in the whole score:\n"
-                "    % gregorio: ignore late-punctuation\n    % gregorio: ignore-file late-punctuation\n"
+                "late-punctuation: warning, by check --rules alone\n\nA comma or another sign of"
+                " punctuation follows the notes of its word. Write it\nbefore their (.\n\nWrong:\n "
+                "   Ky(f)ri(g)e(h), (;)\n\nRight:\n    Ky(f)ri(g)e,(h) (;)\n\nSilence it, on its"
+                " line or in the whole score:\n    % gregorio: ignore late-punctuation\n    %"
+                " gregorio: ignore-file late-punctuation\n"
             ),
         )
         for rule in RULES.values():

@@ -88,7 +88,10 @@ class Strangers(InFolder):
                 continue
             ran = command(*words, "s")
             self.assertIn(
-                b"gregorio-chant: s/out.gabc is passed by: this link leads out of the folder; name it to have it read\n",
+                (
+                    b"gregorio-chant: s/out.gabc is passed by: this link leads out of the folder;"
+                    b" name it to have it read\n"
+                ),
                 ran.stderr,
             )
             self.assertNotIn(b"out.gabc:", ran.stdout)

@@ -180,7 +180,10 @@ class SmallFont(InFolder):
         ran = command(
             "show", "--font", "small.ttf", "a.gabc", environment=without(self.room, "fontTools")
         )
-        told = b"gregorio-chant: show --font needs the package fonttools: apt install python3-fonttools in Debian, else pip install fonttools\n"
+        told = (
+            b"gregorio-chant: show --font needs the package fonttools: apt install"
+            b" python3-fonttools in Debian, else pip install fonttools\n"
+        )
         self.assertEqual((ran.returncode, ran.stdout, ran.stderr), (3, b"", told))
 
 

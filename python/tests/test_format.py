@@ -23,7 +23,10 @@ LOSING = {
         ["3:12: W3", "3:19: W3", "3:35: W3", "3:41: W3"],
     ),
     "comment": (
-        "% set by hand\nname: K; % here\n%%%% the simple tone\n(c4) Ky(f%g\n)ri(gfg[%])<v>%</v>e$%(e.) (::) % Mass XVI\n",
+        (
+            "% set by hand\nname: K; % here\n%%%% the simple tone\n(c4)"
+            " Ky(f%g\n)ri(gfg[%])<v>%</v>e$%(e.) (::) % Mass XVI\n"
+        ),
         ["1:1: comments", "2:10: comments", "3:3: comments", "4:10: comments", "5:33: comments"],
     ),
     "twice": (
@@ -168,7 +171,10 @@ class Files(InFolder):
         self.assertEqual((ran.returncode, file.read_text()), (4, SCORE))
         self.assertEqual(
             ran.stderr,
-            b"gregorio-chant: cannot write a.gabc: it has other names (hard links); it stays as it was\n",
+            (
+                b"gregorio-chant: cannot write a.gabc: it has other names (hard links); it stays as"
+                b" it was\n"
+            ),
         )
         self.assertEqual(os.stat("b.gabc").st_ino, os.stat("a.gabc").st_ino)
 
@@ -249,8 +255,11 @@ class Files(InFolder):
         self.assertEqual(Path("s/z.gabc").read_text(), CANONICAL)
         self.assertEqual(
             ran.stderr,
-            b"gregorio-chant: cannot read s/b.gabc: Too many levels of symbolic links\ngregorio-chant: cannot read gone.gabc: No such file or "
-            b"directory\ngregorio-chant: 3 files: 1 written, 2 could not be read or written\n",
+            (
+                b"gregorio-chant: cannot read s/b.gabc: Too many levels of symbolic"
+                b" links\ngregorio-chant: cannot read gone.gabc: No such file or"
+                b" directory\ngregorio-chant: 3 files: 1 written, 2 could not be read or written\n"
+            ),
         )
 
 
@@ -278,7 +287,10 @@ class Words(InFolder):
         ran = command("format", "--canonical", "--diff", "--quiet", "a.gabc")
         self.assertEqual(
             ran.stdout.decode(),
-            "--- a.gabc\n+++ a.gabc (canonical)\n@@ -1,3 +1,4 @@\n name: K;\n %%\n-(c4) Ky(g5)\n\\ No newline at end of file\n+(c4)\n+Ky(g)\n",
+            (
+                "--- a.gabc\n+++ a.gabc (canonical)\n@@ -1,3 +1,4 @@\n name: K;\n %%\n-(c4)"
+                " Ky(g5)\n\\ No newline at end of file\n+(c4)\n+Ky(g)\n"
+            ),
         )
         self.assertEqual((ran.returncode, ran.stderr), (1, b""))
         self.put("a.gabc", CANONICAL)
@@ -318,8 +330,8 @@ print(resource.getrusage(resource.RUSAGE_SELF).ru_maxrss // 1024)
 
 class Large(InFolder):
     def test_memory(self) -> None:
-        """A score of 1.2 MB, of which nearly each line is written anew, takes some hundred times its
-        texts: 24 MB take 260."""
+        """A score of 1.2 MB, of which nearly each line is written anew, takes some hundred times
+        its texts: 24 MB take 260."""
         score = Path("large.gabc")
         score.write_text(
             "name: L;\n%%\n(c4) " + "Ký(fg)ri(h)  e(ixjvIH) lé(gf..)i(f)son(::)\n" * 28_000,

@@ -33,7 +33,10 @@ HELPS = [
     (
         f"{_SCORE}a(g|pu)",
         "E1",
-        "'|' separates notes from NABC only if there is a header nabc-lines: write nabc-lines: 1; before the %%",
+        (
+            "'|' separates notes from NABC only if there is a header nabc-lines: write nabc-lines:"
+            " 1; before the %%"
+        ),
     ),
     (f"{_SCORE}a(g&)", "E1", "'&' is no note and no sign: remove it"),
     (f"{_SCORE}a(g\u00a0)", "E1", "the character U+00A0 is no note and no sign: remove it"),
@@ -43,7 +46,10 @@ HELPS = [
     (
         f"{_SCORE}a(g|)",
         "E1",
-        "'|' separates notes from NABC only if there is a header nabc-lines: write nabc-lines: 1; before the %%",
+        (
+            "'|' separates notes from NABC only if there is a header nabc-lines: write nabc-lines:"
+            " 1; before the %%"
+        ),
     ),
     (f"{_SCORE}KY(f ri(gfg)e(h.)", "E1", "the ( at 3:8 lacks its ): did you mean 'KY(f)'?"),
     (f"{_SCORE}KYri(fson(g)", "E1", "the ( at 3:10 lacks its ): did you mean 'KYri(f)son(g)'?"),
@@ -61,7 +67,10 @@ HELPS = [
     (
         f"{_NABC}a(g|un1)",
         "E3",
-        "'1' has nothing to count: write a number after a modifier, as in peS1, or after points and letters, as in pesu1 and pelse1",
+        (
+            "'1' has nothing to count: write a number after a modifier, as in peS1, or after points"
+            " and letters, as in pesu1 and pelse1"
+        ),
     ),
     (f"{_NABC}a(g|pe b(h|vi)", "E3", "the ( at 4:7 lacks its ): did you mean 'a(g|pe)'?"),
     (f"{_NABC}a(g|pe?)", "E3", "'?' fits nowhere in this descriptor: remove it"),
@@ -81,7 +90,10 @@ HELPS = [
     (
         f"{_SCORE}<i>a<b>b(g)",
         "W3",
-        "<i><b> ends with the text of its syllable: write </b></i> here, and <i><b> again in the next text",
+        (
+            "<i><b> ends with the text of its syllable: write </b></i> here, and <i><b> again in"
+            " the next text"
+        ),
     ),
     (
         f"{_SCORE}a</i>(g)",
@@ -132,7 +144,10 @@ HELPS = [
     (
         "name: a;\nmode: 1\n%%\n(c4)",
         "F3",
-        "line 2 lacks its ; : write 'mode: 1;', or ;; after the last line of a value of several lines",
+        (
+            "line 2 lacks its ; : write 'mode: 1;', or ;; after the last line of a value of several"
+            " lines"
+        ),
     ),
     (f"name: {'a' * 70_000};\n%%\n(c4)", "F4", "the limit is 65,536 bytes: look for a missing %%"),
     (

@@ -43,7 +43,10 @@ class Ignores(unittest.TestCase):
             )
 
     def test_in_the_score(self) -> None:
-        score = "name: a;\nmode: 1;\nmode: 2; % gregorio: ignore W2\n%% % gregorio: ignore-file W6\n(c4) <it>a</it>(g5)\n<it>b</it>(g5)\n"
+        score = (
+            "name: a;\nmode: 1;\nmode: 2; % gregorio: ignore W2\n%% % gregorio: ignore-file"
+            " W6\n(c4) <it>a</it>(g5)\n<it>b</it>(g5)\n"
+        )
         self.assertEqual(told(score), [(5, "E1"), (6, "E1")])
         self.assertEqual(told("% gregorio: ignore-file E\n" + score), [])
         self.assertEqual(told(score + "%gregorio:ignore-file E1"), [])
@@ -66,7 +69,10 @@ class Ignores(unittest.TestCase):
         self.assertEqual(told(score, True), [(3, "F6")])
 
     def test_unused(self) -> None:
-        score = "name: a; % gregorio: ignore-file W3, W6\n%%\n(c4) <it>a</it>(g5) % gregorio: ignore E1, E2, W99 F1\n(n) % gregorio: ignore rules\n% gregorio: ignore\n"
+        score = (
+            "name: a; % gregorio: ignore-file W3, W6\n%%\n(c4) <it>a</it>(g5) % gregorio: ignore"
+            " E1, E2, W99 F1\n(n) % gregorio: ignore rules\n% gregorio: ignore\n"
+        )
         messages = [
             it for it in found_in(Compiled(score.encode()), True) if it.code == "unused-ignore"
         ]

@@ -67,8 +67,14 @@ LAYOUTS: dict[str, tuple[str, str | None]] = {
     "lines in a text": ("name: a;\n%%\n(c4) a\nb(f) [c\nd](g) e\n(h)\n", None),
     "a translation inside": ("name: a;\n%%\n(c4) K[Lord]y(f)\n", None),
     "findings": (
-        "bad  line\nname: a;\nmode:1;\n mode:2 ;\nmode :3;\nnabc-lines:9 ;\n%%\n(c4)  Ky(f5 )r )i(g)  e( f-)\n\n\n {a }( h)  [ b][c]( f)  <it>d</it>( g) <i>e( h) f",
-        "bad  line\nname: a;\nmode:1;\n mode:2 ;\nmode :3;\nnabc-lines:9 ;\n%%\n(c4) Ky(f5 )r )i(g) e( f-)\n\n{a}( h) [ b][c]( f) <it>d</it>( g) <i>e( h) f",
+        (
+            "bad  line\nname: a;\nmode:1;\n mode:2 ;\nmode :3;\nnabc-lines:9 ;\n%%\n(c4)  Ky(f5 )r"
+            " )i(g)  e( f-)\n\n\n {a }( h)  [ b][c]( f)  <it>d</it>( g) <i>e( h) f"
+        ),
+        (
+            "bad  line\nname: a;\nmode:1;\n mode:2 ;\nmode :3;\nnabc-lines:9 ;\n%%\n(c4) Ky(f5 )r"
+            " )i(g) e( f-)\n\n{a}( h) [ b][c]( f) <it>d</it>( g) <i>e( h) f"
+        ),
     ),
     "text at the end": ("name: a;\n%%\n(c4)  a(f)  b  c \n\n\n", "name: a;\n%%\n(c4) a(f) b  c \n"),
     "NABC": (
@@ -77,12 +83,27 @@ LAYOUTS: dict[str, tuple[str, str | None]] = {
     ),
     "nothing": ("%%", None),
 }
-LONG = "name:a line of headers that is longer;\n%%\n(c4) Ky(f)ri(gfg)e(h.) e(ixjvIH'GhvF'E)lé(ghg')i(g)son.(f.) (::) % a comment\na(f) b(g) c(h)\n"
+LONG = (
+    "name:a line of headers that is longer;\n%%\n(c4) Ky(f)ri(gfg)e(h.)"
+    " e(ixjvIH'GhvF'E)lé(ghg')i(g)son.(f.) (::) % a comment\na(f) b(g) c(h)\n"
+)
 WRAPPED = {
-    20: "(c4)\nKy(f)ri(gfg)e(h.)\ne(ixjvIH'GhvF'E)lé(ghg')i(g)son.(f.)\n(::) % a comment\na(f) b(g) c(h)\n",
-    9: "(c4)\nKy(f)ri(gfg)e(h.)\ne(ixjvIH'GhvF'E)lé(ghg')i(g)son.(f.)\n(::) % a comment\na(f) b(g)\nc(h)\n",
-    60: "(c4) Ky(f)ri(gfg)e(h.) e(ixjvIH'GhvF'E)lé(ghg')i(g)son.(f.)\n(::) % a comment\na(f) b(g) c(h)\n",
-    200: "(c4) Ky(f)ri(gfg)e(h.) e(ixjvIH'GhvF'E)lé(ghg')i(g)son.(f.) (::) % a comment\na(f) b(g) c(h)\n",
+    20: (
+        "(c4)\nKy(f)ri(gfg)e(h.)\ne(ixjvIH'GhvF'E)lé(ghg')i(g)son.(f.)\n(::) % a comment\na(f) b(g)"
+        " c(h)\n"
+    ),
+    9: (
+        "(c4)\nKy(f)ri(gfg)e(h.)\ne(ixjvIH'GhvF'E)lé(ghg')i(g)son.(f.)\n(::) % a comment\na(f)"
+        " b(g)\nc(h)\n"
+    ),
+    60: (
+        "(c4) Ky(f)ri(gfg)e(h.) e(ixjvIH'GhvF'E)lé(ghg')i(g)son.(f.)\n(::) % a comment\na(f) b(g)"
+        " c(h)\n"
+    ),
+    200: (
+        "(c4) Ky(f)ri(gfg)e(h.) e(ixjvIH'GhvF'E)lé(ghg')i(g)son.(f.) (::) % a comment\na(f) b(g)"
+        " c(h)\n"
+    ),
 }
 
 
@@ -213,7 +234,10 @@ class Command(InFolder):
             (ran.returncode, ran.stdout),
             (
                 1,
-                b"--- <stdin>\n+++ <stdin> (formatted)\n@@ -1,3 +1,3 @@\n-name:a;\n+name: a;\n %%\n (c4) a(f)\n",
+                (
+                    b"--- <stdin>\n+++ <stdin> (formatted)\n@@ -1,3 +1,3 @@\n-name:a;\n+name: a;\n"
+                    b" %%\n (c4) a(f)\n"
+                ),
             ),
         )
 
@@ -227,8 +251,11 @@ class Command(InFolder):
         self.assertEqual((ran.returncode, ran.stdout), (2, b""))
         self.assertEqual(
             ran.stderr,
-            b"gregorio-chant: s/077.gabc stays as it is: it is not whole\ngregorio-chant: s/077.gabc:1:5: F2: no %% line\n"
-            b"gregorio-chant: 250 files: 249 written, 1 refused\n",
+            (
+                b"gregorio-chant: s/077.gabc stays as it is: it is not whole\ngregorio-chant:"
+                b" s/077.gabc:1:5: F2: no %% line\ngregorio-chant: 250 files: 249 written, 1"
+                b" refused\n"
+            ),
         )
         self.assertEqual(Path("s/249.gabc").read_text(), "name: 249;\n%%\n(c4) a(f)\n")
 

@@ -2,16 +2,31 @@
 from __future__ import annotations
 
 import doctest
+import importlib
+import pkgutil
 import threading
 import tracemalloc
 import unittest
 
-from support import EXAMPLES
+from support import EXAMPLES, has
 
 import gregorio_chant
-from gregorio_chant import Kind, Message, Report, Status, check, compile, dump
+from gregorio_chant import GregorioError, Kind, Message, Report, Status, check, compile
 from gregorio_chant._native import library
-from gregorio_chant.objects import edits, score
+from gregorio_chant.objects import edits
+from gregorio_chant.objects import score as score_module
+
+# The modules that stand on packages which need not be there.
+_NEEDED = {
+    "gregorio_chant.export.midi": "mido",
+    "gregorio_chant.picture.font": "fontTools",
+    "gregorio_chant.report.terminal": "rich",
+    "gregorio_chant.show.watching": "watchdog",
+    "gregorio_chant.web.app": "starlette",
+    "gregorio_chant.web.guard": "starlette",
+    "gregorio_chant.web.serving": "uvicorn",
+    "gregorio_chant.work.patterns": "pathspec",
+}
 
 
 class Calls(unittest.TestCase):
@@ -57,8 +72,26 @@ class Calls(unittest.TestCase):
         for name in gregorio_chant.__all__:
             self.assertTrue(hasattr(gregorio_chant, name))
 
+    def test_errors(self) -> None:
+        """All errors of the package have one base, also those that are of a kind of Python's."""
+        found = set[type]()
+        for it in pkgutil.walk_packages(gregorio_chant.__path__, "gregorio_chant."):
+            if it.name.endswith("__main__") or not has(_NEEDED.get(it.name, "re")):
+                continue
+            module = importlib.import_module(it.name)
+            found |= {
+                its
+                for name, its in vars(module).items()
+                if isinstance(its, type)
+                and issubclass(its, Exception)
+                and its.__module__ == it.name
+                and name[0] != "_"
+            }
+        self.assertGreater(len(found), 15)
+        self.assertEqual([it for it in found if not issubclass(it, GregorioError)], [])
+
     def test_examples(self) -> None:
-        for module in (gregorio_chant, library, score, edits):
+        for module in (gregorio_chant, library, score_module, edits):
             tried = doctest.testmod(module)
             self.assertGreater(tried.attempted, 0, module)
             self.assertEqual(tried.failed, 0, module)

@@ -112,5 +112,6 @@ class Many(unittest.TestCase):
                 f"the processors are busy: four processes do only {gain:.1f} times the work of one"
             )
         self.fail(
-            f"seconds by one thread and by four, and how many times the work of one process four do: {tried}"
+            "seconds by one thread and by four, and how many times the work of one process four"
+            f" do: {tried}"
         )

@@ -10,7 +10,10 @@ from support import FAULTY, InFolder, command, files_of_scores, has, scores_of_t
 
 from gregorio_chant.dump import Score, ScoreError
 
-SCORE = "name: K\u00fdrie;\n%%\n(c4) K\u00fd(f.)ri(gixi)e,(fe..) (,) <i>e</i>(h`) *() l\u00e9(jvv)i(f##fv) (::)"
+SCORE = (
+    "name: K\u00fdrie;\n%%\n(c4) K\u00fd(f.)ri(gixi)e,(fe..) (,) <i>e</i>(h`) *()"
+    " l\u00e9(jvv)i(f##fv) (::)"
+)
 
 
 @unittest.skipUnless(has("mido"), "there is no mido")
@@ -119,8 +122,11 @@ class Midi(InFolder):
         self.assertEqual(ran.returncode, 2)
         self.assertEqual(
             ran.stderr.decode(),
-            "gregorio-chant: s/b.gabc:2:12: F6: input ends inside notes, a tag, a raw part or a translation; it is not written\n"
-            "gregorio-chant: s/c.gabc:2:3: a note before any clef has no sound; it is not written\ngregorio-chant: 1 file written\n",
+            (
+                "gregorio-chant: s/b.gabc:2:12: F6: input ends inside notes, a tag, a raw part or a"
+                " translation; it is not written\ngregorio-chant: s/c.gabc:2:3: a note before any"
+                " clef has no sound; it is not written\ngregorio-chant: 1 file written\n"
+            ),
         )
         self.assertEqual(sorted(os.listdir("s")), ["a.gabc", "a.mid", "b.gabc", "c.gabc"])
         first = Path("s/a.mid").read_bytes()
@@ -130,7 +136,10 @@ class Midi(InFolder):
             (again.returncode, again.stderr),
             (
                 4,
-                b"gregorio-chant: cannot export s/a.gabc: there is a file of this name already; --force writes over it\n",
+                (
+                    b"gregorio-chant: cannot export s/a.gabc: there is a file of this name already;"
+                    b" --force writes over it\n"
+                ),
             ),
         )
         self.assertEqual(
@@ -172,6 +181,9 @@ class Words(InFolder):
             (ran.returncode, ran.stderr),
             (
                 3,
-                b"gregorio-chant: export --to midi needs the package mido: apt install python3-mido in Debian, else pip install mido\n",
+                (
+                    b"gregorio-chant: export --to midi needs the package mido: apt install"
+                    b" python3-mido in Debian, else pip install mido\n"
+                ),
             ),
         )

@@ -362,8 +362,14 @@ class Serving(Asking):
         self.assertEqual(self.port, port)
 
 
-_POLICY = "default-src 'none'; script-src 'self'; style-src 'self'; img-src 'self'; connect-src 'self'; base-uri 'none'; form-action 'none'; frame-ancestors 'none'"
-_STILL = "default-src 'none'; style-src 'unsafe-inline'; img-src data:; base-uri 'none'; form-action 'none'; frame-ancestors 'none'"
+_POLICY = (
+    "default-src 'none'; script-src 'self'; style-src 'self'; img-src 'self'; connect-src 'self';"
+    " base-uri 'none'; form-action 'none'; frame-ancestors 'none'"
+)
+_STILL = (
+    "default-src 'none'; style-src 'unsafe-inline'; img-src data:; base-uri 'none'; form-action"
+    " 'none'; frame-ancestors 'none'"
+)
 _TO_LEARN = ("/tutorial.html", "/cheatsheet.html")
 # A score that takes seconds to be drawn.
 _LONG = b"name: a;\n%%\n(c4) " + b"Ky(f)ri(gfg)e(e.) " * 20_000
@@ -386,7 +392,10 @@ class Words(InFolder):
             room = self.room / package
             room.mkdir()
             ran = command("page", environment=without(room, package))
-            told = f"gregorio-chant: page needs the package {package}: apt install python3-{package} in Debian, else pip install {package}\n"
+            told = (
+                f"gregorio-chant: page needs the package {package}: apt install"
+                f" python3-{package} in Debian, else pip install {package}\n"
+            )
             self.assertEqual((ran.returncode, ran.stdout, ran.stderr.decode()), (3, b"", told))
 
 

@@ -100,7 +100,8 @@ class Strangers(InFolder):
             "# c\n"
             + "x\n"
             * (MOST + 1): [
-                f"cannot read s/.gitignore: line {MOST + 2}: there are at most 5,000 patterns, with those of the folders above"
+                f"cannot read s/.gitignore: line {MOST + 2}: there are at most 5,000 patterns, with"
+                " those of the folders above"
             ],
             "x" * (1 << 18) + "y": ["cannot read s/.gitignore: it is longer than 262,144 bytes"],
         }
@@ -143,7 +144,9 @@ class Strangers(InFolder):
             + "'x'," * (MOST + 1)
             + "]": ":1: exclude: there are at most 5,000 patterns",
             "exclude = ['!']": ":1: exclude: !: this is no pattern",
-            "[per-file-ignores]\n'!a' = ['W3']": ":2: !a: a pattern of files in which codes are ignored takes nothing back",
+            "[per-file-ignores]\n'!a' = ['W3']": (
+                ":2: !a: a pattern of files in which codes are ignored takes nothing back"
+            ),
         }
         for text, told in files.items():
             self.put(NAME, text)

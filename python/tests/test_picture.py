@@ -76,9 +76,11 @@ KINDS = {
     "linea": "f=",
 }
 HOSTILE = (
-    "name: <script>alert(1)</script> \" ' ]]> \u202e &amp;;\nannotation: </text><script>;\ncommentary: ]]>&lt;;\n%%\n(c4) a$<script$>b$</script$>"
-    '[</svg><script>"]]> \u202e]](fg) x"\'&y\u2066(g) <alt></title><script></alt>k(g) <v></style><script></v>e(f) <sp></style>\x1b\u202e</sp>(g[nv:</svg>]) '
-    '<foo onclick="x">z\x01\x1b\x7f\x85(g[<script>]) <b>c(g&)\n'
+    "name: <script>alert(1)</script> \" ' ]]> \u202e &amp;;\nannotation:"
+    ' </text><script>;\ncommentary: ]]>&lt;;\n%%\n(c4) a$<script$>b$</script$>[</svg><script>"]]>'
+    " \u202e]](fg) x\"'&y\u2066(g) <alt></title><script></alt>k(g) <v></style><script></v>e(f)"
+    ' <sp></style>\x1b\u202e</sp>(g[nv:</svg>]) <foo onclick="x">z\x01\x1b\x7f\x85(g[<script>])'
+    " <b>c(g&)\n"
 )
 
 
@@ -87,7 +89,8 @@ def described(lines: list[Line]) -> str:
     written = []
     for line in lines:
         written.append(
-            f"line top {line.top:.1f} text {line.text:.1f} bottom {line.bottom:.1f}: {_signs(line.signs, 0.0)}"
+            f"line top {line.top:.1f} text {line.text:.1f} bottom {line.bottom:.1f}:"
+            f" {_signs(line.signs, 0.0)}"
         )
         for placed in line.parts:
             part = placed.part
@@ -115,9 +118,11 @@ def described(lines: list[Line]) -> str:
 
 def _signs(signs: Iterable[Sign], x: float) -> str:
     return " ".join(
-        f"rect@{x + it.x:.1f},{it.y:.1f},{it.width:.1f},{it.height:.1f}"
-        if isinstance(it, Rect)
-        else f"{it.shape}@{x + it.x:.1f},{it.y:.1f}"
+        (
+            f"rect@{x + it.x:.1f},{it.y:.1f},{it.width:.1f},{it.height:.1f}"
+            if isinstance(it, Rect)
+            else f"{it.shape}@{x + it.x:.1f},{it.y:.1f}"
+        )
         for it in signs
     )
 
@@ -330,7 +335,10 @@ class Neumes(unittest.TestCase):
         """Each shape of the plain face is drawn of some notes."""
         notes = " ".join(KINDS.values()).replace("wg", "fwg")
         scores = [
-            f"name: x;\n%%\n(c4) a({notes} F~ Fr fr2 fr3 fr4 fr5 fr6 fr7 fr8 fx fy f# fx? kgk) (z) (c4@f3) b(f+ k+ ` ^ , ; ;1 : :? :: ,_ :' z0)\n",
+            (
+                f"name: x;\n%%\n(c4) a({notes} F~ Fr fr2 fr3 fr4 fr5 fr6 fr7 fr8 fx fy f# fx? kgk)"
+                " (z) (c4@f3) b(f+ k+ ` ^ , ; ;1 : :? :: ,_ :' z0)\n"
+            ),
             "name: x;\n%%\n(c4) a(gfg hfh ifi jfj kfk)\n",
         ]
         used = {
@@ -414,7 +422,10 @@ class Pictures(unittest.TestCase):
                     if (it.text or "").startswith(code.name)
                 ]
                 self.assertIn(
-                    f"{message.line}:{message.column}: {message.kind.value}: {code.name}: {message.text}",
+                    (
+                        f"{message.line}:{message.column}: {message.kind.value}: {code.name}:"
+                        f" {message.text}"
+                    ),
                     titles,
                 )
 
@@ -525,7 +536,9 @@ class Pictures(unittest.TestCase):
             it.text: it.attrib
             for it in Xml.fromstring(
                 picture(
-                    "name: x;\n%%\n(c4) xx(f) <b>bb</b>(f) <i>ii</i>(f) <e>ee</e>(f) <sc>ss</sc>(f) <tt>tt</tt>(f) <ul>uu</ul>(f) <c>cc</c>(f) <sp>V/</sp>vv(f) <sp>'ae</sp>x(f)\n"
+                    "name: x;\n%%\n(c4) xx(f) <b>bb</b>(f) <i>ii</i>(f) <e>ee</e>(f) <sc>ss</sc>(f)"
+                    " <tt>tt</tt>(f) <ul>uu</ul>(f) <c>cc</c>(f) <sp>V/</sp>vv(f)"
+                    " <sp>'ae</sp>x(f)\n"
                 )
             ).iter(f"{SVG}text")
         }

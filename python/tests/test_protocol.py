@@ -93,8 +93,8 @@ class Abuse(Served):
             self.assertEqual(self.error(it), NO_REQUEST, it)
         body = b'{"id": 1, "method": "shutdown"}'
         self.put(
-            b"Content-Length: %d\r\nContent-Type: application/vscode-jsonrpc; charset=utf-8\r\n\r\n%s"
-            % (len(body), body)
+            b"Content-Length: %d\r\nContent-Type: application/vscode-jsonrpc;"
+            b" charset=utf-8\r\n\r\n%s" % (len(body), body)
         )
         self.assertEqual(self.refused(), NO_REQUEST)
         self.send({"id": 8, "result": None})

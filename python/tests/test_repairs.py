@@ -87,8 +87,9 @@ class Repairs(unittest.TestCase):
         score = f"\ufeff{_SCORE}\ufeff<i>a\ufeff(g)b</i>(h\ufeff)>(i)\n(f|pu)(f|vi)".replace(
             "\n", "\r\n"
         )
-        wanted = f"\ufeffname: a;\nnabc-lines: 1;\n%%\n(c4) \ufeff<i>a\ufeff</i>(g)<i>b</i>(h\ufeff)$>(i)\n(f|pu)(f|vi)".replace(
-            "\n", "\r\n"
+        wanted = (
+            "\ufeffname: a;\nnabc-lines: 1;\n%%\n(c4)"
+            " \ufeff<i>a\ufeff</i>(g)<i>b</i>(h\ufeff)$>(i)\n(f|pu)(f|vi)".replace("\n", "\r\n")
         )
         self.assertEqual(repaired(score.encode(), ALL).decode(), wanted)
 
@@ -230,7 +231,10 @@ class Repairs(unittest.TestCase):
         self.assertEqual(
             tuple(map(str, made.guesses)),
             (
-                "3:12: open-notes: a guess: 'mun9hh)d\u00e1(ij)' becomes 'mun(hh)d\u00e1(ij)'; text becomes notes",
+                (
+                    "3:12: open-notes: a guess: 'mun9hh)d\u00e1(ij)' becomes 'mun(hh)d\u00e1(ij)';"
+                    " text becomes notes"
+                ),
             ),
         )
         self.assertEqual(repair(f"{_SCORE}a>(g)\n".encode(), ALL).guesses, ())
@@ -272,7 +276,10 @@ class Command(InFolder):
         )
         self.assertEqual(Path("s/a.gabc").read_text(), f"{_SCORE}a$>(g[x]v) % c\n")
         ran = command(*words, "--fix", "--unsafe-fixes", "--quiet", "s")
-        told = b"gregorio-chant: s/a.gabc:3:14: sign-before-attribute: a guess: 'a$>(g[x]v)' becomes 'a$>(gv[x])'; a sign is added\n"
+        told = (
+            b"gregorio-chant: s/a.gabc:3:14: sign-before-attribute: a guess: 'a$>(g[x]v)' becomes"
+            b" 'a$>(gv[x])'; a sign is added\n"
+        )
         self.assertEqual((ran.returncode, ran.stdout, ran.stderr), (0, b"", told))
         self.assertEqual(Path("s/a.gabc").read_text(), f"{_SCORE}a$>(gv[x]) % c\n")
         ran = command(*words, "--fix", "--unsafe-fixes", "--diff", "s")

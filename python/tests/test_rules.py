@@ -30,7 +30,10 @@ class Rules(unittest.TestCase):
     def test_outside_staff(self) -> None:
         told = "pitch {} is outside a staff of {} lines, which goes from a to {}"
         for lines, highest, over in (("2", "i", "j"), ("3", "k", "l"), ("4", "m", "n")):
-            score = f"name: a; % b\nstaff-lines:{lines};\n%%\n(c1)  a ({highest}x{highest}5{over}) ({over}+) ({over}#)\n"
+            score = (
+                f"name: a; % b\nstaff-lines:{lines};\n%%\n(c1)  a ({highest}x{highest}5{over})"
+                f" ({over}+) ({over}#)\n"
+            )
             text = told.format(over, lines, highest)
             self.assertEqual(
                 found(score, "outside-staff"), [(4, 14, text), (4, 18, text), (4, 23, text)]
@@ -114,7 +117,10 @@ class Rules(unittest.TestCase):
             self.assertEqual(places, [] if is_well else [(3, 2)], mode)
 
     def test_blank_before_notes(self) -> None:
-        score = "name: a;\n%%\n(c4) a (f)b  (g) c(h) (;) <eu> (::) <i>d</i>\n(f) e % f\n(g) $( (h) [a b] (i) g"
+        score = (
+            "name: a;\n%%\n(c4) a (f)b  (g) c(h) (;) <eu> (::) <i>d</i>\n(f) e % f\n(g) $( (h) [a"
+            " b] (i) g"
+        )
         self.assertEqual(
             [it[:2] for it in found(score, "blank-before-notes")],
             [(3, 7), (3, 12), (3, 45), (5, 7), (5, 17)],
@@ -132,11 +138,17 @@ class Rules(unittest.TestCase):
         self.assertEqual(found("name: a;\n%%\n(c4) a(fv) b(gs) c(G) d(h_)", "lone-capital"), [])
 
     def test_unknown_special(self) -> None:
-        score = "name: a;\n%%\n(c4)  <sp>Rx</sp>(f) <sp>R/</sp><sp>~~</sp><sp></sp>(g) <v><sp>x</sp></v>(h) $<sp$>(i)\n"
+        score = (
+            "name: a;\n%%\n(c4)  <sp>Rx</sp>(f) <sp>R/</sp><sp>~~</sp><sp></sp>(g)"
+            " <v><sp>x</sp></v>(h) $<sp$>(i)\n"
+        )
         self.assertEqual([it[:2] for it in found(score, "unknown-special")], [(3, 7), (3, 44)])
 
     def test_misspelled_header(self) -> None:
-        score = "name: a;\n moed: 1;\nstaff-line: 4;\nlicense: b;\nx: y;\nanotation: c;\ndef-m1: d;\n%%\n(c4) a(f)"
+        score = (
+            "name: a;\n moed: 1;\nstaff-line: 4;\nlicense: b;\nx: y;\nanotation: c;\ndef-m1:"
+            " d;\n%%\n(c4) a(f)"
+        )
         self.assertEqual(
             [it[:2] for it in found(score, "misspelled-header")], [(2, 2), (3, 1), (6, 1)]
         )
@@ -172,7 +184,10 @@ class Rules(unittest.TestCase):
         self.assertEqual([it[:2] for it in found(score, "bar-as-text")], [(3, 12), (4, 1), (5, 2)])
 
     def test_words(self) -> None:
-        score = "name: a;\n%%\n(c4) A-(e)sp\u00e9r-(f)ges(g) me-(h) -(f)b(g) D&oacute;(f)mi&x;(g)ne&#233;(h) De()us(f) V() *() a()"
+        score = (
+            "name: a;\n%%\n(c4) A-(e)sp\u00e9r-(f)ges(g) me-(h) -(f)b(g)"
+            " D&oacute;(f)mi&x;(g)ne&#233;(h) De()us(f) V() *() a()"
+        )
         self.assertEqual([it[:2] for it in found(score, "typed-hyphen")], [(3, 6), (3, 11)])
         self.assertEqual(
             [it[1:] for it in found(score, "html-entity")],

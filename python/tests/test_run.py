@@ -192,8 +192,9 @@ class States(unittest.TestCase):
                 first + "".join(it.output for it in Run.restore(state).steps([score[100:]])), wanted
             )
         program = (
-            "import sys\nfrom gregorio_chant import Run\nrun = Run.restore(bytes.fromhex(sys.argv[1]))\n"
-            "for it in run.steps([sys.stdin.buffer.read()]): sys.stdout.buffer.write(it.output.encode())"
+            "import sys\nfrom gregorio_chant import Run\nrun ="
+            " Run.restore(bytes.fromhex(sys.argv[1]))\nfor it in"
+            " run.steps([sys.stdin.buffer.read()]): sys.stdout.buffer.write(it.output.encode())"
         )
         other = subprocess.run(
             [sys.executable, "-c", program, state.hex()],

@@ -87,7 +87,10 @@ class Actions(Served):
         )
 
     def test_silence(self) -> None:
-        text = "name: a;\nname: b;\n%%\n(c4) <x>Ky(f) % gregorio: ignore W3\n<y>ri(g) % why\ne(h) <x>l(g)% gregorio: ignore W6\n"
+        text = (
+            "name: a;\nname: b;\n%%\n(c4) <x>Ky(f) % gregorio: ignore W3\n<y>ri(g) % why\ne(h)"
+            " <x>l(g)% gregorio: ignore W6\n"
+        )
         self.open(text)
         for line, code, where, new in (
             (3, "W6", 3, "(c4) <x>Ky(f) % gregorio: ignore W3, W6"),
@@ -115,7 +118,10 @@ class Actions(Served):
             [it["title"] for it in self.offered(2, 0, 2, 9)], ["Silence W6 in this score"]
         )
         self.change("name: a;\n%%\n(c4) Ky(f")
-        title = "Write the missing ) at the end (a guess: 'Ky(f' becomes 'Ky(f)'; the last notes are read)"
+        title = (
+            "Write the missing ) at the end (a guess: 'Ky(f' becomes 'Ky(f)'; the last notes are"
+            " read)"
+        )
         self.assertEqual([it["title"] for it in self.offered(2, 0, 2, 9)], [title])
 
 
@@ -201,7 +207,8 @@ class Rules(Served):
 class Outline(Served):
     def test_symbols(self) -> None:
         self.open(
-            "name: a;\nmode:1;\n%%\n(c4) Ky(f)ri(g)\ne(h) <b>le</b>(i)i$[(j) (::) 2. <sp>V/</sp>(::)\nson(g[cs::])"
+            "name: a;\nmode:1;\n%%\n(c4) Ky(f)ri(g)\ne(h) <b>le</b>(i)i$[(j) (::) 2."
+            " <sp>V/</sp>(::)\nson(g[cs::])"
         )
         found = self.ask_here("documentSymbol")
         self.assertEqual(
@@ -321,8 +328,8 @@ class Hover(Served):
         self.assertEqual(
             self.hover(3, 37),
             (
-                "W6: tag not known\nthere is no tag '<x>'; it is kept\nWrong:\n    <it>Ky</it>(f)\nRight:\n    <i>Ky</i>(f)\n"
-                "gregorio-chant explain W6 says more\n"
+                "W6: tag not known\nthere is no tag '<x>'; it is kept\nWrong:\n   "
+                " <it>Ky</it>(f)\nRight:\n    <i>Ky</i>(f)\ngregorio-chant explain W6 says more\n"
             ),
         )
 
@@ -342,8 +349,10 @@ class Markdown(Served):
         self.assertEqual(
             shown["value"],
             (
-                "**W6**: tag not known\n\nthere is no tag '\\<x\\>'; it is kept\n\nWrong:\n\n```gabc\n<it>Ky</it>(f)\n```\n\n"
-                "Right:\n\n```gabc\n<i>Ky</i>(f)\n```\n\n[All about W6](file:///usr/share/doc/gregorio-canonical/docs/LANGUAGE.md#errors-and-warnings)\n"
+                "**W6**: tag not known\n\nthere is no tag '\\<x\\>'; it is"
+                " kept\n\nWrong:\n\n```gabc\n<it>Ky</it>(f)\n```\n\n"
+                "Right:\n\n```gabc\n<i>Ky</i>(f)\n```\n\n[All about"
+                " W6](file:///usr/share/doc/gregorio-canonical/docs/LANGUAGE.md#errors-and-warnings)\n"
             ),
         )
 

@@ -19,7 +19,10 @@ WRONG = [
     ("rules = 1", ":1: rules: expected true or false"),
     (
         "# a\n\nselct = []",
-        ":3: selct: unknown key; the keys are select, ignore, fail-on, rules, exclude, per-file-ignores, format",
+        (
+            ":3: selct: unknown key; the keys are select, ignore, fail-on, rules, exclude,"
+            " per-file-ignores, format"
+        ),
     ),
     ("format = 3", ":1: format: expected a table"),
     ("[format]\nwrap = 0", ":2: wrap: expected a number from 1"),

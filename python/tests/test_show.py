@@ -189,7 +189,10 @@ class Output(InFolder):
             (status, shown),
             (
                 3,
-                "gregorio-chant: a page is not for a terminal: write it into a file, as with -o page.html\n",
+                (
+                    "gregorio-chant: a page is not for a terminal: write it into a file, as with -o"
+                    " page.html\n"
+                ),
             ),
         )
 

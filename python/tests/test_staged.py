@@ -95,7 +95,10 @@ class Staged(InFolder):
             (ran.returncode, ran.stderr),
             (
                 4,
-                b"gregorio-chant: cannot read what is staged: git cannot be run: No such file or directory\n",
+                (
+                    b"gregorio-chant: cannot read what is staged: git cannot be run: No such file"
+                    b" or directory\n"
+                ),
             ),
         )
 

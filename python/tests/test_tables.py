@@ -234,7 +234,10 @@ class Found(InFolder):
         self.assertIn("s/c.gabc:2:8: fg  fa sol  a\n", ran.stdout.decode())
         told = ran.stderr.decode()
         self.assertIn(
-            "s/c.gabc:2:13: F6: input ends inside notes, a tag, a raw part or a translation; nothing after it was read\n",
+            (
+                "s/c.gabc:2:13: F6: input ends inside notes, a tag, a raw part or a translation;"
+                " nothing after it was read\n"
+            ),
             told,
         )
         self.assertIn("s/d.gabc:2:1: F2: no %% line; nothing after it was read\n", told)

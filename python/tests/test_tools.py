@@ -10,7 +10,6 @@ import socket
 import subprocess
 import sys
 import time
-import unittest
 from collections.abc import Callable
 from pathlib import Path
 from urllib.parse import urlsplit
@@ -60,7 +59,10 @@ class Tools(InFolder):
         ran = run("incipits.py", ".")
         self.assertEqual(
             ran.stdout.decode(),
-            "2.gabc, fa re ut, Ave\nVeni, sol la sol si♭ fa sol la sol, Veni Creátor, a b c d e f\n",
+            (
+                "2.gabc, fa re ut, Ave\nVeni, sol la sol si♭ fa sol la sol, Veni Creátor, a b c d"
+                " e f\n"
+            ),
             ran.stderr,
         )
 

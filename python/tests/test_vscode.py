@@ -184,7 +184,10 @@ class Extension(InFolder):
     def test_server_that_is_missing(self) -> None:
         trial = TRIAL.read_text(encoding="utf-8").replace(
             "results.opened = await next;",
-            "await new Promise((go) => setTimeout(go, 300)); console.log(warnings[0]); process.exit();",
+            (
+                "await new Promise((go) => setTimeout(go, 300)); console.log(warnings[0]);"
+                " process.exit();"
+            ),
         )
         self.put("trial.js", trial)
         ran = subprocess.run(

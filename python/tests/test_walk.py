@@ -132,5 +132,8 @@ class WithoutPackages(InFolder):
         self.assertEqual((ran.returncode, ran.stdout), (3, b""))
         self.assertRegex(
             ran.stderr.decode(),
-            rf"^gregorio-chant: .* needs the package .*: apt install {package} in Debian, else pip install .*\n$",
+            (
+                rf"^gregorio-chant: .* needs the package .*: apt install {package} in Debian, else"
+                r" pip install .*\n$"
+            ),
         )

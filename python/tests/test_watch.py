@@ -149,7 +149,10 @@ class Words(InFolder):
             "a.gabc",
             environment=without(self.room, "watchdog"),
         )
-        told = b"gregorio-chant: show --watch needs the package watchdog: apt install python3-watchdog in Debian, else pip install watchdog\n"
+        told = (
+            b"gregorio-chant: show --watch needs the package watchdog: apt install python3-watchdog"
+            b" in Debian, else pip install watchdog\n"
+        )
         self.assertEqual((ran.returncode, ran.stdout, ran.stderr), (3, b"", told))
 
 

@@ -194,7 +194,10 @@ def _glyph_line(glyph: Node) -> str:
 
 
 def _note_line(note: Node, spelling: str) -> str:
-    return f"note {_HEIGHTS[note.a & 15]} {_SHAPES[note.b & 31]} {_DEGREES[note.c & 7]} {_SIGNS[note.c >> 3 & 3]} {spelling}"
+    return (
+        "note"
+        f" {_HEIGHTS[note.a & 15]} {_SHAPES[note.b & 31]} {_DEGREES[note.c & 7]} {_SIGNS[note.c >> 3 & 3]} {spelling}"
+    )
 
 
 def _descriptor_line(descriptor: Node, spelling: str) -> str:
@@ -302,7 +305,9 @@ def outline_of(tree: Tree) -> Iterator[str]:
     for node in tree:
         while ends and ends[-1] <= node.number:
             ends.pop()
-        yield f"{'  ' * len(ends)}{node.kind.name} {node.begin}:{node.end} {node.values} {node.own!r}"
+        yield (
+            f"{'  ' * len(ends)}{node.kind.name} {node.begin}:{node.end} {node.values} {node.own!r}"
+        )
         ends.append(node.past)
 
 
