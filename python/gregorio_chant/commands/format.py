@@ -20,7 +20,7 @@ from gregorio_chant.text.nearest import did_you_mean
 
 ABOUT = f"""Writes headers and syllables in canonical spelling, and keeps lines, empty lines and
 comments. A part with a message keeps its spelling. A file is written only if the compiler gives the
-same canonical form, dump and messages for the new text. The new file is written beside the old one,
+same canonical form, tree and messages for the new text. The new file is written beside the old one,
 and then replaces it. {OUTSIDE}"""
 EPILOG = epilog(
     (
