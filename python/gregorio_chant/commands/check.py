@@ -6,6 +6,7 @@ import argparse
 from gregorio_chant.commands.words import (
     OUTSIDE,
     Parser,
+    add_flags,
     add_jobs,
     add_no_config,
     add_paths,
@@ -57,27 +58,22 @@ def add(parser: Parser) -> None:
     parser.add_argument(
         "--fail-on", metavar="CODES", help="end with status 1 if one of these is reported"
     )
-    parser.add_argument(
-        "--rules",
-        action="store_true",
-        help="also try the rules, for mistakes that the language allows; explain --all lists them",
-    )
-    parser.add_argument(
-        "--fix",
-        action="store_true",
-        help="repair the files first, then report the rest; no note and no sung letter changes",
-    )
-    parser.add_argument(
-        "--unsafe-fixes",
-        action="store_true",
-        help=(
-            "with --fix: also guess, as where a bracket is missing; each guess says what it changes"
-        ),
-    )
-    parser.add_argument(
-        "--diff",
-        action="store_true",
-        help="with --fix: write no file, and show the changes as a diff",
+    add_flags(
+        parser,
+        {
+            "--rules": (
+                "also try the rules, for mistakes that the language allows; explain --all lists"
+                " them"
+            ),
+            "--fix": (
+                "repair the files first, then report the rest; no note and no sung letter changes"
+            ),
+            "--unsafe-fixes": (
+                "with --fix: also guess, as where a bracket is missing; each guess says what it"
+                " changes"
+            ),
+            "--diff": "with --fix: write no file, and show the changes as a diff",
+        },
     )
     add_jobs(parser)
     add_no_config(parser)

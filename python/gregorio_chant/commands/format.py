@@ -6,6 +6,7 @@ import argparse
 from gregorio_chant.commands.words import (
     OUTSIDE,
     Parser,
+    add_flags,
     add_jobs,
     add_no_config,
     add_paths,
@@ -35,27 +36,10 @@ def add(parser: Parser) -> None:
     """Adds the arguments of `format`."""
     add_paths(parser, ", which is written to standard output", "with --check or --diff: ")
     parser.add_argument(
-        "--check",
-        action="store_true",
-        help="write nothing; end with status 1 if a file would change",
-    )
-    parser.add_argument(
-        "--diff",
-        action="store_true",
-        help="write no file, and show the changes as a diff; end with status 1 if there are any",
-    )
-    parser.add_argument(
         "--wrap",
         type=positive,
         metavar="N",
         help="break lines of more than N characters between words",
-    )
-    parser.add_argument(
-        "--canonical",
-        action="store_true",
-        help=(
-            "write the canonical form, one word on each line and no comments, if only blanks change"
-        ),
     )
     parser.add_argument(
         "--allow",
@@ -65,6 +49,19 @@ def add(parser: Parser) -> None:
             "with --canonical: allow these losses, with commas between them:"
             f" {', '.join(sorted(REASONS))}"
         ),
+    )
+    add_flags(
+        parser,
+        {
+            "--check": "write nothing; end with status 1 if a file would change",
+            "--diff": (
+                "write no file, and show the changes as a diff; end with status 1 if there are any"
+            ),
+            "--canonical": (
+                "write the canonical form, one word on each line and no comments, if only blanks"
+                " change"
+            ),
+        },
     )
     add_jobs(parser)
     add_no_config(parser)

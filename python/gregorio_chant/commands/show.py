@@ -7,6 +7,7 @@ from gregorio_chant.commands.words import (
     OUTSIDE,
     Parser,
     add_files,
+    add_flags,
     add_no_config,
     epilog,
     positive,
@@ -47,9 +48,6 @@ def add(parser: Parser) -> None:
         ),
     )
     parser.add_argument(
-        "--svg", action="store_true", help="write only the picture of one score, as SVG"
-    )
-    parser.add_argument(
         "--width",
         type=positive,
         default=int(USUAL_WIDTH),
@@ -77,29 +75,20 @@ def add(parser: Parser) -> None:
             " greciliae.ttf"
         ),
     )
-    parser.add_argument(
-        "--no-initial",
-        action="store_true",
-        help="leave the first letter in the text, whatever initial-style says",
+    add_flags(
+        parser,
+        {
+            "--svg": "write only the picture of one score, as SVG",
+            "--no-initial": "leave the first letter in the text, whatever initial-style says",
+            "--no-messages": "leave out the messages, and the line about signs that are not drawn",
+            "--play": (
+                "let the page sing each score, with a script; a double click on a syllable begins"
+                " there"
+            ),
+            "--watch": "write the page again when a score changes, until Control-C ends it",
+            "--rules": "also try the rules",
+        },
     )
-    parser.add_argument(
-        "--no-messages",
-        action="store_true",
-        help="leave out the messages, and the line about signs that are not drawn",
-    )
-    parser.add_argument(
-        "--play",
-        action="store_true",
-        help=(
-            "let the page sing each score, with a script; a double click on a syllable begins there"
-        ),
-    )
-    parser.add_argument(
-        "--watch",
-        action="store_true",
-        help="write the page again when a score changes, until Control-C ends it",
-    )
-    parser.add_argument("--rules", action="store_true", help="also try the rules")
     add_no_config(parser)
 
 
@@ -109,41 +98,42 @@ def run(words: argparse.Namespace) -> int:
     if words.output is None and is_terminal():
         raise UsageError("a page is not for a terminal: write it into a file, as with -o page.html")
     try:
-        face = (
-            _face_of(words.font)
-            if words.font is not None
-            else OWN
-            if words.face == "plain"
-            else square_face()
-        )
+        face = _face(words)
     except OSError as error:
         tell(f"cannot read {printable(words.font)}: {reason_of(error)}")
         return CANNOT_READ_OR_WRITE
-
-    def options() -> showing.Options:
-        look = Look(
-            float(words.width),
-            face,
-            words.neumes,
-            has_initial=not words.no_initial,
-            has_notes=not words.no_messages,
-        )
-        return showing.Options(
-            **shared(words),
-            output=words.output,
-            svg=words.svg,
-            look=look,
-            with_messages=not words.no_messages,
-            sings=words.play,
-            with_rules=words.rules,
-        )
-
     if not words.watch:
-        return showing.show(options())
+        return showing.show(_options(words, face))
     need("show --watch", "watchdog")
     from gregorio_chant.show.watching import watch
 
-    return watch(options)
+    return watch(lambda: _options(words, face))
+
+
+def _options(words: argparse.Namespace, face: Face) -> showing.Options:
+    look = Look(
+        float(words.width),
+        face,
+        words.neumes,
+        has_initial=not words.no_initial,
+        has_notes=not words.no_messages,
+    )
+    return showing.Options(
+        **shared(words),
+        output=words.output,
+        svg=words.svg,
+        look=look,
+        with_messages=not words.no_messages,
+        sings=words.play,
+        with_rules=words.rules,
+    )
+
+
+def _face(words: argparse.Namespace) -> Face:
+    """Returns the outlines that are wanted. Raises `OSError` if a font cannot be read."""
+    if words.font is not None:
+        return _face_of(words.font)
+    return OWN if words.face == "plain" else square_face()
 
 
 def _face_of(font: str) -> Face:

@@ -5,7 +5,7 @@ import argparse
 import itertools
 import os
 import textwrap
-from collections.abc import Iterable, Sequence
+from collections.abc import Iterable, Mapping, Sequence
 from typing import TYPE_CHECKING, Any, NoReturn, Protocol, TypedDict
 
 from gregorio_chant.errors import UsageError
@@ -125,6 +125,12 @@ def add_paths(parser: Parser, more: str = "", with_staged: str = "") -> None:
     """Adds the arguments for files and folders, and `--staged`."""
     add_files(parser, more)
     parser.add_argument("--staged", action="store_true", help=f"{with_staged}{_STAGED}")
+
+
+def add_flags(parser: Parser, helps: Mapping[str, str]) -> None:
+    """Adds options that take no value, each with its help."""
+    for name, help in helps.items():
+        parser.add_argument(name, action="store_true", help=help)
 
 
 def add_jobs(parser: Parser) -> None:
