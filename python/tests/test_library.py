@@ -76,7 +76,8 @@ class Calls(unittest.TestCase):
         """All errors of the package have one base, also those that are of a kind of Python's."""
         found = set[type]()
         for it in pkgutil.walk_packages(gregorio_chant.__path__, "gregorio_chant."):
-            if it.name.endswith("__main__") or not has(_NEEDED.get(it.name, "re")):
+            is_module = not it.name.endswith(("__main__", "libgregorio"))
+            if not is_module or not has(_NEEDED.get(it.name, "re")):
                 continue
             module = importlib.import_module(it.name)
             found |= {

@@ -20,7 +20,7 @@ from itertools import islice
 from slips import SLIPS, Slip
 from support import files_of_scores
 
-from gregorio_chant import Format, Status, compile
+from gregorio_chant import Status, compile
 from gregorio_chant.dump import Score, ScoreError
 from gregorio_chant.linting.checking import found_in
 from gregorio_chant.linting.repairing import How, repair

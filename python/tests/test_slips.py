@@ -10,7 +10,6 @@ from gregorio_chant.linting.checking import found_in
 from gregorio_chant.linting.helps import helps_for
 from gregorio_chant.linting.repairing import How, repair
 from gregorio_chant.objects.compiled import Compiled
-from gregorio_chant.text.source import text_of
 
 
 def told_of(score: str) -> list[tuple[str, str]]:

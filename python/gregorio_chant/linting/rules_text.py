@@ -12,7 +12,6 @@ from gregorio_chant.linting.slips import ENTITY, MODES
 from gregorio_chant.objects.headers import Header
 from gregorio_chant.objects.items import Bar, Note
 from gregorio_chant.objects.syllables import Syllable
-from gregorio_chant.objects.written import begin_of_notes
 from gregorio_chant.text.nearest import nearest
 from gregorio_chant.text.vocabulary import HEADERS, OLD_HEADERS, SPECIALS
 
