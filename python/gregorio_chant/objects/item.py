@@ -4,7 +4,7 @@ from __future__ import annotations
 from typing import TYPE_CHECKING, cast
 
 from gregorio_chant._native.nodes import Node
-from gregorio_chant.objects.written import notes_before
+from gregorio_chant.objects.written import Shifts
 from gregorio_chant.text.source import Place, Source
 
 if TYPE_CHECKING:
@@ -78,7 +78,7 @@ class Item:
     def shift(self) -> int:
         """How many characters of the canonical text stand between the `(` of its syllable and
         it."""
-        return len(notes_before(self.syllable, self._bytes[0]))
+        return Shifts(self.syllable).before(self.begin)
 
     def offset_of(self, index: int) -> int:
         """Returns how many characters stand in the file before the character `index`, from 0, of

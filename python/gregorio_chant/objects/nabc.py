@@ -112,7 +112,13 @@ class Descriptor(Item):
     @property
     def names(self) -> tuple[str, ...]:
         """The names of its codes."""
-        return tuple(it.name for it in self.glyphs)
+        tree = self._score.tree
+        codes = [
+            bytes(tree.narrow[10 * it + 7 : 10 * it + 9]).decode("ascii")
+            for it in tree.children(self._number)
+            if tree.kinds[it] == NodeKind.NABC_GLYPH
+        ]
+        return tuple([NABC_NAMES.get(it, it) for it in codes])
 
     @property
     def parts(self) -> tuple[Part, ...]:

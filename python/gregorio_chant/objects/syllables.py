@@ -64,7 +64,11 @@ _OUTSIDE = (Bar, Clef, Custos, Break)
 class Glyph(Item):
     """A neume of the notes; its spelling goes from the first note to the last."""
 
-    __slots__ = ()
+    __slots__ = ("_notes",)
+
+    def __init__(self, score: Reading, number: int) -> None:
+        super().__init__(score, number)
+        self._notes: tuple[Note, ...] | None = None
 
     @property
     def kind(self) -> str:
@@ -76,9 +80,9 @@ class Glyph(Item):
 
     @property
     def notes(self) -> tuple[Note, ...]:
-        tree = self._score.tree
-        inner = tree.children(self._number)
-        return tuple(Note(self._score, it) for it in inner if tree.kinds[it] == NodeKind.NOTE)
+        if self._notes is None:
+            self._notes = tuple(self._score.notes_in(self._number, self.node.past))
+        return self._notes
 
 
 class Element(Item):
@@ -109,12 +113,18 @@ class Element(Item):
 class _Snippet(Item):
     """A snippet."""
 
-    __slots__ = ()
+    __slots__ = ("_items",)
+
+    def __init__(self, score: Reading, number: int) -> None:
+        super().__init__(score, number)
+        self._items: tuple[Item, ...] | None = None
 
     @property
     def items(self) -> tuple[Item, ...]:
         """All its items, in order."""
-        return tuple(self._score.items_in(self._number))
+        if self._items is None:
+            self._items = tuple(self._score.items_in(self._number))
+        return self._items
 
     @property
     def _bytes(self) -> tuple[int, int]:
@@ -164,6 +174,12 @@ class NabcSnippet(_Snippet):
 Snippet = Union[NoteSnippet, NabcSnippet]
 
 
+def _snippet(score: Reading, number: int) -> Snippet:
+    """Returns the snippet that this node is: of NABC if it has a line."""
+    has_line = score.tree.narrow[10 * number + 7]
+    return NabcSnippet(score, number) if has_line else NoteSnippet(score, number)
+
+
 def item_of(score: Reading, number: int) -> Item | None:
     """Returns what the node `number` of a snippet is, if it is an item."""
     item = _CLASSES.get(score.tree.kinds[number])
@@ -173,12 +189,13 @@ def item_of(score: Reading, number: int) -> Item | None:
 class Syllable(Item):
     """A syllable."""
 
-    __slots__ = ("number",)
+    __slots__ = ("_snippets", "number")
 
     def __init__(self, score: Reading, node: int, number: int) -> None:
         super().__init__(score, node)
         # Its number in the score, from 1.
         self.number = number
+        self._snippets: tuple[Snippet, ...] | None = None
 
     @property
     def syllable(self) -> Syllable:
@@ -232,17 +249,16 @@ class Syllable(Item):
 
     @property
     def snippets(self) -> tuple[Snippet, ...]:
-        narrow = self._score.tree.narrow
-        return tuple(
-            NabcSnippet(self._score, it) if narrow[10 * it + 7] else NoteSnippet(self._score, it)
-            for it in self._score.snippets_in(self._number)
-        )
+        if self._snippets is None:
+            numbers = self._score.snippets_in(self._number)
+            self._snippets = tuple(_snippet(self._score, it) for it in numbers)
+        return self._snippets
 
     @property
     def items(self) -> tuple[Item, ...]:
         """The items of all its snippets of notes."""
         notes = (it for it in self.snippets if isinstance(it, NoteSnippet))
-        return tuple(item for it in notes for item in self._score.items_in(it._number))
+        return tuple(item for it in notes for item in it.items)
 
     @property
     def notes(self) -> tuple[Note, ...]:

@@ -5,6 +5,7 @@ from array import array
 from typing import TYPE_CHECKING
 
 from gregorio_chant._native.node_kinds import NodeKind
+from gregorio_chant._native.nodes import NOT_KEPT_PATTERN
 from gregorio_chant.text.source import Lines, Place
 
 if TYPE_CHECKING:
@@ -33,11 +34,25 @@ def begin_of_notes(syllable: Syllable) -> int:
     return node.end if first < 0 else node.tree.wide[5 * first]
 
 
-def notes_before(syllable: Syllable, byte: int) -> str:
-    """Returns the canonical text of the notes of a syllable that stand before a byte of the
-    file."""
-    node = syllable.node
-    return node.tree.kept_text(node.number + 1, node.past, begin_of_notes(syllable), byte)
+class Shifts:
+    """How many characters of the canonical text stand between the `(` of a syllable and what
+    stands in its notes."""
+
+    def __init__(self, syllable: Syllable) -> None:
+        node = syllable.node
+        kinds = node.tree.kinds
+        self._tree, self._past = node.tree, node.past
+        self._first = max(kinds.find(NodeKind.SNIPPET, node.number, node.past), node.number)
+        self._begin = begin_of_notes(syllable)
+        left_out = NOT_KEPT_PATTERN.search(kinds, self._first, self._past)
+        notes = node.tree.source[self._begin : node.end]
+        self._is_plain = left_out is None and notes.isascii()
+
+    def before(self, byte: int) -> int:
+        """Returns this for what begins at a byte of the file."""
+        if self._is_plain:
+            return byte - self._begin
+        return len(self._tree.kept_text(self._first, self._past, self._begin, byte))
 
 
 class Written:

@@ -5,6 +5,7 @@ from __future__ import annotations
 from collections.abc import Iterable, Iterator, Sequence
 from functools import cached_property
 
+from gregorio_chant._native.node_kinds import NodeKind
 from gregorio_chant.objects.item import Item
 from gregorio_chant.objects.items import (
     Alteration,
@@ -18,7 +19,7 @@ from gregorio_chant.objects.items import (
     Space,
 )
 from gregorio_chant.objects.syllables import Glyph, NabcSnippet, NoteSnippet, Syllable
-from gregorio_chant.objects.written import notes_of
+from gregorio_chant.objects.written import Shifts
 from gregorio_chant.picture import staff
 from gregorio_chant.picture.attributes import At, add_attributes
 from gregorio_chant.picture.episemata import Neume, add_signs
@@ -66,9 +67,12 @@ class _Writer:
     """Writes the blocks of one snippet of notes on a staff of `lines` lines; `following` is the
     pitch that comes after it."""
 
-    def __init__(self, snippet: NoteSnippet, lines: int, following: str | None, face: Face) -> None:
+    def __init__(
+        self, snippet: NoteSnippet, lines: int, following: str | None, face: Face, shifts: Shifts
+    ) -> None:
         self._glyphs: dict[Item, Glyph] = {it.notes[0]: it for it in snippet.glyphs}
-        self._snippet, self._lines, self._face = snippet, lines, face
+        self.items = snippet.items
+        self._lines, self._face, self._shifts = lines, face, shifts
         self._following = following
         self.blocks: list[Block] = []
         self._neumes: list[Neume] = []
@@ -95,7 +99,7 @@ class _Writer:
                 self._fused = self._last
         elif isinstance(item, Break):
             if not self.blocks:
-                self._put(Block(item.shift, (), 0.0))
+                self._put(Block(self._shifts.before(item.begin), (), 0.0))
             self.blocks[-1].ends_line = item
         elif isinstance(item, (Clef, Alteration, Bar, Custos)):
             self._add_sign(item)
@@ -113,7 +117,8 @@ class _Writer:
             self._has_space = True
 
     def _add_neume(self, glyph: Glyph) -> None:
-        first, last = glyph.notes[0], glyph.notes[-1]
+        notes = glyph.notes
+        first, last = notes[0], notes[-1]
         drawn = _drawn(
             glyph, self._lines, self._face, self._pitches[last] if has_oriscus(glyph) else None
         )
@@ -124,20 +129,27 @@ class _Writer:
                 *signs,
             )
         self._put(
-            Block(glyph.shift, signs, drawn.width, SPACES.after_neume, drawn.anchor, first.pitch)
+            Block(
+                self._shifts.before(glyph.begin),
+                signs,
+                drawn.width,
+                SPACES.after_neume,
+                drawn.anchor,
+                first.pitch,
+            )
         )
         self.blocks[-1].heads = tuple([(it.x, it.y, it.width) for it in drawn.heads])
         self._neumes.append(
             Neume(
                 self.blocks[-1],
-                tuple(it._replace(note=note) for it, note in zip(drawn.heads, glyph.notes)),
+                tuple(it._replace(note=note) for it, note in zip(drawn.heads, notes)),
             )
         )
         self._fused, self._last = None, last
 
     def finish(self) -> list[Block]:
         """Adds the signs that depend on several neumes, and returns the blocks."""
-        covered = episemata_of(self._snippet.items)
+        covered = episemata_of(self.items)
         if covered or any(head.note.ictus for it in self._neumes for head in it.heads):
             add_signs(self._neumes, covered)
         if self._attributes:
@@ -158,7 +170,7 @@ class _Writer:
         its own."""
         pitches: dict[Item, str | None] = {}
         after, other = self._following, None
-        for item in reversed(self._snippet.items):
+        for item in reversed(self.items):
             pitches[item] = after
             if isinstance(item, Note):
                 if item.pitch == after:
@@ -168,7 +180,7 @@ class _Writer:
         return pitches
 
     def _add_sign(self, item: Clef | Alteration | Bar | Custos) -> None:
-        offset = item.shift
+        offset = self._shifts.before(item.begin)
         if isinstance(item, Clef):
             signs, width = staff.clef(item, self._face.shapes)
             self._put(Block(offset, signs, width, SPACES.after_clef, clef=item))
@@ -189,22 +201,22 @@ def _join(before: float, here: float) -> Rect:
 
 
 def _blocks_of_notes(
-    snippet: NoteSnippet, lines: int, following: str | None, face: Face
+    snippet: NoteSnippet, lines: int, following: str | None, face: Face, shifts: Shifts
 ) -> list[Block]:
-    writer = _Writer(snippet, lines, following, face)
-    for item in snippet.items:
+    writer = _Writer(snippet, lines, following, face, shifts)
+    for item in writer.items:
         writer.add(item)
     return writer.finish()
 
 
 def _with_nabc(
-    blocks: list[Block], snippets: list[NabcSnippet], offset: int, hand: Hand
+    blocks: list[Block], snippets: list[NabcSnippet], shifts: Shifts, hand: Hand
 ) -> list[Block]:
     """Returns the blocks of a snippet of notes with the NABC above it, and as wide as that."""
     rows = tuple(neumes_of(it, hand) for it in snippets if it.spelling.strip())
     if not rows:
         return blocks
-    blocks = blocks or [Block(offset, (), 0.0)]
+    blocks = blocks or [Block(shifts.before(snippets[0].begin), (), 0.0)]
     taken = sum(it.width + it.after for it in blocks) - blocks[-1].after
     lacking = max(it.width for it in rows) + SPACES.between_neumes - taken
     blocks[0].neumes = rows
@@ -217,9 +229,9 @@ def blocks_of(
 ) -> list[Block]:
     """Returns the blocks of a syllable, with the NABC in this hand; `following` is the first pitch
     after it."""
-    snippets = syllable.snippets
+    snippets, shifts = syllable.snippets, Shifts(syllable)
     if len(snippets) == 1 and isinstance(snippets[0], NoteSnippet):
-        return _blocks_of_notes(snippets[0], lines, following, face)
+        return _blocks_of_notes(snippets[0], lines, following, face, shifts)
     blocks: list[Block] = []
     nabc: list[NabcSnippet] = []
     group: list[Block] = []
@@ -228,19 +240,16 @@ def blocks_of(
         if isinstance(snippet, NabcSnippet):
             nabc.append(snippet)
             continue
-        blocks += _with_nabc(group, nabc, snippet.shift, hand)
-        nabc, group = [], _blocks_of_notes(snippet, lines, after[at], face)
-    return blocks + _with_nabc(group, nabc, len(notes_of(syllable)), hand)
+        blocks += _with_nabc(group, nabc, shifts, hand)
+        nabc, group = [], _blocks_of_notes(snippet, lines, after[at], face, shifts)
+    return blocks + _with_nabc(group, nabc, shifts, hand)
 
 
-def first_pitch(snippets: Sequence[NoteSnippet | NabcSnippet]) -> str | None:
-    """Returns the first pitch of some snippets, if they have one."""
-    for snippet in snippets:
-        if isinstance(snippet, NoteSnippet):
-            for it in snippet.items:
-                if isinstance(it, Note):
-                    return it.pitch
-    return None
+def first_pitch(item: Syllable | NoteSnippet | NabcSnippet) -> str | None:
+    """Returns the first pitch of a syllable or a snippet, if it has one."""
+    node = item.node
+    number = node.tree.kinds.find(NodeKind.NOTE, node.number, node.past)
+    return None if number < 0 else Note(item.score, number).pitch
 
 
 def _pitches_after(
@@ -250,7 +259,7 @@ def _pitches_after(
     pitches: list[str | None] = []
     for snippet in reversed(snippets):
         pitches.append(following)
-        following = first_pitch((snippet,)) or following
+        following = first_pitch(snippet) or following
     return pitches[::-1]
 
 

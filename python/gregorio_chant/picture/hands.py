@@ -47,11 +47,12 @@ PLAIN = Hand()
 def neumes_of(snippet: NabcSnippet, hand: Hand) -> Neumes:
     """Returns a snippet of NABC as neumes of a hand, with the names of its descriptors as a title;
     as its text if the hand lacks one of them."""
-    title = " ".join("!".join(it.names) for it in snippet.items if isinstance(it, Descriptor))
+    items = snippet.items
+    title = " ".join("!".join(it.names) for it in items if isinstance(it, Descriptor))
     text = shown(snippet.spelling)
     signs: list[Use] = []
     x = 0.0
-    for it in snippet.items:
+    for it in items:
         if isinstance(it, Space):
             x += _SPACES.get(it.spelling, 0.0)
         elif isinstance(it, Descriptor):

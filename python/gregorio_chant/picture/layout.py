@@ -5,6 +5,7 @@ import itertools
 from collections.abc import Iterable, Iterator
 from dataclasses import dataclass
 
+from gregorio_chant._native.node_kinds import NodeKind
 from gregorio_chant.objects.items import Attribute
 from gregorio_chant.objects.syllables import Syllable
 from gregorio_chant.picture.attributes import is_drawn
@@ -36,7 +37,7 @@ def _with_pitches(syllables: Iterable[Syllable]) -> Iterator[tuple[Syllable, str
     waiting: list[Syllable] = []
     for syllable in syllables:
         if waiting:
-            pitch = first_pitch(syllable.snippets)
+            pitch = first_pitch(syllable)
             if pitch is not None:
                 for it in waiting:
                     yield it, pitch
@@ -79,7 +80,8 @@ class Layout:
         maker = PartMaker(self.staff, self._room, self.face, self.hand, self.language)
         for syllable, pitch in _with_pitches(self.syllables):
             parts, text = maker.parts_of(syllable, pitch)
-            if "[" in syllable.spelling:
+            node = syllable.node
+            if node.tree.kinds.find(NodeKind.ATTRIBUTE, node.number, node.past) >= 0:
                 self.attributes += sum(
                     isinstance(it, Attribute) and not is_drawn(it) for it in syllable.items
                 )

@@ -8,7 +8,7 @@ from dataclasses import dataclass, field
 from gregorio_chant._native.node_kinds import NodeKind
 from gregorio_chant._native.results import Kind, Message
 from gregorio_chant.objects.score import Score
-from gregorio_chant.objects.written import begin_of_notes, notes_before
+from gregorio_chant.objects.written import Shifts, begin_of_notes
 
 # What stands before all notes of a syllable: its text.
 _TEXT = -1
@@ -39,7 +39,7 @@ def _mark_of(score: Score, number: int, at: int, message: Message, byte: int) ->
     syllable = score.syllables[number]
     if byte < begin_of_notes(syllable):
         return Mark(at, message)
-    return Mark(at, message, len(notes_before(syllable, byte)))
+    return Mark(at, message, Shifts(syllable).before(byte))
 
 
 def places_of(score: Score | None, messages: Sequence[Message]) -> Places:

@@ -7,6 +7,7 @@ from typing import NamedTuple
 
 from gregorio_chant.objects.items import Break, Clef
 from gregorio_chant.objects.syllables import Syllable
+from gregorio_chant.objects.written import notes_of
 from gregorio_chant.picture.attributes import ABOVE_SIZE
 from gregorio_chant.picture.blocks import blocks_of
 from gregorio_chant.picture.faces import OWN, Face
@@ -207,11 +208,9 @@ class PartMaker:
         return parts, text
 
     def _rows_of(self, syllable: Syllable, following: str | None) -> list[_Row]:
-        """Returns the notes of a syllable in rows. Those of one snippet depend on its spelling and
-        on the pitch after it."""
-        if len(syllable.snippets) != 1:
-            return self._made(syllable, following)
-        key = syllable.snippets[0].spelling, following
+        """Returns the notes of a syllable in rows. They depend on their spelling and on the pitch
+        after them."""
+        key = notes_of(syllable), following
         rows = self._kept.get(key)
         if rows is None:
             if len(self._kept) >= _MOST_KEPT:
