@@ -114,7 +114,7 @@ class Descriptor(Item):
         """The names of its codes."""
         tree = self._score.tree
         codes = [
-            bytes(tree.narrow[10 * it + 7 : 10 * it + 9]).decode("ascii")
+            "".join(map(chr, tree.narrow[10 * it + 7 : 10 * it + 9]))
             for it in tree.children(self._number)
             if tree.kinds[it] == NodeKind.NABC_GLYPH
         ]
