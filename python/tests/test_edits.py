@@ -2,9 +2,11 @@
 reads the rest as it is meant."""
 from __future__ import annotations
 
+import os
 import unittest
 from collections import Counter
 from collections.abc import Callable, Iterator
+from pathlib import Path
 
 from support import ROOT, has, scores_of_tables
 
@@ -28,8 +30,11 @@ SCORE = (
 
 
 def files() -> Iterator[bytes]:
-    for file in sorted(ROOT.glob("examples/*.gabc")):
-        yield file.read_bytes()
+    """Yields the example scores, and those of the folder that GREGORIO_FOLDER names."""
+    folders = [ROOT / "examples", *map(Path, filter(None, [os.environ.get("GREGORIO_FOLDER")]))]
+    for folder in folders:
+        for file in sorted(folder.glob("*.gabc")):
+            yield file.read_bytes()
 
 
 def objects(score: Score) -> Iterator[Item]:
@@ -68,44 +73,38 @@ class Everywhere(unittest.TestCase):
         return None
 
     def test_each_object(self) -> None:
-        """Each object is written again, removed, and doubled."""
+        """Each object is written again, removed, and doubled before and after itself."""
         told: Counter[str] = Counter()
         for data in files():
             score = Score.parse(data)
-            for it in list(objects(score))[::6]:
-                at, end, same = it.source.place.offset, it.source.end, it.spelling
-                before, after = score.text[:at], score.text[end:]
-                self.assertIsNone(
-                    self.look_at(
-                        score,
-                        it,
-                        lambda to: to.replace(it, same),
-                        before + same + after,
-                        score.canonical,
-                    ),
-                    it,
-                )
-                if it not in score.headers:
-                    reason = self.look_at(
-                        score,
-                        it,
-                        lambda to: to.remove(it),
-                        before + after,
-                        edited_canonical(score, it, ""),
-                    )
-                    told[f"remove: {reason}" if reason is None else "remove: refused"] += 1
-                doubled = edited_canonical(score, it, same + same)
-                reason = self.look_at(
-                    score,
-                    it,
-                    lambda to: to.insert(it, same),
-                    before + same + score.text[at:],
-                    doubled,
-                )
-                told[f"insert: {reason}" if reason is None else "insert: refused"] += 1
-        self.assertGreater(told["remove: None"], 4 * told["remove: refused"])
-        self.assertGreater(told["insert: None"], 4 * told["insert: refused"])
-        self.assertGreater(told["remove: None"], 80)
+            if not score.is_whole:
+                continue
+            for it in objects(score):
+                for what, reason in self.edits(score, it):
+                    told[what if reason is None else f"{what}, refused"] += 1
+        self.assertGreater(told["replace"], 100 * told["replace, refused"], told)
+        for what in ("remove", "before", "after"):
+            self.assertGreater(told[what], 4 * told[f"{what}, refused"], told)
+            self.assertGreater(told[what], 500)
+
+    def edits(self, score: Score, it: Item) -> Iterator[tuple[str, str | None]]:
+        """Makes each edit of an object, and yields what it is and why it is refused, if it is."""
+        at, end, same = it.source.place.offset, it.source.end, it.spelling
+        before, after = score.text[:at], score.text[end:]
+        new = before + same + after
+        found = self.look_at(score, it, lambda to: to.replace(it, same), new, score.canonical)
+        yield "replace", found
+        if it not in score.headers:
+            less = edited_canonical(score, it, "")
+            found = self.look_at(score, it, lambda to: to.remove(it), before + after, less)
+            yield "remove", found
+            more = score.text[:end] + same + after
+            twice = edited_canonical(score, it, same + same)
+            found = self.look_at(score, it, lambda to: to.insert(it, same, after=True), more, twice)
+            yield "after", found
+        twice = edited_canonical(score, it, same + same)
+        more = before + same + score.text[at:]
+        yield "before", self.look_at(score, it, lambda to: to.insert(it, same), more, twice)
 
     def test_up_and_down(self) -> None:
         """A score that was moved up and down again is what it was, or a note has no room."""

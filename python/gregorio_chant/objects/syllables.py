@@ -21,7 +21,7 @@ from gregorio_chant.objects.items import (
 from gregorio_chant.objects.nabc import Descriptor
 from gregorio_chant.objects.texts import Piece, letters_of, pieces_of, written_text
 from gregorio_chant.objects.written import notes_of, text_of
-from gregorio_chant.text.source import Place
+from gregorio_chant.text.source import Place, Source
 
 if TYPE_CHECKING:
     from gregorio_chant.objects.passages import Word
@@ -189,13 +189,14 @@ def item_of(score: Reading, number: int) -> Item | None:
 class Syllable(Item):
     """A syllable."""
 
-    __slots__ = ("_snippets", "number")
+    __slots__ = ("_snippets", "_source", "number")
 
     def __init__(self, score: Reading, node: int, number: int) -> None:
         super().__init__(score, node)
         # Its number in the score, from 1.
         self.number = number
         self._snippets: tuple[Snippet, ...] | None = None
+        self._source: Source | None = None
 
     @property
     def syllable(self) -> Syllable:
@@ -272,6 +273,13 @@ class Syllable(Item):
     def spelling(self) -> str:
         """Its canonical text, with that of its notes."""
         return f"{text_of(self)}({notes_of(self)})"
+
+    @property
+    def source(self) -> Source:
+        """Its place in the file that was read, and its text there."""
+        if self._source is None:
+            self._source = super().source
+        return self._source
 
     @property
     def place(self) -> Place:

@@ -116,7 +116,8 @@ def _look_at_rest(old: Score, new: Score, moved: _Moved) -> None:
     _look_at_items(old.headers, new.headers, moved)
     there = _look_at_items(old.syllables, new.syllables, moved)
     for it in new.syllables:
-        if it.source.place.offset not in there and not moved.change_of(it.source.place.offset):
+        at = it.source.place.offset
+        if at not in there and not moved.change_of(at):
             raise EditError(
                 moved.changes[0].source,
                 f"with it {it.source} of the new file would be read otherwise",
