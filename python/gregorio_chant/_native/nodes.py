@@ -208,14 +208,15 @@ class Tree:
         """Yields the numbers of the nodes of these kinds, in order."""
         return (it.start() for it in kinds_pattern(*kinds).finditer(self.kinds))
 
-    def said_but_of(self, kinds: Collection[NodeKind]) -> Iterator[memoryview]:
-        """Yields what each node says that is of none of these kinds, in order: its kind and its
-        three numbers, in the machine's order of bytes."""
-        return (
-            self.records[RECORD * number + 2 * _KIND : RECORD * (number + 1)]
-            for number, kind in enumerate(self.kinds)
-            if kind not in kinds
-        )
+    def said_but_of(self, kinds: Collection[NodeKind]) -> Iterator[bytes]:
+        """Yields the kinds of all nodes that are of none of these kinds, then their first numbers,
+        their second and their third ones, in order."""
+        others = re.compile(b"[^%s]+" % re.escape(bytes(kinds)))
+        runs = [it.span() for it in others.finditer(self.kinds)]
+        yield b"".join([self.kinds[first:past] for first, past in runs])
+        for number in range(1, 4):
+            column = self.narrow[_KIND + number :: _NARROW].tobytes()
+            yield b"".join([column[2 * first : 2 * past] for first, past in runs])
 
     def children(self, number: int) -> Iterator[int]:
         """Yields the numbers of the nodes that lie directly in the node `number`, in order."""

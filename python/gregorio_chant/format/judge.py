@@ -8,7 +8,6 @@ from __future__ import annotations
 import hashlib
 from collections.abc import Callable, Iterable, Iterator
 from dataclasses import dataclass, fields
-from itertools import islice
 
 from gregorio_chant._native.node_kinds import NodeKind
 from gregorio_chant._native.nodes import Tree
@@ -16,7 +15,6 @@ from gregorio_chant._native.results import Message
 from gregorio_chant.format.parts import BLANKS, COMMENTS
 from gregorio_chant.objects.compiled import Compiled
 
-_AT_ONCE = 1024
 # In the tree only these nodes may differ: what comments say is compared by itself, and what the
 # others say is in the canonical text.
 _SPELLED = frozenset(
@@ -67,11 +65,11 @@ def _letters(tree: Tree) -> Iterator[bytes]:
     yield tree.source[at:].translate(None, BLANKS)
 
 
-def _digest(texts: Iterable[bytes | memoryview]) -> bytes:
-    """Returns a digest of the texts one after the other, of which few are held at once."""
-    found, them = hashlib.sha256(), iter(texts)
-    while some := b"".join(islice(them, _AT_ONCE)):
-        found.update(some)
+def _digest(texts: Iterable[bytes]) -> bytes:
+    """Returns a digest of the texts one after the other."""
+    found = hashlib.sha256()
+    for it in texts:
+        found.update(it)
     return found.digest()
 
 

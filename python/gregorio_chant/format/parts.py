@@ -13,6 +13,7 @@ from functools import cached_property
 
 from gregorio_chant._native.node_kinds import NodeKind
 from gregorio_chant._native.nodes import Node, Tree
+from gregorio_chant._native.trees import tree
 from gregorio_chant.objects.compiled import Compiled
 
 BLANKS = b" \t\n\r"
@@ -77,9 +78,10 @@ class _Written:
     def headers(self) -> dict[int, Node]:
         """Returns the header that is written for each header of the score, unless all are spelled
         so already."""
-        if self._score.data.startswith(self._text[: self._at]):
+        text = self._text[: self._at]
+        if self._score.data.startswith(text):
             return {}
-        return header_pairs(self._score.tree, self._score.written)
+        return header_pairs(self._score.tree, tree(text))
 
     def next(self, before: bytes) -> Node | None:
         """Passes a syllable that is spelled so in the score, and returns what is written of it if

@@ -60,6 +60,13 @@ class Compiled:
     def __init__(self, data: bytes, limits: Limits | None = None) -> None:
         self.data, self._limits = data, limits
 
+    @classmethod
+    def written_of(cls, data: bytes) -> Compiled:
+        """Compiles a score whose canonical text is wanted, and not its messages alone."""
+        compiled = cls(data)
+        compiled._result
+        return compiled
+
     @cached_property
     def tree(self) -> Tree:
         """Its tree, under the usual limits. Raises `TooLong` above `MOST_BYTES`."""
