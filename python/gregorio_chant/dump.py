@@ -22,7 +22,7 @@ from gregorio_chant.objects.left_out import LeftOut
 from gregorio_chant.objects.nabc import Descriptor, NabcGlyph, NabcLetters, NabcPart, NabcPoints
 from gregorio_chant.objects.passages import Phrase, Word
 from gregorio_chant.objects.reading import ScoreError
-from gregorio_chant.objects.score import Score
+from gregorio_chant.objects.score import NO_STEP, Score
 from gregorio_chant.objects.syllables import (
     Element,
     Glyph,
@@ -34,6 +34,7 @@ from gregorio_chant.objects.syllables import (
 from gregorio_chant.text.source import Place, Source
 
 __all__ = [
+    "NO_STEP",
     "Alteration",
     "Attribute",
     "Bar",

@@ -8,7 +8,7 @@ import re
 import subprocess
 import sys
 import unittest
-from dataclasses import fields
+from dataclasses import fields, is_dataclass
 from pathlib import Path
 
 from pages import block
@@ -16,14 +16,29 @@ from support import ROOT, SCORE, InFolder, command, has
 
 from gregorio_chant import dump
 from gregorio_chant.commands.main import COMMANDS
+from gregorio_chant.dump import Item
 from gregorio_chant.linting.codes import CODES
 from gregorio_chant.linting.rules import RULES
+from gregorio_chant.objects.reading import Reading
 from gregorio_chant.work.keys import FORMAT, FORMAT_KEYS, KEYS
 from gregorio_chant.work.settings import Finder, Settings
 
 PAGE = (ROOT / "docs" / "PYTHON.md").read_text(encoding="utf-8")
 OBJECTS = (ROOT / "docs" / "OBJECTS.md").read_text(encoding="utf-8")
 README = (ROOT / "README.md").read_text(encoding="utf-8")
+
+
+# What each object has, and what the package alone asks for.
+_INNER = {*dir(Item), "pieces", "repeats", "parse", "signs"}
+
+
+def public_names(its: type) -> set[str]:
+    """Returns the names that a class has for its users, but for those of what all are."""
+    names = {it.name for it in fields(its)} if is_dataclass(its) else set()
+    for it in its.__mro__:
+        if it not in (Reading, object):
+            names |= vars(it).keys()
+    return {it for it in names if it[0] != "_"}
 
 
 class Documents(InFolder):
@@ -118,7 +133,6 @@ class Documents(InFolder):
             for name in re.findall(r"\w+", names)
         }
         told = {it for it in dump.__all__ if isinstance(getattr(dump, it), type)} - {
-            "DumpError",
             "EditError",
             "Edited",
             "ScoreError",
@@ -126,18 +140,14 @@ class Documents(InFolder):
             "Place",
         }
         self.assertEqual(set(rows), told)
+        signs = OBJECTS.partition("## Signs\n")[2].partition("\n## ")[0]
+        rows["Note"] += " ".join(re.findall(r"^\| (`.*?`) \|", signs, re.MULTILINE))
         for name, row in rows.items():
             its = getattr(dump, name)
             words = set(re.findall(r"`([a-z]\w*)[`(]", row)) - {"z0", "h", "su", "pp", "ls", "lt"}
-            self.assertLessEqual(
-                {it.name for it in fields(its) if it.name[0] != "_"} - {"place", "spelling"},
-                words,
-                name,
-            )
+            self.assertLessEqual(public_names(its) - _INNER, words, name)
             for word in words:
-                self.assertTrue(
-                    hasattr(its, word) or word in {it.name for it in fields(its)}, f"{name}.{word}"
-                )
+                self.assertTrue(hasattr(its, word) or word in public_names(its), f"{name}.{word}")
 
     def test_rules(self) -> None:
         """The pages of rules and of settings are what is printed from their tables."""

@@ -58,6 +58,11 @@ class Compiled:
     messages, under these limits if they are given."""
 
     def __init__(self, data: bytes, limits: Limits | None = None) -> None:
+        """Takes a score, and limits that are no wider than the usual ones. Raises `ValueError` for
+        wider ones of the headers or of a syllable."""
+        usual = Limits()
+        if limits and (limits.header > usual.header or limits.syllable > usual.syllable):
+            raise ValueError("limits out of range: a tree is made under the usual ones")
         self.data, self._limits = data, limits
 
     @classmethod

@@ -27,7 +27,7 @@ def hover(document: Document, params: Params) -> Json:
     one example. It is in markdown if the editor shows that."""
     at = document.text.offset(params["position"].position())
     parts = [it for it in (_header_at(document, at), _tag_at(document, at)) if it is not None]
-    if document.compiled.fault is None:
+    if document.compiled.has_score:
         parts += _items_at(document, at)
     with_marks = document.file.takes_markdown
     told = [
@@ -96,9 +96,10 @@ def _items_at(document: Document, offset: int) -> Iterator[_Told]:
     """Yields what is said of the note, clef, bar or descriptor at this place of a score."""
     number = document.parts.number_at(offset)
     byte = document.compiled.tree.places.byte(offset)
-    if number is None:
+    syllables = document.score.syllables
+    if number is None or number >= len(syllables):
         return
-    syllable = document.score.syllables[number]
+    syllable = syllables[number]
     for snippet in syllable.snippets:
         for item in snippet.items:
             if item.begin <= byte < item.node.end:
