@@ -11,3 +11,6 @@ commit_line() {
 
 # What the kit says of itself.
 kit_line() { echo "kit $(rt version 2>/dev/null || echo 'rattle-kit unknown')"; }
+
+# Whether the page $1 is there, and is of the commit that the file BUILD $2 names.
+is_page_current() { grep -q -x -F "<meta name=\"build\" content=\"$(head -n 1 -- "$2")\">" "$1" 2>/dev/null; }

@@ -1,5 +1,6 @@
 /* Writes a table of what the library answers for the inputs of tables, in both formats, with warnings and without: for each as it is, and with some bytes
- * changed at random. It has the columns of the tables that it reads, for a trial of the library as another compiler makes it.
+ * changed at random. It has the columns of the tables that it reads, and beside canonical GABC the tree: the numbers of each node. For a trial of the
+ * library as another compiler makes it.
  *
  * Usage: both_formats TABLE.. */
 #include <stdlib.h>
@@ -42,6 +43,16 @@ static void write_column(const uint8_t *bytes, size_t length) {
   }
 }
 
+static void write_tree(const struct text *input) {
+  size_t room = 4 * input->length + 16, count = 0;
+  struct gregorio_node *nodes = malloc(room * sizeof *nodes);
+  if (!nodes || gregorio_tree(input->bytes, input->length, NULL, 0, nodes, room, &count) != GREGORIO_WHOLE || count > room) exit(2);
+  for (const struct gregorio_node *it = nodes; it < nodes + count; it++) {
+    printf("%c%u %u %u %u %u %u %u", it == nodes ? '\t' : ',', it->begin, it->end, it->inner, it->kind, it->a, it->b, it->c);
+  }
+  free(nodes);
+}
+
 static void write_row(const struct text *input, uint32_t format, uint32_t flags) {
   size_t room = 200 * input->length + 4096;
   uint8_t *output = malloc(room), *messages = malloc(room);
@@ -54,7 +65,9 @@ static void write_row(const struct text *input, uint32_t format, uint32_t flags)
   write_column(output, lengths.output);
   putchar('\t');
   write_column(messages, lengths.messages);
-  printf("\t%u\n", (unsigned)status);
+  printf("\t%u", (unsigned)status);
+  if (format == GREGORIO_GABC) write_tree(input);
+  putchar('\n');
   free(output);
   free(messages);
 }

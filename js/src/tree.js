@@ -88,13 +88,12 @@ export class Tree {
   }
 }
 
-/** Reads `score`, and returns its tree. */
-export function tree(library, score) {
-  const bytes = bytesOfScore(score);
-  const records = library.within((rooms, calls) => {
+/** Returns the records of the tree of a score. */
+export function recordsOf(library, score) {
+  return library.within((rooms, calls) => {
     const key = library.newKey();
-    const told = [...rooms.put(bytes), rooms.put(key)[0], BigInt(key.length / 8)];
-    const size = RECORD * (LEAST + Math.ceil((TIMES * bytes.length) / 4));
+    const told = [...rooms.put(score), rooms.put(key)[0], BigInt(key.length / 8)];
+    const size = RECORD * (LEAST + Math.ceil((TIMES * score.length) / 4));
     const [, [[at, length]]] = rooms.fit(
       [size],
       ([[at, room]], count) => withMemory(calls.gregorio_tree(...told, at, room / BigInt(RECORD), count)),
@@ -102,5 +101,10 @@ export function tree(library, score) {
     );
     return rooms.view(at, length).slice();
   });
-  return new Tree(bytes.slice(), records);
+}
+
+/** Reads `score`, and returns its tree. */
+export function tree(library, score) {
+  const bytes = bytesOfScore(score);
+  return new Tree(bytes.slice(), recordsOf(library, bytes));
 }

@@ -1,26 +1,27 @@
-// Makes the runs of the tables in headless Chromium, in a page and in a worker of it, under a policy that allows no more than the package needs.
+// Makes the runs of the tables, and their trees, in Chromium and in Firefox, in a page and in a worker of it, under a policy that allows no more than the package needs.
 
 import assert from "node:assert/strict";
-import { spawn, spawnSync } from "node:child_process";
-import { mkdtempSync, readFileSync } from "node:fs";
+import { existsSync, readFileSync } from "node:fs";
 import { createServer } from "node:http";
-import { join } from "node:path";
 import { test } from "node:test";
 
-import { runsOf } from "./cases.mjs";
+import { tree } from "gregorio-chant";
+import { BROWSERS, Browser } from "./browsers.mjs";
+import { numbersOf, runsOf } from "./cases.mjs";
 
-const CHROMIUM = "chromium";
 const POLICY = "default-src 'none'; script-src 'self' 'wasm-unsafe-eval'; worker-src 'self'; connect-src 'self'";
 const PACKAGE = "/node_modules/gregorio-chant/";
 const TABLES = ["rows", "canonical", "canonical_w12", "nabc_lines", "dump", "dump2"];
 
 // What the page and the worker run: each answers which runs came out otherwise.
-const TRIAL = `import { compile } from "${PACKAGE}src/browser.js";
+const TRIAL = `import { compile, tree } from "${PACKAGE}src/browser.js";
+const numbersOf = ${numbersOf};
 export async function trial() {
   const runs = await (await fetch("/runs.json")).json();
-  const wrong = runs.filter(({ input, options, output, messages }) => {
-    const made = compile(Uint8Array.from(input), options);
-    return made.output !== output || made.messagesText !== messages;
+  const wrong = runs.filter(({ input, options, output, messages, numbers }) => {
+    const score = Uint8Array.from(input);
+    const made = compile(score, options);
+    return made.output !== output || made.messagesText !== messages || numbersOf(tree(score)) !== numbers;
   });
   return { count: runs.length, wrong: wrong.map((it) => it.place) };
 }`;
@@ -28,59 +29,73 @@ const WORKER = 'import { trial } from "/trial.mjs"; trial().then(postMessage, (e
 const PAGE = `import { trial } from "/trial.mjs";
 const worker = new Worker("/worker.mjs", { type: "module" });
 const ofWorker = new Promise((resolve, reject) => Object.assign(worker, { onmessage: (it) => resolve(it.data), onerror: (it) => reject(it.message) }));
-const answer = await Promise.all([trial(), ofWorker]).catch(String);
-await fetch("/answer", { method: "POST", body: JSON.stringify(answer) });`;
+globalThis.answer = Promise.all([trial(), ofWorker]);`;
+
+/** Returns what the page of the README writes, once it does. */
+async function written() {
+  while (!document.body.textContent.includes("%%\nA(f)")) await new Promise((resolve) => setTimeout(resolve, 20));
+  return document.body.textContent;
+}
+
+/** Returns the answers, once they are there. */
+async function answers() {
+  while (globalThis.answer === undefined) await new Promise((resolve) => setTimeout(resolve, 20));
+  return globalThis.answer;
+}
 
 const runs = TABLES.flatMap(runsOf).filter((it) => it.hasUsualLimits && !it.isBroken);
 const TEXTS = {
-  "/": ["text/html", '<!DOCTYPE html><meta charset="utf-8"><title>trial</title><script type="module" src="/page.mjs"></script>'],
+  "/": ["text/html", '<!DOCTYPE html><meta charset="utf-8"><link rel="icon" href="data:,"><title>trial</title><script type="module" src="/page.mjs"></script>'],
   "/page.mjs": ["text/javascript", PAGE],
   "/worker.mjs": ["text/javascript", WORKER],
   "/trial.mjs": ["text/javascript", TRIAL],
-  "/runs.json": ["application/json", JSON.stringify(runs.map((it) => ({ ...it, input: [...it.input] })))],
+  "/runs.json": ["application/json", JSON.stringify(runs.map((it) => ({ ...it, input: [...it.input], numbers: numbersOf(tree(it.input)) })))],
 };
 
-/** Returns the kind and the content of what the page asks for, if it is there. */
+// The page of the README, if the trial has put it here.
+const OF_README = "page.html";
+
+/** Returns the kind and the content of what a page asks for, if it is there. */
 function contentOf(path) {
+  if (path === "/of-readme") return ["text/html", `<!DOCTYPE html><meta charset="utf-8"><link rel="icon" href="data:,"><body>${readFileSync(OF_README)}`];
   if (path.startsWith(PACKAGE) && !path.includes("..")) return [path.endsWith(".wasm") ? "application/wasm" : "text/javascript", readFileSync(`.${path}`)];
   return TEXTS[path];
 }
 
-/** Starts a server, and returns it with what the page answers. */
+/** Starts a server. */
 async function serve() {
-  const server = createServer();
-  const answer = new Promise((resolve) => {
-    server.on("request", async (request, response) => {
-      if (request.method === "POST") {
-        resolve(JSON.parse(Buffer.concat(await request.toArray()).toString()));
-        response.end();
-        return;
-      }
-      const content = contentOf(request.url);
-      response.writeHead(content ? 200 : 404, { "content-type": content?.[0] ?? "text/plain", "content-security-policy": POLICY });
-      response.end(content?.[1]);
-    });
+  const server = createServer((request, response) => {
+    const content = contentOf(request.url);
+    const policy = request.url === "/of-readme" ? {} : { "content-security-policy": POLICY };
+    response.writeHead(content ? 200 : 404, { "content-type": content?.[0] ?? "text/plain", ...policy });
+    response.end(content?.[1]);
   });
   await new Promise((resolve) => server.listen(0, "127.0.0.1", resolve));
-  return { server, answer };
+  return server;
 }
 
-const isThere = spawnSync(CHROMIUM, ["--version"]).status === 0;
-
-test("the tables in Chromium", { skip: !isThere && "there is no Chromium", timeout: 90_000 }, async () => {
-  const { server, answer } = await serve();
-  const folder = mkdtempSync(join(process.cwd(), "chromium-"));
-  const words = ["--headless", "--no-sandbox", "--disable-gpu", "--disable-dev-shm-usage", "--no-first-run", `--user-data-dir=${folder}`];
-  const browser = spawn(CHROMIUM, [...words, `http://127.0.0.1:${server.address().port}/`], { stdio: "ignore", detached: true });
+/** Opens a page of the server in a browser, and returns what a function finds on it. */
+async function found(kind, path, look) {
+  const server = await serve();
+  const browser = await Browser.start(kind, process.cwd());
   try {
-    const wanted = { count: runs.length, wrong: [] };
-    assert.deepEqual(await answer, [wanted, wanted]);
+    await browser.open(`http://127.0.0.1:${server.address().port}${path}`);
+    return await browser.run(look);
   } finally {
-    const ended = new Promise((resolve) => browser.once("exit", resolve));
-    // With all of its processes. Its folder goes with the project's, since one of them may still write into it.
-    process.kill(-browser.pid, "SIGKILL");
-    await ended;
+    await browser.end();
     server.closeAllConnections();
     server.close();
   }
-});
+}
+
+for (const kind of BROWSERS) {
+  test(`the tables in ${kind.name}`, { skip: kind.lacks, timeout: 90_000 }, async () => {
+    const wanted = { count: runs.length, wrong: [] };
+    assert.deepEqual(await found(kind, "/", answers), [wanted, wanted]);
+  });
+
+  const lacks = kind.lacks || (!existsSync(OF_README) && "the page of the README is not here");
+  test(`the page of the README in ${kind.name}`, { skip: lacks, timeout: 30_000 }, async () => {
+    assert.equal(await found(kind, "/of-readme", written), "%%\nA(f)\n");
+  });
+}

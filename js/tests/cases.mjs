@@ -42,16 +42,20 @@ const answerOf = (output, messages, status) => ({
   status: STATUSES[status],
 });
 
-/** Returns the runs of a table. */
+/** Returns the runs of a table. `tree` is there if the table has the records of the score's tree. */
 export function runsOf(table) {
-  return linesOf(table).map(({ columns: [words, numbers, ending, input, ...answer], place }) => ({
+  return linesOf(table).map(({ columns: [words, numbers, ending, input, output, messages, status, tree], place }) => ({
     place,
     ...optionsOf(words, numbers),
     isBroken: ending === "broken",
     input: bytesOf(input),
-    ...answerOf(...answer),
+    ...answerOf(output, messages, status),
+    tree,
   }));
 }
+
+/** Returns all that a tree says, as a text: a line for each node. */
+export const numbersOf = (tree) => [...tree].map(({ begin, end, inner, kind, values }) => [begin, end, inner, kind, ...values].join(" ")).join("\n");
 
 /** Returns the runs of a table that were saved once, with the state that they had then. */
 export function savedRunsOf(table) {

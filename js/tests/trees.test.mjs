@@ -1,11 +1,11 @@
-// Looks at the trees of all cases of the tables: their form, and what was left out.
+// Looks at the trees of all cases of the tables: their form, and what was left out. Compares those of a table with what the library for C answers.
 
 import assert from "node:assert/strict";
 import { readFileSync, readdirSync } from "node:fs";
 import { test } from "node:test";
 
 import { tree } from "gregorio-chant";
-import { DATA, runsOf } from "./cases.mjs";
+import { DATA, numbersOf, runsOf } from "./cases.mjs";
 
 const TABLES = ["rows", "canonical", "canonical_w12", "nabc_lines", "dump2"];
 
@@ -32,6 +32,19 @@ function looksAt(score, place) {
     place,
   );
 }
+
+/** Returns the tree of a run of a table as `numbersOf` says it. */
+async function namedTree({ tree: numbers }) {
+  const { KINDS } = await import(new URL("../node_modules/gregorio-chant/src/kinds.js", import.meta.url));
+  const nodes = numbers.split(",").map((it) => it.split(" "));
+  return nodes.map(([begin, end, inner, kind, ...values]) => [begin, end, inner, KINDS[kind], ...values].join(" ")).join("\n");
+}
+
+test("the trees of the library for C", { skip: !process.env.GREGORIO_TABLE && "there is no table of it" }, async () => {
+  const runs = runsOf(process.env.GREGORIO_TABLE).filter((it) => it.tree);
+  assert.ok(runs.length > 1000);
+  for (const it of runs) assert.equal(numbersOf(tree(it.input)), await namedTree(it), it.place);
+});
 
 for (const table of TABLES) {
   test(`trees of ${table}`, () => {

@@ -1,0 +1,201 @@
+// The page: what is written is compiled, and what came of it is shown.
+
+import { Tree } from "../src/tree.js";
+import { EXAMPLES } from "./data.js";
+import { MOST_BYTES, nameFrom, opened, save } from "./files.js";
+import { Findings, findingsOf } from "./findings.js";
+import { forget, keep, keptScore } from "./kept.js";
+import { Outline } from "./outline.js";
+import { Source } from "./source.js";
+import { Tabs } from "./tabs.js";
+
+// At most so many lines.
+const PIECE = /(?:[^\n]*\n){1,50}|[^\n]+$/g;
+
+const at = (id) => document.getElementById(id);
+
+// What the field was filled from: the name of a file, how its lines ended, and its bytes if they are no UTF-8, as long as nothing is edited.
+let file = {};
+// The text that another one has taken the place of.
+let before;
+let answer;
+// What has scores compiled, and what else is to be done with its answers.
+let reader;
+let hooks = {};
+// What is shown of a score that is not compiled.
+const NOTHING = { canonical: "", messages: [], tree: new Tree(new Uint8Array(0), new Uint8Array(20)) };
+
+const source = new Source(at("source"), edited, showCursor);
+const findings = new Findings(at("messages"), at("totals"), goToMessage);
+const outline = new Outline(at("tree"), goToNode);
+const tabs = new Tabs(at("tabs"), read);
+
+function say(text) {
+  at("state").textContent = text;
+}
+
+// ---- compiling
+
+function edited() {
+  file = { ...file, bytes: undefined };
+  say(keep(source.text) ? "" : "The browser does not keep this score: save it.");
+  read();
+}
+
+/** Has the score compiled. */
+function read() {
+  if (source.text.length > MOST_BYTES) {
+    say(`A score of more than ${MOST_BYTES.toLocaleString("en")} bytes is too long for this page.`);
+    reader.giveUp();
+    show(NOTHING);
+    return;
+  }
+  at("read").setAttribute("aria-busy", "true");
+  reader.read(file.bytes ?? source.text, tabs.chosen === "dump-part");
+}
+
+/** Returns a text in pieces of some lines, of which the browser lays out those that are seen. */
+function piecesOf(text) {
+  const pieces = text.match(PIECE) ?? [];
+  return pieces.map((it) => Object.assign(document.createElement("div"), { textContent: it }));
+}
+
+/** Shows what came of a score. A picture of it will have its place in #picture, once the compiler draws: the hook of a server's page shows one there. */
+function show(it) {
+  if (it.failure) {
+    say(it.failure);
+    at("read").setAttribute("aria-busy", "false");
+    return;
+  }
+  answer = it;
+  // An empty field is no score that is wrong.
+  const wasRead = it !== NOTHING && source.text !== "";
+  const found = wasRead ? findingsOf(it, source.text, source.places) : [];
+  source.mark(found);
+  findings.show(found, wasRead);
+  at("canonical").replaceChildren(...piecesOf(it.canonical));
+  at("dump").replaceChildren(...piecesOf(it.dump ?? ""));
+  showCursor();
+  if (tabs.chosen === "tree-part") outline.show(it.tree, source.places.byteAt(source.cursor));
+  if (it !== NOTHING) hooks.onAnswer?.(it);
+  at("read").setAttribute("aria-busy", String(reader.isBusy));
+}
+
+// ---- choosing
+
+/** Shows what is at the cursor. */
+function showCursor() {
+  const place = source.places.placeOf(source.cursor);
+  at("place").textContent = `Line ${place.line}, column ${place.column}`;
+  hooks.onCursor?.(place);
+  const it = findings.showAt(source.cursor);
+  source.hint(it?.begin, it && `${it.code} ${it.text}${it.help ? `: ${it.help}` : ""}`);
+  if (tabs.chosen === "tree-part" && !reader.isBusy) outline.showAt(source.places.byteAt(source.cursor));
+}
+
+/** Goes to a message, to mend what it is about. */
+function goToMessage({ begin }, number) {
+  source.goTo({ begin, end: begin });
+  showCursor();
+  hooks.onMessage?.(number);
+}
+
+/** Goes to a line and a column of the score. */
+export function goToPlace(place) {
+  const unit = source.places.unitOf(place);
+  source.goTo({ begin: unit, end: unit });
+  showCursor();
+}
+
+/** Shows in the field where a node stands, and puts the cursor there if `isToGo`. */
+function goToNode({ begin, end }, isToGo) {
+  const range = { begin: source.places.unitAt(begin), end: source.places.unitAt(end) };
+  if (isToGo) source.goTo(range);
+  else source.choose(range);
+}
+
+// ---- filling the field
+
+/** Puts another score into the field. The one before can be brought back. */
+function fill(text, from = {}) {
+  if (source.text !== "" && source.text !== text) before = { text: source.text, from: file };
+  at("back").hidden = before === undefined;
+  source.text = text;
+  edited();
+  file = from;
+  if (file.bytes) read();
+}
+
+async function take(chosen) {
+  if (chosen === undefined) return;
+  try {
+    const { text, ...from } = await opened(chosen);
+    fill(text, from);
+    if (from.bytes) say(`${from.name} is not UTF-8: the compiler says where. What it has there is shown as U+FFFD.`);
+  } catch (error) {
+    say(error.message);
+  }
+}
+
+function clear() {
+  fill("");
+  forget();
+  say("The browser keeps nothing of the score any more.");
+}
+
+function bringBack() {
+  const { text, from } = before;
+  fill(text, from);
+}
+
+// ---- the buttons
+
+/** Returns the beginning of the name of a file to save. */
+export const fileName = () => (file.name ?? `${nameFrom(answer?.tree)}.gabc`).replace(/\.gabc$/i, "");
+const BUTTONS = {
+  open: () => at("file").click(),
+  save: () => save(`${fileName()}.gabc`, source.text.replaceAll("\n", file.lineEnd ?? "\n")),
+  "save-canonical": () => answer && save(`${fileName()}.canonical.gabc`, answer.canonical),
+  clear,
+  back: bringBack,
+};
+const KEYS = { o: "open", s: "save" };
+
+for (const [id, press] of Object.entries(BUTTONS)) at(id).addEventListener("click", press);
+at("file").addEventListener("change", ({ target }) => {
+  take(target.files[0]);
+  target.value = "";
+});
+at("examples").append(...Object.keys(EXAMPLES).map((name) => new Option(name, name)));
+at("examples").addEventListener("change", ({ target }) => {
+  fill(EXAMPLES[target.value]);
+  target.selectedIndex = 0;
+});
+addEventListener("keydown", (event) => {
+  const id = (event.ctrlKey || event.metaKey) && !event.altKey && !event.shiftKey && KEYS[event.key];
+  if (id) {
+    event.preventDefault();
+    at(id).click();
+  } else if (event.key === "Escape") source.hint();
+});
+addEventListener("dragover", (event) => {
+  if (event.dataTransfer.types.includes("Files")) event.preventDefault();
+});
+addEventListener("drop", (event) => {
+  if (event.dataTransfer.files.length === 0) return;
+  event.preventDefault();
+  take(event.dataTransfer.files[0]);
+});
+
+export const chooseTab = (id) => tabs.show(id);
+export const scoreText = () => source.text;
+
+/** Begins with the score that is kept. `it` has scores compiled; the hooks, if they are given, get each answer, each place of the cursor, and the number of each
+ * message that is chosen. Returns what has the score compiled again. */
+export function begin(it, given = {}) {
+  [reader, hooks] = [it, given];
+  reader.onAnswer = show;
+  source.text = keptScore();
+  read();
+  return { read };
+}
