@@ -48,6 +48,8 @@ def _files() -> dict[str, bytes]:
     for it in (LIBRARY, LIBRARY.with_name("BUILD"), ROOT / "VERSION"):
         if it.exists():
             files[f"{PACKAGE}/{it.name}"] = it.read_bytes()
+    page = runpy.run_path(str(HERE / PACKAGE / "web" / "sources.py"))["packed"]()
+    files |= {f"{PACKAGE}/web/{path}": content for path, content in page.items()}
     return files
 
 

@@ -337,7 +337,7 @@ class Written(Browsing):
         """What is typed changes picture, messages, canonical form and dump."""
         self.assertEqual(self.look("document.activeElement.id"), "score")
         self.write(SCORE)
-        self.await_seen("Nothing was found.", "#messages")
+        self.await_seen("Nothing was found", "#totals")
         self.await_seen("name: Kyrie;\n%%\n(c4)\nKy(f)ri(gfg)e(e.)\n(::)\n", "#canonical")
         self.await_seen("syllable 2 ", "#dump")
         self.assertEqual(self.find("#name").text, "Kyrie")
@@ -375,16 +375,14 @@ class Written(Browsing):
         self.assertEqual(len(self.browser.find_elements("css selector", ".learn a")), 2)
 
     def test_clicks(self) -> None:
-        """A click on a message shows it in the picture; one on its place, and one on a syllable,
-        puts the cursor there."""
+        """A click on a message shows it in the picture, and it and a click on a syllable put the
+        cursor there; one on the code in the picture leads to the message."""
         begin = "name: a;\n%%\n(c4) \ufeff\U0001d11e(f) "
         score = begin + "Ky(f)ri(g) " * 600 + "e(g5)\n" + "Ky(f)ri(g) " * 200
         self.write(score)
         self.await_seen("character left out", "#messages")
-        self.find("#messages a[href='#p1-m1-at']").click()
-        self.assertTrue(self.is_seen("#p1-m1-at"))
-        self.assertTrue(self.browser.current_url.startswith(self.here))
-        self.find("#messages li a").click()
+        self.find("#messages button").click()
+        self.await_(lambda: self.is_seen("#p1-m1-at"), "the mark is not seen")
         self.await_(
             lambda: score.encode("utf-16-le")[2 * self.cursor() :].startswith(
                 "5)".encode("utf-16-le")
@@ -394,6 +392,8 @@ class Written(Browsing):
         self.assertEqual(
             self.look("document.querySelector('#picture .here title').textContent"), "e: sol"
         )
+        self.find("#p1-m1-at text").click()
+        self.assertTrue(self.browser.current_url.endswith("#p1-m1"))
         self.find("#p1-s2").click()
         self.await_(
             lambda: score.encode("utf-16-le")[2 * self.cursor() :].startswith(
@@ -430,9 +430,9 @@ class Written(Browsing):
     def test_kept(self) -> None:
         """The tab keeps the score over a reload."""
         self.write(SCORE)
-        self.await_seen("Nothing was found.", "#messages")
+        self.await_seen("Nothing was found", "#totals")
         self.browser.refresh()
-        self.await_seen("Nothing was found.", "#messages")
+        self.await_seen("Nothing was found", "#totals")
         self.assertEqual(self.look("document.querySelector('#score').value"), SCORE)
         self.assert_quiet()
 
@@ -445,8 +445,8 @@ class Written(Browsing):
         )
         self.write(FAULTY)
         self.await_seen("character left out", "#messages")
-        for kind in ("score", "canonical", "picture"):
-            self.find(f"button[data-save={kind}]").click()
+        for it in ("save", "save-canonical", "save-picture"):
+            self.browser.execute_script(f"document.getElementById('{it}').click()")
         names = ("kyrie.gabc", "kyrie.canonical.gabc", "kyrie.svg")
         self.await_(
             lambda: all(Path(it).exists() and Path(it).stat().st_size > 0 for it in names),
@@ -471,7 +471,7 @@ class Written(Browsing):
     def test_sings(self) -> None:
         """It sings what stands in the field."""
         self.write(SCORE)
-        self.await_seen("Nothing was found.", "#messages")
+        self.await_seen("Nothing was found", "#totals")
         self.find("#sing button").click()
         self.await_(
             lambda: bool(self.look("document.querySelector('#picture .now')")), "no note lights up"
@@ -480,16 +480,22 @@ class Written(Browsing):
         self.assertIsNone(self.look("document.querySelector('.now')"))
         self.assert_quiet()
 
+    def test_tree(self) -> None:
+        """The tree is that of the score, and is opened at the cursor."""
+        self.write(FAULTY)
+        self.await_seen("character left out", "#messages")
+        self.find("#tree-tab").click()
+        self.find("#messages button").click()
+        self.await_seen("left out", "#tree [aria-selected=true] > .row")
+        self.assert_quiet()
+
     def test_too_long(self) -> None:
-        """A long score is read at the button; one that is too long is not sent, and a line says
-        so."""
+        """A score that is too long is not sent, and a line says so."""
         self.browser.execute_script(
             "const it = document.querySelector('#score'); it.value = ' '.repeat(1000001);"
             " it.dispatchEvent(new Event('input'))"
         )
-        self.await_seen("A score above 100,000 bytes is read at the button.", "#state")
-        self.find("#read").click()
-        self.await_seen("A score has 1,000,000 bytes at most here.", "#state")
+        self.await_seen("is too long for this page.", "#state")
         self.assert_quiet()
 
     def test_hostile(self) -> None:
@@ -498,7 +504,8 @@ class Written(Browsing):
         self.await_seen("<script>alert(1)</script>")
         self.assertEqual(
             self.look(
-                "document.querySelectorAll('foo, b, img, #picture script, #messages script').length"
+                "document.querySelectorAll('foo, img, #picture script, #picture b,"
+                " #messages script, #messages .text *').length"
             ),
             0,
         )
@@ -511,7 +518,7 @@ class Written(Browsing):
 
     def test_narrow(self) -> None:
         self.write((EXAMPLES / "hymn.gabc").read_text())
-        self.await_seen("Nothing was found.", "#messages")
+        self.await_seen("Nothing was found", "#totals")
         self.browser.execute_cdp_cmd(
             "Emulation.setDeviceMetricsOverride",
             {"width": 340, "height": 700, "deviceScaleFactor": 1, "mobile": True},

@@ -3,6 +3,7 @@ it lets a browser do. `tools/try_show` tries it in a browser."""
 from __future__ import annotations
 
 import json
+import posixpath
 import re
 import signal
 import socket
@@ -10,6 +11,7 @@ import subprocess
 import sys
 import time
 import unittest
+from base64 import b64decode
 from pathlib import Path
 from typing import Any
 from urllib.parse import urlsplit
@@ -21,15 +23,16 @@ from support import EXAMPLES, FAULTY, SCORE, InFolder, command, has, without
 from test_picture import HOSTILE
 from test_show import Page
 
-from gregorio_chant import Format, compile
+from gregorio_chant import Format, compile, tree
 
 _HAS_PACKAGES = has("starlette") and has("uvicorn")
 MOST = 1_000_000
 
 
-def _without_links(text: str) -> str:
-    """Returns HTML without the links into pictures: a page of `show` has two of these."""
-    return re.sub(" <a[^>]*>in the picture</a>", "", text)
+def _fields(messages: list[dict[str, Any]]) -> list[tuple[Any, ...]]:
+    """Returns what messages say, each with its help."""
+    names = ("line", "column", "code", "help")
+    return [tuple(it.get(name) for name in names) for it in messages]
 
 
 @unittest.skipUnless(_HAS_PACKAGES, "there is no starlette, or no uvicorn")
@@ -67,8 +70,8 @@ class Serving(Asking):
         return json.loads(body)
 
     def test_answers(self) -> None:
-        """It answers the compiler's output and dump, and the picture and messages that `show
-        --play` writes."""
+        """It answers the compiler's output, dump and tree, the messages that `check` writes, and
+        the picture that `show --play` draws."""
         for score in (
             FAULTY.encode(),
             (EXAMPLES / "every-finding.gabc").read_bytes(),
@@ -84,8 +87,11 @@ class Serving(Asking):
                 (compile(score).output, compile(score, Format.DUMP).output),
             )
             self.assertIn(it["picture"], shown)
-            self.assertIn(_without_links(it["messages"]), _without_links(shown))
-            page = Page(it["picture"] + it["messages"])
+            self.assertEqual(b64decode(it["records"]), bytes(tree(score).records))
+            checked = command("check", "--output-format", "json", "-", data=score)
+            found = json.loads(checked.stdout)
+            self.assertEqual(_fields(it["messages"]), _fields(found))
+            page = Page(it["picture"])
             self.assertEqual({"script", "b", "foo", "img", "style"} & set(page.tags), set())
             self.assertEqual(
                 [name for name in page.attributes if name.startswith("on") or name == "style"], []
@@ -130,26 +136,31 @@ class Serving(Asking):
         status, body, headers = self.ask("GET", "/")
         page = Page(body.decode())
         self.assertEqual((status, headers["Content-Type"]), (200, "text/html; charset=utf-8"))
-        self.assertIn(f'data-most="{MOST}"', body.decode())
-        self.assertEqual((page.tags.count("script"), page.tags.count("style")), (2, 0))
-        self.assertEqual([it for it in page.attributes if it.startswith("on") or it == "style"], [])
-        for path, kind in (
-            ("/page.js", "text/javascript"),
-            ("/sing.js", "text/javascript"),
-            ("/page.css", "text/css"),
-            ("/icon.svg", "image/svg+xml"),
-        ):
-            self.assertIn(path, page.links)
-            status, body, headers = self.ask("GET", path)
-            self.assertEqual((status, headers.get_content_type()), (200, kind))
-            self.assertEqual(
-                set(re.findall(rb"https?://[^\"' ]*", body)) - {b"http://www.w3.org/2000/svg"},
-                set(),
-            )
-            self.assertNotRegex(body, rb"url\(|@import|eval\(")
+        self.assertEqual((page.tags.count("script"), page.tags.count("style")), (3, 0))
         self.assertEqual(
-            set(page.links), {"/page.js", "/sing.js", "/page.css", "/icon.svg", *_TO_LEARN}
+            re.findall(rb"<script(?! src=| type=\"module\" src=)[^>]*>", body), [_DATA]
         )
+        self.assertEqual([it for it in page.attributes if it.startswith("on") or it == "style"], [])
+        links = {it for it in page.links if not it.startswith("data:image/svg+xml,")}
+        own = {"/page/served.js", "/sing.js", "/page.css", "/chant.css"}
+        self.assertEqual(links, own | set(_TO_LEARN))
+        for path in own:
+            self.look_at(path)
+
+    def look_at(self, path: str, seen: set[str] | None = None) -> None:
+        """Looks at a file of the page, and at all modules that it imports."""
+        seen = set() if seen is None else seen
+        if path in seen:
+            return
+        seen.add(path)
+        status, body, headers = self.ask("GET", path)
+        kind = "text/css" if path.endswith(".css") else "text/javascript"
+        self.assertEqual((status, headers.get_content_type()), (200, kind), path)
+        found = set(re.findall(rb"https?://[^\"' ]*", body))
+        self.assertEqual(found - {b"http://www.w3.org/2000/svg"}, set())
+        self.assertNotRegex(body, rb"url\(|@import|eval\(|innerHTML")
+        for name in re.findall(r'^import .* from "([^"]*)";$', body.decode(), re.MULTILINE):
+            self.look_at(posixpath.normpath(posixpath.join(posixpath.dirname(path), name)), seen)
 
     def test_to_learn(self) -> None:
         """The tutorial and the cheat sheet are served, each with its pictures in itself and with no
@@ -196,7 +207,7 @@ class Serving(Asking):
         """A request by another name of the server, also one that leads to this machine, or of a
         page from elsewhere, is refused before its body comes."""
         for headers in foreign(self.port):
-            for method, path in (("POST", "/score"), ("GET", "/"), ("GET", "/page.js")):
+            for method, path in (("POST", "/score"), ("GET", "/"), ("GET", "/page/main.js")):
                 self.assertEqual(
                     self.status_of(self.head(method, path, Content_Length="1000", **headers)),
                     403,
@@ -271,17 +282,21 @@ class Serving(Asking):
         self.answer(FAULTY.encode())
         self.assertEqual(list(self.room.iterdir()), [])
 
+    def codes(self, score: bytes) -> set[str]:
+        """Returns the codes of the messages of a score."""
+        return {it["code"] for it in self.answer(score)["messages"]}
+
     def test_rules(self) -> None:
         score = b"name: x;\nmode: 9;\n%%\n(c4) a(f)\n"
-        self.assertNotIn("unknown-mode", self.answer(score)["messages"])
+        self.assertNotIn("unknown-mode", self.codes(score))
         self.start("--rules")
-        self.assertIn("unknown-mode", self.answer(score)["messages"])
+        self.assertIn("unknown-mode", self.codes(score))
         self.put("gregorio-chant.toml", "rules = true\nignore = ['E1']\n")
         self.start()
-        self.assertIn("unknown-mode", self.answer(score)["messages"])
-        self.assertNotIn("E1", self.answer(FAULTY.encode())["messages"])
+        self.assertIn("unknown-mode", self.codes(score))
+        self.assertNotIn("E1", self.codes(FAULTY.encode()))
         self.start("--no-config")
-        self.assertNotIn("unknown-mode", self.answer(score)["messages"])
+        self.assertNotIn("unknown-mode", self.codes(score))
 
     def test_at_once(self) -> None:
         """A long score delays no other answer for long."""
@@ -362,8 +377,10 @@ class Serving(Asking):
         self.assertEqual(self.port, port)
 
 
+# The scores to choose and the helps stand in the page as data.
+_DATA = b'<script type="application/json" id="data">'
 _POLICY = (
-    "default-src 'none'; script-src 'self'; style-src 'self'; img-src 'self'; connect-src 'self';"
+    "default-src 'none'; script-src 'self'; style-src 'self'; img-src data:; connect-src 'self';"
     " base-uri 'none'; form-action 'none'; frame-ancestors 'none'"
 )
 _STILL = (

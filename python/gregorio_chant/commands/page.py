@@ -10,8 +10,9 @@ from gregorio_chant.work.streams import STDIN
 NAME = "page"
 _MOST_PORT = 65_535
 ABOUT = f"""Serves a page in which you write, paste or drop a score. While you type it shows the
-picture, the messages, the canonical form and the dump. The page is for this machine alone, and
-keeps no score. The first line of standard output is its address. Control-C ends it. {OUTSIDE}"""
+picture, the messages, the canonical form, the tree and the dump. The page is for this machine
+alone, and keeps no score. The first line of standard output is its address. Control-C ends it.
+{OUTSIDE}"""
 EPILOG = epilog(
     ("gregorio-chant page", "gregorio-chant page --port 8080", "gregorio-chant page --rules")
 )

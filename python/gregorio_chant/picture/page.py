@@ -19,14 +19,25 @@ from gregorio_chant.picture.shown import shown
 from gregorio_chant.picture.svg import STYLE as PICTURE_STYLE
 from gregorio_chant.report.reports import Checked, summary_of
 
-STYLE = (
+# How pictures look in a page.
+CHANT_STYLE = (
     PICTURE_STYLE
+    + """
+.chant{display:block;max-width:100%;height:auto;margin:auto}
+.chant .now{fill:#e60;fill-opacity:.55}
+@media(prefers-color-scheme:dark){
+.chant{color:#ddd}.chant .paper{fill:#161616}.chant .staff{stroke:#c65}.chant .red,.chant .code{fill:#f88}
+.chant .mark{fill:#f66;stroke:#f66}.chant .mark.w{fill:#db6;stroke:#db6}}
+@media print{.chant{color:#000}.chant .paper{fill:#fff}}
+"""
+)
+STYLE = (
+    CHANT_STYLE
     + """
 :root{color-scheme:light dark}
 body{margin:0 auto;padding:1rem;max-width:60rem;font:1rem/1.5 sans-serif;color:#111;background:#fff}
 h1{font-size:1.4rem}h2{font-size:1.1rem;overflow-wrap:anywhere}
 section{border-top:1px solid #8888;margin-top:2rem}
-.chant{display:block;max-width:100%;height:auto;margin:auto}
 .messages{padding-left:2.5rem;overflow-wrap:anywhere}.help{display:block;opacity:.8}
 .kind{font-weight:bold}.error,.fatal{color:#a00}.warning{color:#750}
 a{color:#048}:target{outline:2px solid #06c;outline-offset:2px}
@@ -34,16 +45,13 @@ pre{overflow-x:auto;font-size:.85rem;line-height:1.4}
 pre span{display:block;padding-left:4.5em;text-indent:-4.5em;white-space:pre-wrap;overflow-wrap:anywhere}
 pre span::before{content:attr(data-n);display:inline-block;width:3.5em;margin-right:1em;text-align:right;text-indent:0;opacity:.6}
 table{border-collapse:collapse;margin-bottom:1.5rem}td,th{text-align:left;padding:.2rem .8rem .2rem 0;vertical-align:top}td{overflow-wrap:anywhere}td.n,th.n{text-align:right}
-.chant .now{fill:#e60;fill-opacity:.55}.sing input{vertical-align:middle}
+.sing input{vertical-align:middle}
 .narrow{display:none}
 @media(max-width:36rem){.wide{display:none}.narrow{display:revert}.picture{overflow-x:auto}
 .index tr{display:flex;flex-wrap:wrap;border-top:1px solid #8888}.index td{padding:.1rem .6rem .1rem 0}.index tr:first-child{display:none}
 .index td:nth-child(-n+2){flex-basis:100%}.index .n:nth-child(3)::before{content:"errors "}.index .n:nth-child(4)::before{content:"warnings "}}
-@media(prefers-color-scheme:dark){body{color:#ddd;background:#161616}a{color:#8bf}.error,.fatal{color:#f88}.warning{color:#db6}
-.chant{color:#ddd}.chant .paper{fill:#161616}.chant .staff{stroke:#c65}.chant .red,.chant .code{fill:#f88}
-.chant .mark{fill:#f66;stroke:#f66}.chant .mark.w{fill:#db6;stroke:#db6}}
-@media print{details,.back,.sing,.messages .way,.messages .wide,.messages .narrow,.picture.narrow{display:none}.picture.wide{display:block}.messages a{color:inherit;text-decoration:none}body{max-width:none;padding:0;color:#000;background:#fff}section{break-inside:avoid-page}
-.chant{color:#000}.chant .paper{fill:#fff}}
+@media(prefers-color-scheme:dark){body{color:#ddd;background:#161616}a{color:#8bf}.error,.fatal{color:#f88}.warning{color:#db6}}
+@media print{details,.back,.sing,.messages .way,.messages .wide,.messages .narrow,.picture.narrow{display:none}.picture.wide{display:block}.messages a{color:inherit;text-decoration:none}body{max-width:none;padding:0;color:#000;background:#fff}section{break-inside:avoid-page}}
 """
 )
 # How wide a picture for narrow screens is, in pixels.

@@ -1,14 +1,15 @@
-"""What the page shows of a score: picture, messages, canonical form and dump."""
+"""What the page shows of a score: picture, messages, canonical form, tree and dump."""
 from __future__ import annotations
 
+from base64 import b64encode
 from dataclasses import dataclass
 
 from gregorio_chant.linting import checking
 from gregorio_chant.objects.compiled import Compiled
 from gregorio_chant.objects.sounds import sounds_of_score
 from gregorio_chant.picture import USUAL_WIDTH, Look, Names, draw
-from gregorio_chant.picture.page import Shown, list_of_messages, notes_of
-from gregorio_chant.text.source import text_of
+from gregorio_chant.picture.page import notes_of
+from gregorio_chant.report.reports import Checked
 from gregorio_chant.work.settings import Finder
 from gregorio_chant.work.streams import STDIN
 
@@ -17,13 +18,29 @@ _PREFIX = "p1-"
 
 @dataclass(frozen=True)
 class Answer:
-    """What is made of a score: `picture` is SVG, `messages` a list in HTML."""
+    """What is made of a score. `picture` is SVG. `messages` are as the package for JavaScript has
+    them, each with its help. `records` are those of the tree, in base64."""
 
     name: str
     picture: str
-    messages: str
+    messages: list[dict[str, str | int | None]]
     canonical: str
     dump: str
+    records: str
+
+
+def _messages_of(checked: Checked) -> list[dict[str, str | int | None]]:
+    return [
+        {
+            "line": it.line,
+            "column": it.column,
+            "kind": it.kind.value,
+            "code": it.code,
+            "text": it.text,
+            "help": help,
+        }
+        for it, help in checked.helped()
+    ]
 
 
 @dataclass(frozen=True)
@@ -42,9 +59,14 @@ class Answers:
         checked = checking.check_score(STDIN, compiled, options)
         names = Names(_PREFIX, links=True, has_heads=True)
         picture = draw(compiled, checked.messages, look=Look(width=width), names=names)
-        shown = Shown(checked, checked.shown_name, picture, text_of(data), _PREFIX)
-        messages = "".join(list_of_messages(shown))
-        return Answer(picture.name, picture.svg, messages, compiled.canonical, compiled.dump)
+        return Answer(
+            picture.name,
+            picture.svg,
+            _messages_of(checked),
+            compiled.canonical,
+            compiled.dump,
+            b64encode(compiled.tree.records).decode("ascii"),
+        )
 
     def sounds_of(self, data: bytes) -> list[tuple[int, int, int | None, float]]:
         """Returns the notes of a score as the page sings them; none if one of them has no height.

@@ -13,43 +13,44 @@ from starlette.responses import Response
 from starlette.routing import Route
 from starlette.types import ASGIApp
 
+from gregorio_chant import __version__
 from gregorio_chant.picture import USUAL_WIDTH
-from gregorio_chant.picture.page import MOST_BYTES, SINGER, STYLE
-from gregorio_chant.picture.shapes import SHAPES
+from gregorio_chant.picture.page import CHANT_STYLE, MOST_BYTES, SINGER
 from gregorio_chant.web.answers import Answers
 from gregorio_chant.web.computing import Computations, GivenUp, TooMany
 from gregorio_chant.web.guard import STILL, Guard, TooLong, too_long
+from gregorio_chant.web.sources import filled, page_data, page_source, scripts
 
-# A score of more bytes is read at a button, and not at each pause of the typing.
-_MOST_TYPED = 100_000
 # The header in which the page says which tab of the browser it is.
 _TAB = "tab"
-_TYPES = {
-    ".html": "text/html",
-    ".css": "text/css",
-    ".js": "text/javascript",
-    ".svg": "image/svg+xml",
-}
+_TYPES = {".html": "text/html", ".css": "text/css", ".js": "text/javascript"}
 _LEAST_WIDTH, _MOST_WIDTH, _MOST_DIGITS = 280, 1200, 6
-_ICON = (
-    '<svg xmlns="http://www.w3.org/2000/svg" viewBox="-8 -11 22 22"><path fill="#a43"'
-    f' fill-rule="evenodd" d="{SHAPES["c-clef"].path}"/></svg>'
-)
+_STYLES = '<link rel="stylesheet" href="/page.css">\n<link rel="stylesheet" href="/chant.css">'
+_SCRIPTS = '<script src="/sing.js"></script>\n<script type="module" src="/page/served.js"></script>'
+
+
+def _page() -> str:
+    """Returns the page, which has its scripts and its styles from this server."""
+    return filled(
+        {
+            "POLICY": "",
+            "ORIGIN": __version__,
+            "VERSION": __version__,
+            "STYLE": _STYLES,
+            "DATA": page_data(),
+            "SCRIPT": _SCRIPTS,
+        }
+    )
 
 
 def _files() -> dict[str, str]:
     """Returns the files of the page by their paths."""
-    page, script, style = (
-        Path(__file__).with_name(it).read_text(encoding="utf-8")
-        for it in ("page.html", "page.js", "page.css")
-    )
-    page = page.replace("MOST_BYTES", str(MOST_BYTES)).replace("MOST_TYPED", str(_MOST_TYPED))
     return {
-        "/": page,
-        "/page.js": script,
+        "/": _page(),
         "/sing.js": SINGER,
-        "/page.css": STYLE + style,
-        "/icon.svg": _ICON,
+        "/page.css": page_source("page.css"),
+        "/chant.css": CHANT_STYLE,
+        **{f"/{path}": content for path, content in scripts().items()},
     }
 
 
