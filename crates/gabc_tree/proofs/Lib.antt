@@ -1,4 +1,5 @@
 pub mod FewCovered
+pub mod fates
 pub mod HeaderLinesByRow
 pub mod LinesByBytes
 pub mod NestedHeaders

@@ -1,4 +1,5 @@
 pub mod CodeNumber
+pub mod Fates
 pub mod HeaderLines
 pub mod HeaderNodes
 pub mod Kind

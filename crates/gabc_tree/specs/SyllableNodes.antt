@@ -1,13 +1,11 @@
 -- The nodes of a syllable, which count the bytes of its kept text.
 use Rattle.std.specs.Prelude.{ℕ, ◌+◌, ◌-◌, List, [], ◌∷◌, ◌++◌, Bool, cond, ◌&&◌, ◌==◌, nat_lt, length}
-use Rattle.gabc_places.specs.declared.place.Span.{Span}
 use Rattle.gabc_neumes.specs.InForce.{InForce, WordStart, steps_of, in_force_after, passed}
 use Rattle.gabc_body.specs.Canonical.{starts_word}
 use Rattle.gabc_body.specs.declared.snippets.Snippet.{Snippet}
 use Rattle.gabc_body.specs.declared.syllable.Position.{Position}
 use Rattle.gabc_body.specs.declared.syllable.Position.TheVariants as position
 use Rattle.gabc_body.specs.Syllable.{PlacedSyllable, text_at}
-use Rattle.gabc_tree.specs.declared.kind.Kind.{Kind}
 use Rattle.gabc_tree.specs.declared.kind.Kind.TheVariants as kind
 use Rattle.gabc_tree.specs.declared.node.Node.{Node}
 use Rattle.gabc_tree.specs.NabcNodes.{nabc_nodes}

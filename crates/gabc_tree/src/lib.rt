@@ -33,6 +33,7 @@ mod not_kept;
 mod note_nodes;
 mod numbers;
 mod placing;
+pub mod reading_laws;
 mod short_texts;
 mod signs;
 mod syllable_nodes;

@@ -1,12 +1,12 @@
 -- What is not kept has no more bytes than the input.
-use Rattle.std.proofs.Common.{◌≡◌, ◌+◌, ◌-◌, ◌≤◌, ◌<◌, ◌^◌, ℕ, List, [], ◌∷◌, ◌++◌, length, cond, true, false, Bool, Option, Some, None, refl, sym, ap, ◌∙◌, subst, arith, IsUtf8, encode_utf8_all}
+use Rattle.std.proofs.Common.{◌≡◌, ◌+◌, ◌-◌, ◌≤◌, ◌<◌, ◌^◌, ℕ, List, [], ◌∷◌, ◌++◌, length, Option, Some, None, arith, IsUtf8}
 use Rattle.std.specs.List.{sum_by}
 use Rattle.std.specs.Str.{chars}
 use Rattle.gabc_headers.proofs.entries.TextsAsBytes.{bytes_len-chars, bytes_len-cons}
 use Rattle.std.specs.Char.{len_utf8}
 use Rattle.gabc_tree.specs.declared.kind.Kind.{Kind}
 use Rattle.gabc_tree.specs.declared.node.Node.{Node}
-use Rattle.gabc_tree.specs.NotKept.{Reached, joined, joined_to, joins, nodes_from, nodes_of, nodes_by, out_of, past}
+use Rattle.gabc_tree.specs.NotKept.{Reached, joined, joined_to, nodes_from, nodes_of, nodes_by, out_of, past}
 use Rattle.gabc_tree.specs.Placed.{bytes_in}
 
 joined_to_bytes : (n : Node) (ns : List Node) → bytes_in (joined_to n ns) ≤ n.end - n.begin + bytes_in ns

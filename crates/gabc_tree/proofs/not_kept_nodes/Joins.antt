@@ -1,9 +1,8 @@
 -- Nodes that are joined one after the other.
-use Rattle.std.proofs.Common.{◌≡◌, ℕ, List, [], ◌∷◌, ◌++◌, refl, sym, ap, ◌∙◌, Bool, true, false, cond, ◌&&◌, ◌==◌, append_assoc, Option, Some, None, option_to_list, arith}
+use Rattle.std.proofs.Common.{◌≡◌, List, [], ◌∷◌, ◌++◌, ap, ◌∙◌, Bool, true, false, ◌&&◌, ◌==◌, append_assoc, Some, arith}
 use Rattle.gabc_tree.specs.declared.node.Node.{Node}
-use Rattle.gabc_tree.specs.Kind.{number_of}
-use Rattle.gabc_tree.specs.NotKept.{is_run, joins, joined, joined_to}
-use Rattle.gabc_tree.specs.machine.NotKept.{JoiningState, joined_after}
+use Rattle.gabc_tree.specs.NotKept.{joins, joined, joined_to}
+use Rattle.gabc_tree.specs.machine.NotKept.{joined_after}
 
 abbrev go_on : Node → Node → Bool
 go_on m n = joins m.kind n.kind && (m.end == n.begin)

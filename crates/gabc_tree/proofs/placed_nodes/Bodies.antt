@@ -1,12 +1,12 @@
 -- One syllable more whose nodes are placed.
-use Rattle.std.proofs.Common.{◌≡◌, ◌+◌, ◌++◌, List, ℕ, [], ◌∷◌, refl, sym, ap, ◌∙◌, append_assoc, length, arith, Option}
+use Rattle.std.proofs.Common.{◌≡◌, ◌+◌, ◌++◌, List, ℕ, [], ◌∷◌, sym, ap, ◌∙◌, append_assoc, length, arith, Option}
 use Rattle.std.specs.Prelude.{map}
 use Rattle.gabc_neumes.specs.InForce.{InForce}
 use Rattle.gabc_body.specs.Syllable.{PlacedSyllable}
 use Rattle.gabc_tree.specs.declared.node.Node.{Node}
 use Rattle.gabc_tree.specs.Placed.{Reach, offset, placed_from, reach_after, moved}
 use Rattle.gabc_tree.specs.SyllableNodes.{syllable_nodes, force_past_syllable}
-use Rattle.gabc_tree.specs.Tree.{body_nodes, body_end, before_all, rest_of}
+use Rattle.gabc_tree.specs.Tree.{body_nodes, before_all, rest_of}
 use Rattle.gabc_tree.specs.machine.Placing.{PlacingState}
 use Rattle.gabc_places.specs.declared.code.Fault.{Fault}
 use Rattle.gabc_tree.proofs.placed_nodes.Appended.{placed_both, reach_both}

@@ -1,6 +1,6 @@
 -- What of what is not kept stands before a byte is a front of it.
-use Rattle.std.proofs.Common.{◌≡◌, ◌+◌, ◌-◌, ℕ, List, [], ◌∷◌, refl, ap, length, cond, true, false, arith}
-use Rattle.std.specs.Prelude.{take, nat_le}
+use Rattle.std.proofs.Common.{◌≡◌, ◌+◌, ◌-◌, ℕ, List, [], ◌∷◌, refl, length, arith}
+use Rattle.std.specs.Prelude.{take}
 use Rattle.gabc_tree.specs.declared.node.Node.{Node}
 use Rattle.gabc_tree.specs.Placed.{before_byte}
 

@@ -1,6 +1,6 @@
 -- The text of a span has no more bytes than what it is part of.
 use Rattle.std.proofs.Common.{◌≡◌, ◌+◌, ◌-◌, ◌<◌, ◌≤◌, ◌^◌, ℕ, List, [], length, Bool, true, false, cond, refl, arith}
-use Rattle.std.specs.Prelude.{take, drop, nat_le, ◌&&◌}
+use Rattle.std.specs.Prelude.{drop, nat_le, ◌&&◌}
 use Rattle.std.proofs.lemmas.List.{length-take, length-drop}
 use Rattle.gabc_places.specs.declared.place.Span.{Span}
 use Rattle.gabc_body.specs.Syllable.{slice, text_at, is_seam}

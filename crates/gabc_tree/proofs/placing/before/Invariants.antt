@@ -1,4 +1,4 @@
-use Rattle.std.proofs.Common.{◌≡◌, ◌+◌, ◌<◌, ◌≤◌, ◌^◌, length}
+use Rattle.std.proofs.Common.{◌≡◌, ◌+◌, length}
 use Rattle.std.specs.Prelude.{drop}
 use Rattle.gabc_tree.specs.Placed.{before_byte, bytes_in}
 use Rattle.gabc_tree.proofs.placing.before.Given as goal

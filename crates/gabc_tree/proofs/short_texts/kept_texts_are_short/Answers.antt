@@ -1,18 +1,16 @@
-use Rattle.std.proofs.Common.{ℕ, ◌≡◌, ◌+◌, ◌≤◌, ◌<◌, ◌^◌, List, length, encode_utf8_all, refl, ap, sym, subst, ◌∙◌, arith, IsUtf8, Option, Some, Result, Ok, Err}
+use Rattle.std.proofs.Common.{ℕ, ◌≡◌, ◌≤◌, ◌<◌, ◌^◌, List, length, encode_utf8_all, refl, ap, sym, subst, arith, Result, Ok, Err}
 use Rattle.std.specs.Char.{IsScalar}
 use Rattle.std.specs.List.{All}
 use Rattle.std.proofs.lemmas.Str.{scalars-chars}
 use Rattle.std.specs.Str.{chars}
 use Rattle.std.proofs.lemmas.List.Elements.{All-nil, All-weaker}
-use Rattle.gabc_places.specs.declared.limits.Limits.{Limits}
 use Rattle.gabc_headers.specs.declared.heads.Heads.{Heads}
 use Rattle.gabc_headers.specs.declared.heads.HeadFault.{HeadFault}
 use Rattle.gabc_headers.specs.Heads.{heads_of}
 use Rattle.gabc_score.proofs.texts_of_body.BodyAfterHeads.{are_scalars}
-use Rattle.gabc_body.specs.declared.ending.InputEnding.{InputEnding}
 use Rattle.gabc_body.specs.declared.score.Score.{Score}
 use Rattle.gabc_body.specs.Syllable.{PlacedSyllable}
-use Rattle.gabc_body.specs.witness.EmittedScore.{emitted_score, emitted_score_by}
+use Rattle.gabc_body.specs.witness.EmittedScore.{emitted_score_by}
 use Rattle.gabc_tree.proofs.short_texts.kept_texts_are_short.Goals as goal
 
 abbrev Short : PlacedSyllable → Type 0

@@ -1,4 +1,4 @@
-use Rattle.std.proofs.Common.{◌≡◌, ◌++◌, List}
+use Rattle.std.proofs.Common.{◌≡◌, ◌++◌}
 use Rattle.std.specs.Prelude.{drop, string_bytes}
 use Rattle.gabc_tree.specs.SyllableNodes.{notes_nodes, force_after}
 use Rattle.gabc_tree.proofs.syllable_nodes.add_notes.Given as goal

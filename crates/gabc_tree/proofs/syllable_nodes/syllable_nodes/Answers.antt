@@ -1,8 +1,8 @@
-use Rattle.std.proofs.Common.{◌≡◌, ◌++◌, ◌∷◌, [], List, refl, sym, ap, ◌∙◌, append_assoc, length}
+use Rattle.std.proofs.Common.{◌++◌, ◌∷◌, [], List, sym, ap, ◌∙◌, append_assoc, length}
 use Rattle.gabc_body.specs.Syllable.{placed_of}
 use Rattle.gabc_neumes.specs.InForce.{InForce}
 use Rattle.gabc_tree.specs.declared.node.Node.{Node}
-use Rattle.gabc_tree.specs.SyllableNodes.{around, force_at, inside_nodes, syllable_node}
+use Rattle.gabc_tree.specs.SyllableNodes.{around, inside_nodes, syllable_node}
 use Rattle.gabc_tree.proofs.syllable_nodes.syllable_nodes.Goals as goal
 
 pub returns-clause-nodes : goal.returns-clause-nodes

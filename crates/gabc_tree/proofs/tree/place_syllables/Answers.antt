@@ -1,11 +1,11 @@
-use Rattle.std.proofs.Common.{◌≡◌, ◌+◌, ◌++◌, ◌∷◌, [], List, ℕ, ◌<◌, ◌^◌, refl, sym, ap, ◌∙◌, arith, append_assoc, length, subst}
+use Rattle.std.proofs.Common.{◌+◌, ◌++◌, List, ℕ, ◌<◌, ◌^◌, sym, ap, ◌∙◌, length, subst}
 use Rattle.std.specs.Prelude.{map}
 use Rattle.std.specs.List.{All}
 use Rattle.std.specs.Slice.Iter.{iter_rest}
 use Rattle.std.proofs.lemmas.List.Elements.{All-head, All-tail}
 use Rattle.gabc_body.specs.Syllable.{PlacedSyllable, placed_of}
 use Rattle.gabc_tree.specs.declared.node.Node.{Node}
-use Rattle.gabc_tree.specs.Placed.{Reach, offset, moved, placed_from, reach_after}
+use Rattle.gabc_tree.specs.Placed.{offset, moved, placed_from, reach_after}
 use Rattle.gabc_tree.specs.SyllableNodes.{syllable_nodes}
 use Rattle.gabc_tree.specs.Tree.{body_nodes, body_end}
 use Rattle.gabc_tree.proofs.placed_nodes.Bodies.{nodes_on, reach_on, body_on}

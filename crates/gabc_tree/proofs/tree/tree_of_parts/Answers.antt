@@ -1,4 +1,4 @@
-use Rattle.std.proofs.Common.{◌≡◌, ◌++◌, ◌∷◌, [], List, ℕ, refl, sym, ap, ◌∙◌}
+use Rattle.std.proofs.Common.{◌++◌, [], ℕ, refl, ap, ◌∙◌}
 use Rattle.std.specs.Prelude.{map}
 use Rattle.gabc_neumes.specs.InForce.{nothing_in_force}
 use Rattle.gabc_tree.specs.declared.kind.Kind.TheVariants.{File}

@@ -1,4 +1,4 @@
-use Rattle.std.proofs.Common.{◌≡◌, ◌<◌, ◌^◌, refl, sym, ap, ◌∙◌, subst, length}
+use Rattle.std.proofs.Common.{◌<◌, ◌^◌, sym, subst, length}
 use Rattle.std.specs.List.{All}
 use Rattle.gabc_body.specs.declared.score.Score.{Score}
 use Rattle.gabc_body.specs.Syllable.{PlacedSyllable}

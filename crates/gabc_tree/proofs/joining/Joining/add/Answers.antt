@@ -1,4 +1,4 @@
-use Rattle.std.proofs.Common.{◌≡◌, refl, sym, arith}
+use Rattle.std.proofs.Common.{arith}
 use Rattle.gabc_tree.proofs.joining.Joining.add.Goals as goal
 use Rattle.gabc_tree.proofs.not_kept_nodes.Joins.{stays_joined}
 

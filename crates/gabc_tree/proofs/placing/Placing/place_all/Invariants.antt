@@ -1,4 +1,4 @@
-use Rattle.std.proofs.Common.{◌≡◌, ◌++◌, List}
+use Rattle.std.proofs.Common.{◌≡◌, ◌++◌}
 use Rattle.std.specs.Prelude.{drop, map}
 use Rattle.gabc_tree.specs.Placed.{placed_from, reach_after, moved}
 use Rattle.gabc_tree.proofs.placing.Placing.place_all.Given as goal

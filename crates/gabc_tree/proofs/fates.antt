@@ -1,0 +1,10 @@
+pub mod Steps
+pub mod Coming
+pub mod ToTheEnd
+pub mod NextKept
+pub mod CutEnds
+pub mod NextComes
+pub mod FoundLater
+pub mod Walk
+pub mod Input
+pub mod OfScore

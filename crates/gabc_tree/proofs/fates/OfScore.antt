@@ -1,0 +1,343 @@
+-- What is not kept of a score's input is what is read.
+use Rattle.std.proofs.Common.{◌≡◌, ℕ, zero, suc, ◌+◌, ◌≤◌, ◌<◌, ◌^◌, ◌-◌, Bool, true, false, cond, ◌==◌, List, [], ◌∷◌, ◌++◌, map, filter, length, take, drop, take-append-drop, Option, Some, None, Result, Ok, Err, is_some, nat_lt, refl, sym, ap, subst, ◌∙◌, append-nil, inl, inr, arith, if◌then◌else◌}
+use Rattle.std.specs.Char.{len_utf8}
+use Rattle.std.specs.Str.{chars}
+use Rattle.std.proofs.lemmas.Bool.{eqb-true}
+use Rattle.std.proofs.lemmas.List.{take_at, drop_at}
+use Rattle.std.proofs.lemmas.Str.{len_utf8_bounds}
+use lib.Utf8.{scalars}
+use Rattle.gabc_places.specs.Findings.{Known, findings_before, Stop, earliest}
+use Rattle.gabc_places.specs.Place.{next_place, place_past, place_after, placed_characters, placed_characters_after, placed_characters_from}
+use Rattle.gabc_places.specs.Text.{is_left_out, read_as, text_of_bytes, text_of_characters, utf8_prefix_of, decoded_of}
+use Rattle.gabc_places.specs.declared.code.Code.TheVariants.{E5, W2}
+use Rattle.gabc_places.specs.declared.code.Finding.{Finding}
+use Rattle.gabc_places.specs.declared.limits.Limits.{Limits}
+use Rattle.gabc_places.specs.declared.place.Char.{Char}
+use Rattle.gabc_places.specs.declared.place.Place.{Place}
+use Rattle.gabc_places.proofs.PlacesOfAText.{placed_after, after_joined}
+use Rattle.gabc_places.proofs.decoding.PlainTextsAreReadAgain.{all_scalars}
+use Rattle.gabc_places.proofs.texts.TextsAreScalars.{text_scalars, text_short}
+use Rattle.gabc_headers.proofs.entries.TextsAsBytes.{bytes_len-cons, length-encodes}
+use Rattle.gabc_headers.specs.Book.{nabc_lines_of, macros_of, is_kept, repeats}
+use Rattle.gabc_headers.specs.Canonical.{canonical_heads}
+use Rattle.gabc_headers.specs.Heads.{head_len, heads_of, heads_of_parts_by, findings_after, findings_of_name, findings_of_parts, stops_of_parts, body_byte}
+use Rattle.gabc_headers.specs.Lines.{bytes_len}
+use Rattle.gabc_headers.specs.Parts.{HeaderPart, left_out, header, unended}
+use Rattle.gabc_headers.specs.declared.heads.Heads.{Heads}
+use Rattle.gabc_headers.specs.declared.heads.HeadFault.{HeadFault}
+use Rattle.gabc_headers.specs.witness.Parts.{head_parts}
+use Rattle.gabc_patterns.proofs.LongestPrefixIsFound.{scalars_parts}
+use Rattle.gabc_body.specs.Canonical.{with_positions, placed_syllables_by}
+use Rattle.gabc_body.specs.ReadAlone.{read_of}
+use Rattle.gabc_body.specs.Reading.{BodyRead, read_on, result_by}
+use Rattle.gabc_body.specs.Reading as read
+use Rattle.gabc_body.specs.Score.{heads_text, after_heads, score_by, score_of}
+use Rattle.gabc_body.specs.Syllable.{UnplacedSyllable}
+use Rattle.gabc_body.specs.declared.body_result.BodyResult.{BodyResult}
+use Rattle.gabc_body.specs.declared.ending.InputEnding.{InputEnding}
+use Rattle.gabc_body.specs.declared.score.Score.{Score}
+use Rattle.gabc_tree.specs.Fates.{kept_at_end, out_by_reading, reached_after, read_first, IsWhatIsRead, AllAreFound}
+use Rattle.gabc_tree.specs.HeaderNodes.{head_end_by}
+use Rattle.gabc_tree.specs.NotKept.{Reached, begun, start, leaves_out, from_here, is_silent, out_of, out_by, out_in_body, but_first}
+use Rattle.gabc_tree.specs.NotKept as beside
+use Rattle.gabc_tree.specs.Tree.{ending_by, characters_before, kept_characters}
+use Rattle.gabc_tree.specs.declared.kind.Kind.TheVariants as kind
+use Rattle.gabc_tree.proofs.fates.Steps.{AreMild}
+use Rattle.gabc_tree.proofs.fates.Coming.{coming, read_to_end, kept_in, from_syllable}
+use Rattle.gabc_tree.proofs.fates.ToTheEnd.{result_is, kept_to_end}
+use Rattle.gabc_tree.proofs.fates.FoundLater.{found_later, later_is, mild_past}
+use Rattle.gabc_tree.proofs.fates.Walk.{IsNear, Beside}
+use Rattle.gabc_tree.proofs.fates.Input.{shown, shown_is, past_both, placed_both, placed_length, Stands, after_characters, out_is_read, found_all}
+
+-- ---- the headers
+
+-- what is found in headers leaves out no character
+abbrev AreMildKnown : List Known → Type 0
+AreMildKnown [] = Unit {0}
+AreMildKnown (k ∷ ks) = (leaves_out k.finding.code ≡ false) × AreMildKnown ks
+
+known_both : (ks js : List Known) → AreMildKnown ks → AreMildKnown js → AreMildKnown (ks ++ js)
+known_both [] js h i = i
+known_both (k ∷ ks) js h i = (h.0, known_both ks js h.1 i)
+
+parts_mild : (seen : List (List ℕ)) (ps : List HeaderPart) → AreMildKnown (findings_after seen ps)
+parts_mild seen [] = tt
+parts_mild seen (left_out k p ∷ ps) = (refl, parts_mild seen ps)
+parts_mild seen (unended k ∷ ps) = parts_mild seen ps
+parts_mild seen (header k name value p ∷ ps) = by (is_kept name value) (repeats seen name) (parts_mild (cond (is_kept name value) (name ∷ seen) seen) ps)
+  where
+    by : (o r : Bool) → AreMildKnown (findings_after (cond (is_kept name value) (name ∷ seen) seen) ps)
+        → AreMildKnown (cond o (cond r (record { point = p; finding = record { place = record { line = k; column = 1 }; code = W2 } } ∷ []) []) (record { point = p; finding = record { place = record { line = k; column = 1 }; code = E5 } } ∷ []) ++ findings_after (cond (is_kept name value) (name ∷ seen) seen) ps)
+    by true true h = (refl, h)
+    by true false h = h
+    by false r h = (refl, h)
+
+all_mild : (t : List ℕ) (ps : List HeaderPart) → AreMildKnown (findings_of_parts t ps)
+all_mild t ps = known_both (findings_after [] ps) (findings_of_name t ps) (parts_mild [] ps) (name_mild t ps)
+  where
+    one : (o : Bool) (k : Known) → leaves_out k.finding.code ≡ false → AreMildKnown (cond o (k ∷ []) [])
+    one true k h = (h, tt)
+    one false k h = tt
+
+    name_mild : (t : List ℕ) (ps : List HeaderPart) → AreMildKnown (findings_of_name t ps)
+    name_mild t ps = one _ _ refl
+
+before_mild : (stop : ℕ) (ks : List Known) → AreMildKnown ks → AreMild (findings_before stop ks)
+before_mild stop [] h = tt
+before_mild stop (k ∷ ks) h = by (nat_lt k.point stop) (before_mild stop ks h.1)
+  where
+    by : (o : Bool) → AreMild (findings_before stop ks) → AreMild (map (λ (k : Known). k.finding) (if o then k ∷ filter (λ (k : Known). nat_lt k.point stop) ks else filter (λ (k : Known). nat_lt k.point stop) ks))
+    by true g = (h.0, g)
+    by false g = g
+
+-- the headers that are whole
+pub record AreHeads (t : List ℕ) (heads : Heads) : Type 0 where
+  pub body_is : heads.body ≡ bytes_len (heads_text t)
+  pub mild : AreMild heads.findings
+
+heads_are : (limits : Limits) (t : List ℕ) (heads : Heads) → heads_of limits t ≡ Ok heads → AreHeads t heads
+heads_are limits t heads e = by (earliest (stops_of_parts limits t (head_parts t))) e
+  where
+    by : (o : Option Stop) → heads_of_parts_by t (head_parts t) o ≡ Ok heads → AreHeads t heads
+    by (Some s) f = absurd (cc)
+    by None f =
+        let body : body_byte t ≡ heads.body = ap (head_end_by) f in
+        let found : findings_before (length t + 1) (findings_of_parts t (head_parts t)) ≡ heads.findings = ap findings_in f in
+        record { body_is = sym body; mild = subst AreMild found (before_mild (length t + 1) (findings_of_parts t (head_parts t)) (all_mild t (head_parts t))) }
+      where
+        findings_in : Result Heads HeadFault → List Finding
+        findings_in (Ok heads) = heads.findings
+        findings_in (Err stop) = []
+
+-- as many characters
+count_is : (u v : List ℕ) → characters_before (bytes_len u) (u ++ v) ≡ length u
+count_is [] [] = refl
+count_is [] (c ∷ v) = refl
+count_is (c ∷ u) v =
+    let n = bytes_len-cons c u in
+    let least = (len_utf8_bounds c).0 in
+    some (bytes_len (c ∷ u)) c (omega (arith, n, least)) (omega (arith, n)) (count_is u v)
+  where
+    some : (n c : ℕ) → 1 ≤ n → n - len_utf8 c ≡ bytes_len u → characters_before (bytes_len u) (u ++ v) ≡ length u → cond (n == 0) 0 (1 + characters_before (n - len_utf8 c) (u ++ v)) ≡ suc (length u)
+    some n c h e f = by (n == 0) refl
+      where
+        by : (o : Bool) → (n == 0) ≡ o → cond o 0 (1 + characters_before (n - len_utf8 c) (u ++ v)) ≡ suc (length u)
+        by true g = absurd (let z = eqb-true n 0 g in omega (arith, h, z))
+        by false g = let k = ap (λ (m : ℕ). characters_before m (u ++ v)) e in omega (arith, k, f)
+
+-- ---- the score
+
+placed_kept : (first : Bool) (ms : List UnplacedSyllable) → kept_characters (placed_syllables_by first ms) ≡ kept_in ms
+placed_kept first [] = refl
+placed_kept first (m ∷ ms) = ap (λ (u : List ℕ). chars m.kept ++ u) (placed_kept false ms)
+
+few_characters : (t : List ℕ) → length t ≤ bytes_len t
+few_characters [] = omega arith
+few_characters (c ∷ t) = let n = bytes_len-cons c t in let least = (len_utf8_bounds c).0 in let more = few_characters t in omega (arith, n, least, more)
+
+module _ (limits : Limits) (bytes : List ℕ) (heads : Heads) (heads_is : heads_of limits (text_of_bytes limits.input bytes) ≡ Ok heads) where
+  abbrev text : List ℕ
+  text = text_of_bytes limits.input bytes
+
+  abbrev ending : InputEnding
+  ending = ending_by (decoded_of limits true bytes).fault
+
+  abbrev head : ℕ
+  head = bytes_len (canonical_heads heads.book)
+
+  abbrev lines : ℕ
+  lines = nabc_lines_of heads.book
+
+  abbrev macros : ℕ
+  macros = macros_of heads.book
+
+  abbrev h : List ℕ
+  h = heads_text text
+
+  abbrev body : List ℕ
+  body = after_heads text
+
+  abbrev score : Score
+  score = score_of limits ending text
+
+  abbrev kept : List ℕ
+  kept = kept_characters score.syllables
+
+  abbrev count : ℕ
+  count = characters_before heads.body text
+
+  abbrev xs : List Char
+  xs = placed_characters_from (place_past start h) body
+
+  text_is : h ++ body ≡ text
+  text_is = take-append-drop (head_len text + 2) text
+
+  count_of : count ≡ length h
+  count_of = ap (λ (n : ℕ). characters_before n text) (heads_are limits text heads heads_is).body_is ∙ (ap (characters_before (bytes_len h)) (sym text_is) ∙ count_is h body)
+
+  to_end : place_after text ≡ place_past start (h ++ body)
+  to_end = sym (ap (place_past start) text_is ∙ after_joined [] text)
+
+  near : IsNear start (h ++ body)
+  near = subst (IsNear start) (sym text_is) (record { lines = small; columns = small })
+    where
+      small : 1 + length (text_of_bytes limits.input bytes) < 2 ^ 64
+      small =
+          let few = few_characters text in
+          let long = length-encodes text in
+          let short = text_short limits.input bytes in
+          let most = limits.in_range.input_most in
+          omega (arith, few, long, short, most)
+
+  scalar_body : scalars body ≡ true
+  scalar_body = (scalars_parts h body (ap scalars text_is ∙ all_scalars text (text_scalars limits.input bytes))).1
+
+  abbrev final : BodyRead
+  final = read_to_end limits head lines macros (place_after text) ending read.begun xs
+
+  xs_are : placed_characters_after h body ≡ xs
+  xs_are = sym (placed_after h body) ∙ ap (λ (p : Place). placed_characters_from p body) (sym (after_joined [] h))
+
+  of_body : (score.syllables ≡ with_positions final.made) × (score.findings ≡ heads.findings ++ final.found)
+  of_body =
+      let e : score ≡ score_by limits ending text (Ok heads) = ap (score_by limits ending text) heads_is in
+      let r = result_is limits head lines macros heads.findings (place_after text) ending read.begun xs in
+      let f = ap (λ (ys : List Char). result_by limits head heads.findings (place_after text) ending (read_on limits head lines macros read.begun ys)) xs_are in (
+        ap (λ (s : Score). s.syllables) e ∙ (ap (λ (b : BodyResult). b.syllables) f ∙ r.syllables_are),
+        ap (λ (s : Score). s.findings) e ∙ (ap (λ (b : BodyResult). b.findings) f ∙ r.findings_are),
+      )
+
+  kept_are : kept ≡ from_syllable (read.at_start true) (kept_at_end lines macros read.begun xs) (coming limits head lines macros (place_after text) ending read.begun xs)
+  kept_are =
+      ap kept_characters of_body.0 ∙ (placed_kept true final.made
+      ∙ kept_to_end limits head lines macros heads.findings (place_after text) ending body (place_past start h) read.begun (record { first = refl; before_scalar = refl; kept_scalar = refl }) scalar_body)
+
+  found_are : from_here (place_past start h) score.findings ≡ from_here (place_past start h) (found_later limits head lines macros (place_after text) ending read.begun xs)
+  found_are =
+      ap (from_here (place_past start h)) (of_body.1 ∙ ap (λ (fs : List Finding). heads.findings ++ fs) (later_is limits head lines macros (place_after text) ending xs read.begun))
+      ∙ mild_past (place_past start h) heads.findings (found_later limits head lines macros (place_after text) ending read.begun xs) (heads_are limits text heads heads_is).mild
+
+  ready : Beside limits head lines macros (place_after text) ending read.begun (place_past start h) body true kept (from_here (place_past start h) score.findings)
+  ready = by (coming limits head lines macros (place_after text) ending read.begun xs) refl kept_are
+    where
+      by : (o : Option (List ℕ)) → coming limits head lines macros (place_after text) ending read.begun xs ≡ o → kept ≡ from_syllable (read.at_start true) (kept_at_end lines macros read.begun xs) o
+          → Beside limits head lines macros (place_after text) ending read.begun (place_past start h) body true kept (from_here (place_past start h) score.findings)
+      by None e f = inl f
+      by (Some ks) e f = inr (record { coming_is = e ∙ ap Some (sym f); comment_is = refl; findings_are = found_are })
+
+  abbrev begins : Reached
+  begins = begun count kept score.findings
+
+  abbrev StandsHere : Reached → List ℕ → List ℕ → Type 0
+  StandsHere s u t = Stands limits head lines macros (place_after text) ending h body kept score.findings to_end near ready s u t
+
+  starts : StandsHere begins [] text
+  starts = subst (λ (n : ℕ). StandsHere (begun n kept score.findings) [] text) (sym count_of) (by (length h) refl)
+    where
+      none : (u : List ℕ) → length u ≡ 0 → u ≡ []
+      none [] e = refl
+      none (c ∷ u) e = absurd (omega (arith, e))
+
+      by : (n : ℕ) → length h ≡ n → StandsHere (begun n kept score.findings) [] text
+      by zero e =
+          let empty = none h e in
+          let same : body ≡ text = ap (λ (u : List ℕ). u ++ body) (sym empty) ∙ text_is in
+          inr (record {
+            gone = [];
+            all_is = sym empty ∙ sym (append-nil h);
+            heads_is = refl;
+            place_is = refl;
+            beside =
+                subst (λ (t : List ℕ). Beside limits head lines macros (place_after text) ending read.begun start t true kept (from_here start score.findings)) same
+                (subst (λ (u : List ℕ). Beside limits head lines macros (place_after text) ending read.begun (place_past start u) body true kept (from_here (place_past start u) score.findings)) empty ready);
+          })
+      by (suc n) e = inl (record { more = n; heads_is = refl; count_is = let f = e in omega (arith, f); place_is = refl; kept_is = refl; findings_are = refl })
+
+  -- where the going over stands after some characters
+  after_some : (before more : List ℕ) → utf8_prefix_of (take limits.input bytes) ≡ before ++ more → StandsHere (reached_after begins before) (shown 0 before) (shown (reached_after begins before).previous more)
+  after_some before more e =
+      after_characters limits head lines macros (place_after text) ending h body kept score.findings to_end near ready before more begins [] text (sym text_is) starts
+      (sym (shown_is (before ++ more)) ∙ ap text_of_characters (sym e))
+
+  shown_both : (previous : ℕ) (s : Reached) (before more : List ℕ) → previous ≡ s.previous → shown previous (before ++ more) ≡ shown previous before ++ shown (reached_after s before).previous more
+  shown_both previous s [] more e = ap (λ (p : ℕ). shown p more) e
+  shown_both previous s (c ∷ before) more e = by (is_left_out (previous, c)) (shown_both c (beside.past s c) before more refl)
+    where
+      by : (o : Bool) → shown c (before ++ more) ≡ shown c before ++ shown (reached_after (beside.past s c) before).previous more
+          → cond o (shown c (before ++ more)) (read_as c ∷ shown c (before ++ more)) ≡ cond o (shown c before) (read_as c ∷ shown c before) ++ shown (reached_after (beside.past s c) before).previous more
+      by true f = f
+      by false f = ap (λ (u : List ℕ). read_as c ∷ u) f
+
+  pub all_found : (reached_after begins (utf8_prefix_of (take limits.input bytes))).kept ≡ []
+  all_found =
+      let cs = utf8_prefix_of (take limits.input bytes) in
+      found_all limits head lines macros (place_after text) ending h body kept score.findings to_end near ready (reached_after begins cs) (shown 0 cs) (sym (shown_is cs) ∙ sym text_is)
+      (after_some cs [] (sym (append-nil cs)))
+
+  pub what_is_read : (before after : List ℕ) (c : ℕ) (x : Char) (ys : List Char) → utf8_prefix_of (take limits.input bytes) ≡ before ++ c ∷ after
+      → let s = reached_after begins before in
+      let n = length (text_of_characters before) in
+      s.heads ≡ 0 → (s.kept ≡ [] → ⊥) → is_silent s c ≡ false → drop n (placed_characters text) ≡ x ∷ ys
+      → out_of s c ≡ out_by_reading lines macros (read_first lines macros count (placed_characters text) n) x ys
+  what_is_read before after c x ys e none some loud here =
+      let s : Reached = reached_after begins before in
+      let u = shown 0 before in
+      let d = read_as c in
+      let t = shown c after in
+      let n : length (text_of_characters before) ≡ length u = ap length (shown_is before) in
+      let next : shown s.previous (c ∷ after) ≡ d ∷ t = ap (λ (o : Bool). cond o t (d ∷ t)) loud in
+      let all : u ++ d ∷ t ≡ text = ap (λ (v : List ℕ). u ++ v) (sym next) ∙ (sym (shown_both 0 begins before (c ∷ after) refl) ∙ (sym (shown_is (before ++ c ∷ after)) ∙ ap text_of_characters (sym e))) in
+      let stands : StandsHere s u (d ∷ t) = subst (StandsHere s u) next (after_some before (c ∷ after) e) in
+      let placed : placed_characters text ≡ placed_characters_from start u ++ placed_characters_from (place_past start u) (d ∷ t) = sym (placed_after [] text) ∙ (ap (placed_characters_from start) (sym all) ∙ placed_both start u (d ∷ t)) in
+      let long = placed_length start u in
+      let rest : x ∷ ys ≡ placed_characters_from (place_past start u) (d ∷ t) =
+      sym here ∙ (ap (λ (m : ℕ). drop m (placed_characters text)) n ∙ (ap (drop (length u)) placed ∙ drop_at (placed_characters_from start u) (placed_characters_from (place_past start u) (d ∷ t)) (length u) long)) in
+      let front : take (length (text_of_characters before)) (placed_characters text) ≡ placed_characters_from start u =
+      ap (λ (m : ℕ). take m (placed_characters text)) n ∙ (ap (take (length u)) placed ∙ take_at (placed_characters_from start u) (placed_characters_from (place_past start u) (d ∷ t)) (length u) long) in
+      let x_is : x ≡ record { c = d; place = place_past start u } = cc rest in
+      let ys_are : ys ≡ placed_characters_from (next_place (place_past start u) d) t = cc rest in
+      out_when s c none loud
+      ∙ (out_is_read limits head lines macros (place_after text) ending h body kept score.findings to_end near ready s u t d (all ∙ sym text_is) stands none some
+      ∙ (ap (λ (b : BodyRead). out_by_reading lines macros b (record { c = d; place = place_past start u }) (placed_characters_from (place_past start (u ++ d ∷ [])) t)) (ap (λ (zs : List Char). read_of lines macros read.begun zs) (ap (λ (m : ℕ). drop m (placed_characters_from start u)) (sym count_of) ∙ ap (drop count) (sym front)))
+      ∙ (ap (λ (q : Place). out_by_reading lines macros (read_first lines macros count (placed_characters text) (length (text_of_characters before))) (record { c = d; place = place_past start u }) (placed_characters_from q t)) (past_both start u (d ∷ []))
+      ∙ (ap (λ (y : Char). out_by_reading lines macros (read_first lines macros count (placed_characters text) (length (text_of_characters before))) y (placed_characters_from (next_place (place_past start u) d) t)) (sym x_is)
+      ∙ ap (λ (zs : List Char). out_by_reading lines macros (read_first lines macros count (placed_characters text) (length (text_of_characters before))) x zs) (sym ys_are)))))
+    where
+      out_when : (s : Reached) (c : ℕ) → s.heads ≡ 0 → is_silent s c ≡ false → out_of s c ≡ out_in_body s (read_as c)
+      out_when s c none loud =
+          ap (λ (o : Bool). cond o (Some (kind.Silent, 0)) (out_by s (read_as c))) loud
+          ∙ ap (λ (n : ℕ). cond (nat_lt 0 n) None (out_in_body s (read_as c))) none
+
+-- ---- the laws
+
+pub read_so : (limits : Limits) (bytes : List ℕ) → IsWhatIsRead limits bytes
+read_so limits bytes = λ heads before after c x xs e f. what_is_read limits bytes heads e before after c x xs f
+
+-- what is empty stays so
+stays_empty : (cs : List ℕ) (s : Reached) → s.kept ≡ [] → (reached_after s cs).kept ≡ []
+stays_empty [] s e = e
+stays_empty (c ∷ cs) s e = stays_empty cs (beside.past s c) (by (is_silent s c))
+  where
+    body : (o : Bool) → cond o s.kept (but_first s.kept) ≡ []
+    body true = e
+    body false = ap but_first e
+
+    shown_by : (o : Bool) → (cond o (beside.past_head s) (beside.past_body s (read_as c))).kept ≡ []
+    shown_by true = e
+    shown_by false = body (is_some (out_in_body s (read_as c)))
+
+    by : (o : Bool) → (cond o s (beside.past_shown s (read_as c))).kept ≡ []
+    by true = e
+    by false = shown_by (nat_lt 0 s.heads)
+
+pub found_so : (limits : Limits) (bytes : List ℕ) → AllAreFound limits bytes
+found_so limits bytes = by (heads_of limits (text_of_bytes limits.input bytes)) refl
+  where
+    by : (r : Result Heads HeadFault) → heads_of limits (text_of_bytes limits.input bytes) ≡ r → AllAreFound limits bytes
+    by (Err stop) e =
+        let ending = ending_by (decoded_of limits true bytes).fault in
+        let text = text_of_bytes limits.input bytes in
+        stays_empty (utf8_prefix_of (take limits.input bytes)) _ (ap (λ (q : Result Heads HeadFault). kept_characters (score_by limits ending text q).syllables) e)
+    by (Ok heads) e =
+        subst (λ (q : Result Heads HeadFault). (reached_after (begun (characters_before (head_end_by q) (text_of_bytes limits.input bytes)) (kept_characters (score_of limits (ending_by (decoded_of limits true bytes).fault) (text_of_bytes limits.input bytes)).syllables) (score_of limits (ending_by (decoded_of limits true bytes).fault) (text_of_bytes limits.input bytes)).findings) (utf8_prefix_of (take limits.input bytes))).kept ≡ [])
+        (sym e) (all_found limits bytes heads e)

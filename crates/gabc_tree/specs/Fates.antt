@@ -1,0 +1,94 @@
+-- What is not kept of a body, by what becomes of each character where the reading by what is kept
+-- stands.
+use Rattle.std.specs.Prelude.{◌≡◌, ℕ, List, [], ◌∷◌, ◌++◌, Bool, true, false, cond, not, ◌&&◌, ◌==◌, nat_le, length, take, drop, Option, Some, None, Ok}
+use Rattle.gabc_places.specs.Fate.{Fate, Keep, Comment, Ends, LeaveOut}
+use Rattle.gabc_places.specs.declared.limits.Limits.{Limits}
+use Rattle.gabc_places.specs.declared.place.Char.{Char}
+use Rattle.gabc_places.specs.Place.{placed_characters}
+use Rattle.gabc_places.specs.Text.{decoded_of, text_of_characters, utf8_prefix_of}
+use Rattle.gabc_headers.specs.Book.{nabc_lines_of, macros_of}
+use Rattle.gabc_headers.specs.Heads.{heads_of}
+use Rattle.gabc_headers.specs.declared.heads.Heads.{Heads}
+use Rattle.gabc_text.specs.Token.{is_blank}
+use Rattle.gabc_body.specs.ReadAlone.{read_of}
+use Rattle.gabc_body.specs.Reading as read
+use Rattle.gabc_body.specs.Reading.{Part, InText, InNotes, BodyRead, fate_by, whole_of}
+use Rattle.gabc_body.specs.Score.{score_of}
+use Rattle.gabc_tree.specs.CodeNumber.{number_of_code}
+use Rattle.gabc_tree.specs.HeaderNodes.{head_end}
+use Rattle.gabc_tree.specs.NotKept.{Reached, begun, past, is_silent, out_of}
+use Rattle.gabc_tree.specs.Tree.{ending_by, characters_before, kept_characters}
+use Rattle.gabc_tree.specs.declared.kind.Kind.{Kind}
+use Rattle.gabc_tree.specs.declared.kind.Kind.TheVariants as kind
+
+-- what becomes of the character: a comment goes on up to an LF
+abbrev pub fate_at : ℕ → BodyRead → Char → Fate
+fate_at lines b x = cond (b.reading.comment && not (x.c == 10)) Comment (fate_by lines b.reading.part b.reading.kept x.c)
+
+abbrev pub ends : Fate → Bool
+ends Ends = true
+ends _ = false
+
+-- what is kept of the part that is read where it ends, if these characters are to come
+abbrev pub kept_at_end : ℕ → ℕ → BodyRead → List Char → List ℕ
+kept_at_end lines macros b [] = b.reading.kept
+kept_at_end lines macros b (x ∷ xs) = cond (ends (fate_at lines b x)) b.reading.kept (kept_at_end lines macros (read.past lines macros b x) xs)
+
+-- Of a snippet an unfinished end is cut where it ends: with it goes what is kept after this, of all
+-- that is kept there.
+abbrev pub is_cut_by : Part → List ℕ → List ℕ → Bool
+is_cut_by InText kept all = false
+is_cut_by (InNotes line) kept all = nat_le (length (whole_of line all)) (length kept)
+
+-- a character that is kept here is cut
+abbrev pub is_cut : ℕ → ℕ → BodyRead → Char → List Char → Bool
+is_cut lines macros b x xs = is_cut_by b.reading.part b.reading.kept (kept_at_end lines macros b (x ∷ xs))
+
+-- what a character is that is cut
+abbrev pub out_by_cut : ℕ → Kind × ℕ
+out_by_cut c = cond (is_blank c) (kind.FurtherBlank, 0) (kind.LeftOut, 106)
+
+-- what a character is of which this becomes, if it is not kept: its kind and its number
+abbrev pub out_by_fate : Bool → ℕ → Fate → Option (Kind × ℕ)
+out_by_fate cut c Keep = cond cut (Some (out_by_cut c)) None
+out_by_fate cut c Comment = Some (kind.Comment, 0)
+out_by_fate cut c Ends = None
+out_by_fate cut c (LeaveOut None) = Some (kind.FurtherBlank, 0)
+out_by_fate cut c (LeaveOut (Some code)) = Some (kind.LeftOut, number_of_code code)
+
+-- what the character is where the reading stands, before these characters
+abbrev pub out_by_reading : ℕ → ℕ → BodyRead → Char → List Char → Option (Kind × ℕ)
+out_by_reading lines macros b x xs = out_by_fate (is_cut lines macros b x xs) x.c (fate_at lines b x)
+
+-- ---- of an input
+
+-- where the going over an input stands after these characters
+abbrev pub reached_after : Reached → List ℕ → Reached
+reached_after s [] = s
+reached_after s (c ∷ cs) = reached_after (past s c) cs
+
+-- what is read of the first n characters of a text, the first of which are its headers'
+abbrev pub read_first : ℕ → ℕ → ℕ → List Char → ℕ → BodyRead
+read_first lines macros heads xs n = read_of lines macros read.begun (drop heads (take n xs))
+
+-- Law: as long as a character of the syllables is still to come, a character of the input that is
+-- shown is what the reading makes of it.
+abbrev pub IsWhatIsRead : Limits → List ℕ → Type 0
+IsWhatIsRead limits bytes =
+    let decoded = decoded_of limits true bytes in
+    let text = decoded.text in
+    let score = score_of limits (ending_by decoded.fault) text in
+    (heads : Heads) (before after : List ℕ) (c : ℕ) (x : Char) (xs : List Char) → heads_of limits text ≡ Ok heads
+    → utf8_prefix_of (take limits.input bytes) ≡ before ++ c ∷ after
+    → let count = characters_before heads.body text in
+    let s = reached_after (begun count (kept_characters score.syllables) score.findings) before in
+    let n = length (text_of_characters before) in
+    s.heads ≡ 0 → (s.kept ≡ [] → ⊥) → is_silent s c ≡ false → drop n (placed_characters text) ≡ x ∷ xs
+    → out_of s c ≡ out_by_reading (nabc_lines_of heads.book) (macros_of heads.book) (read_first (nabc_lines_of heads.book) (macros_of heads.book) count (placed_characters text) n) x xs
+
+-- Law: each character that is kept of the syllables is found in the input.
+abbrev pub AllAreFound : Limits → List ℕ → Type 0
+AllAreFound limits bytes =
+    let decoded = decoded_of limits true bytes in
+    let score = score_of limits (ending_by decoded.fault) decoded.text in
+    (reached_after (begun (characters_before (head_end limits decoded.text) decoded.text) (kept_characters score.syllables) score.findings) (utf8_prefix_of (take limits.input bytes))).kept ≡ []

@@ -1,0 +1,19 @@
+//! Laws: what is not kept of an input is what the reading by what is kept makes of it. Each
+//! function is there for its clauses, and does nothing.
+
+ghost use Rattle.std.specs.Prelude.{ℕ, List};
+ghost use Rattle.gabc_places.specs.declared.limits.Limits.{Limits};
+ghost use Rattle.gabc_tree.specs.Fates.{IsWhatIsRead, AllAreFound};
+
+/// Law: up to the last character that is kept, a character of the body is a node of what is not
+/// kept exactly if it is not kept where the reading stands, with the kind and the code of what
+/// becomes of it there: it lies in a comment, or it is left out with a code or in silence. A
+/// character that is kept is one if it is cut at the end of its snippet.
+pub fn what_is_not_kept_is_what_is_read()
+    ensures { (limits : Limits) (bytes : List ℕ) → IsWhatIsRead limits bytes }
+{}
+
+/// Law: each character that is kept of the syllables is found in the input.
+pub fn all_that_is_kept_is_found()
+    ensures { (limits : Limits) (bytes : List ℕ) → AllAreFound limits bytes }
+{}
