@@ -1,6 +1,9 @@
 pub mod FewCovered
 pub mod fates
 pub mod HeaderLinesByRow
+pub mod KeptHeaders
+pub mod KeptNodes
+pub mod LongItems
 pub mod LinesByBytes
 pub mod NestedHeaders
 pub mod NestedNabc
@@ -11,6 +14,7 @@ pub mod OneDigit
 pub mod PiecesOfDescriptors
 pub mod SuffixesStepByStep
 pub mod TextNodesByTokens
+pub mod WholeTree
 pub mod not_kept_nodes
 pub mod placed_nodes
 pub mod syllables

@@ -8,3 +8,5 @@ pub mod FoundLater
 pub mod Walk
 pub mod Input
 pub mod OfScore
+pub mod Left
+pub mod MadeWell

@@ -1,1 +1,4 @@
 pub mod TextsFit
+pub mod TextsOfSpans
+pub mod KeptSyllables
+pub mod HeldSnippets

@@ -1,11 +1,11 @@
 -- What is not kept of a body, by what becomes of each character where the reading by what is kept
 -- stands.
-use Rattle.std.specs.Prelude.{◌≡◌, ℕ, List, [], ◌∷◌, ◌++◌, Bool, true, false, cond, not, ◌&&◌, ◌==◌, nat_le, length, take, drop, Option, Some, None, Ok}
+use Rattle.std.specs.Prelude.{◌≡◌, ℕ, List, [], ◌∷◌, ◌++◌, Bool, true, false, cond, not, ◌&&◌, ◌==◌, nat_le, length, map, take, drop, Option, Some, None, is_some, Ok}
 use Rattle.gabc_places.specs.Fate.{Fate, Keep, Comment, Ends, LeaveOut}
 use Rattle.gabc_places.specs.declared.limits.Limits.{Limits}
 use Rattle.gabc_places.specs.declared.place.Char.{Char}
 use Rattle.gabc_places.specs.Place.{placed_characters}
-use Rattle.gabc_places.specs.Text.{decoded_of, text_of_characters, utf8_prefix_of}
+use Rattle.gabc_places.specs.Text.{decoded_of, read_as, text_of_characters, utf8_prefix_of}
 use Rattle.gabc_headers.specs.Book.{nabc_lines_of, macros_of}
 use Rattle.gabc_headers.specs.Heads.{heads_of}
 use Rattle.gabc_headers.specs.declared.heads.Heads.{Heads}
@@ -13,7 +13,7 @@ use Rattle.gabc_text.specs.Token.{is_blank}
 use Rattle.gabc_body.specs.ReadAlone.{read_of}
 use Rattle.gabc_body.specs.Reading as read
 use Rattle.gabc_body.specs.Reading.{Part, InText, InNotes, BodyRead, fate_by, whole_of}
-use Rattle.gabc_body.specs.Score.{score_of}
+use Rattle.gabc_body.specs.Score.{heads_text, score_of}
 use Rattle.gabc_tree.specs.CodeNumber.{number_of_code}
 use Rattle.gabc_tree.specs.HeaderNodes.{head_end}
 use Rattle.gabc_tree.specs.NotKept.{Reached, begun, past, is_silent, out_of}
@@ -92,3 +92,22 @@ AllAreFound limits bytes =
     let decoded = decoded_of limits true bytes in
     let score = score_of limits (ending_by decoded.fault) decoded.text in
     (reached_after (begun (characters_before (head_end limits decoded.text) decoded.text) (kept_characters score.syllables) score.findings) (utf8_prefix_of (take limits.input bytes))).kept ≡ []
+
+-- a blank as U+0020
+abbrev pub spaced : ℕ → ℕ
+spaced c = cond (is_blank c) 32 c
+
+-- what is left of these characters without what is not kept, where the going over stands
+abbrev pub left_of : Reached → List ℕ → List ℕ
+left_of s [] = []
+left_of s (c ∷ cs) = cond (is_some (out_of s c)) (left_of (past s c) cs) (read_as c ∷ left_of (past s c) cs)
+
+-- Law: without what is not kept, an input is the text of its headers, then the kept texts of the
+-- syllables, one after the other, and then what stands after them, each blank as U+0020.
+pub record IsKeptText (limits : Limits) (bytes : List ℕ) (heads : Heads) : Type 0 where
+  pub tail : List ℕ
+  pub is :
+      let decoded = decoded_of limits true bytes in
+      let score = score_of limits (ending_by decoded.fault) decoded.text in
+      let s = begun (characters_before heads.body decoded.text) (kept_characters score.syllables) score.findings in
+      map spaced (left_of s (utf8_prefix_of (take limits.input bytes))) ≡ map spaced (heads_text decoded.text ++ (kept_characters score.syllables ++ tail))

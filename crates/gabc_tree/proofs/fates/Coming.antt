@@ -95,7 +95,7 @@ pub record IsWell (r : Reading) : Type 0 where
   pub before_scalar : scalars r.before ≡ true
   pub kept_scalar : scalars r.kept ≡ true
 
-scalars_joined : (a b : List ℕ) → scalars a ≡ true → scalars b ≡ true → scalars (a ++ b) ≡ true
+pub scalars_joined : (a b : List ℕ) → scalars a ≡ true → scalars b ≡ true → scalars (a ++ b) ≡ true
 scalars_joined [] b h i = i
 scalars_joined (c ∷ a) b h i =
     let p = and_parts (scalar c) (scalars a) h in
@@ -118,7 +118,7 @@ whole_is_front line kept = by (line == 0)
     by true = front_is (longest (λ (front : List ℕ). cond (is_read gabc front) (Some true) None) (length kept) kept) kept
     by false = front_is (longest (λ (front : List ℕ). cond (is_read nabc front) (Some true) None) (length kept) kept) kept
 
-whole_scalar : (line : ℕ) (kept : List ℕ) → scalars kept ≡ true → scalars (whole_of line kept) ≡ true
+pub whole_scalar : (line : ℕ) (kept : List ℕ) → scalars kept ≡ true → scalars (whole_of line kept) ≡ true
 whole_scalar line kept h =
     let n : ℕ = length (whole_of line kept) in
     let p = scalars_parts (take n kept) (drop n kept) (ap scalars (take-append-drop n kept) ∙ h) in
@@ -133,7 +133,7 @@ as_scalar InText kept c h = by (belongs (reverse (tokens kept)) c) (is_blank c)
     by false false = ap (λ (o : Bool). o && true) h
 as_scalar (InNotes line) kept c h = ap (λ (o : Bool). o && true) h
 
-ends_scalar : (before kept : List ℕ) (c : ℕ) → scalars before ≡ true → scalars kept ≡ true → scalar c ≡ true → scalars (before ++ (kept ++ c ∷ [])) ≡ true
+pub ends_scalar : (before kept : List ℕ) (c : ℕ) → scalars before ≡ true → scalars kept ≡ true → scalar c ≡ true → scalars (before ++ (kept ++ c ∷ [])) ≡ true
 ends_scalar before kept c h i j = scalars_joined before (kept ++ c ∷ []) h (scalars_joined kept (c ∷ []) i (ap (λ (o : Bool). o && true) j))
 
 pub stays_well : (lines : ℕ) (b : BodyRead) (x : Char) (next : BodyRead) → Step lines b x next → scalar x.c ≡ true → IsWell b.reading → IsWell next.reading

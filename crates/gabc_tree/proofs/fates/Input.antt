@@ -113,9 +113,6 @@ module _ (limits : Limits) (head lines macros : ℕ) (at_end : Place) (ending : 
   head_step : (s : Reached) (u t : List ℕ) (c : ℕ) → u ++ c ∷ t ≡ h ++ body → InHeads s u → Stands (past_shown s c) (u ++ c ∷ []) t
   head_step s u t c e i = by i.more i.heads_is i.count_is
     where
-      p : Place
-      p = place_past start u
-
       next_is : place_past start (u ++ c ∷ []) ≡ next_place (place_past start u) c
       next_is = past_both start u (c ∷ [])
 

@@ -32,7 +32,7 @@ use Rattle.gabc_body.specs.ReadAlone.{read_of}
 use Rattle.gabc_body.specs.Reading.{BodyRead, read_on, result_by}
 use Rattle.gabc_body.specs.Reading as read
 use Rattle.gabc_body.specs.Score.{heads_text, after_heads, score_by, score_of}
-use Rattle.gabc_body.specs.Syllable.{UnplacedSyllable}
+use Rattle.gabc_body.specs.Syllable.{PlacedSyllable, UnplacedSyllable}
 use Rattle.gabc_body.specs.declared.body_result.BodyResult.{BodyResult}
 use Rattle.gabc_body.specs.declared.ending.InputEnding.{InputEnding}
 use Rattle.gabc_body.specs.declared.score.Score.{Score}
@@ -44,6 +44,7 @@ use Rattle.gabc_tree.specs.Tree.{ending_by, characters_before, kept_characters}
 use Rattle.gabc_tree.specs.declared.kind.Kind.TheVariants as kind
 use Rattle.gabc_tree.proofs.fates.Steps.{AreMild}
 use Rattle.gabc_tree.proofs.fates.Coming.{coming, read_to_end, kept_in, from_syllable}
+use Rattle.gabc_tree.proofs.fates.MadeWell.{IsMadeWell, AreMadeWell, all_made_well}
 use Rattle.gabc_tree.proofs.fates.ToTheEnd.{result_is, kept_to_end}
 use Rattle.gabc_tree.proofs.fates.FoundLater.{found_later, later_is, mild_past}
 use Rattle.gabc_tree.proofs.fates.Walk.{IsNear, Beside}
@@ -95,7 +96,7 @@ pub record AreHeads (t : List ℕ) (heads : Heads) : Type 0 where
   pub body_is : heads.body ≡ bytes_len (heads_text t)
   pub mild : AreMild heads.findings
 
-heads_are : (limits : Limits) (t : List ℕ) (heads : Heads) → heads_of limits t ≡ Ok heads → AreHeads t heads
+pub heads_are : (limits : Limits) (t : List ℕ) (heads : Heads) → heads_of limits t ≡ Ok heads → AreHeads t heads
 heads_are limits t heads e = by (earliest (stops_of_parts limits t (head_parts t))) e
   where
     by : (o : Option Stop) → heads_of_parts_by t (head_parts t) o ≡ Ok heads → AreHeads t heads
@@ -131,7 +132,15 @@ placed_kept : (first : Bool) (ms : List UnplacedSyllable) → kept_characters (p
 placed_kept first [] = refl
 placed_kept first (m ∷ ms) = ap (λ (u : List ℕ). chars m.kept ++ u) (placed_kept false ms)
 
-few_characters : (t : List ℕ) → length t ≤ bytes_len t
+abbrev pub AreWellPlaced : List PlacedSyllable → Type 0
+AreWellPlaced [] = Unit {0}
+AreWellPlaced (s ∷ ss) = IsMadeWell s.made × AreWellPlaced ss
+
+placed_well : (first : Bool) (ms : List UnplacedSyllable) → AreMadeWell ms → AreWellPlaced (placed_syllables_by first ms)
+placed_well first [] h = tt
+placed_well first (m ∷ ms) h = (h.0, placed_well false ms h.1)
+
+pub few_characters : (t : List ℕ) → length t ≤ bytes_len t
 few_characters [] = omega arith
 few_characters (c ∷ t) = let n = bytes_len-cons c t in let least = (len_utf8_bounds c).0 in let more = few_characters t in omega (arith, n, least, more)
 
@@ -169,10 +178,10 @@ module _ (limits : Limits) (bytes : List ℕ) (heads : Heads) (heads_is : heads_
   abbrev xs : List Char
   xs = placed_characters_from (place_past start h) body
 
-  text_is : h ++ body ≡ text
+  pub text_is : h ++ body ≡ text
   text_is = take-append-drop (head_len text + 2) text
 
-  count_of : count ≡ length h
+  pub count_of : count ≡ length h
   count_of = ap (λ (n : ℕ). characters_before n text) (heads_are limits text heads heads_is).body_is ∙ (ap (characters_before (bytes_len h)) (sym text_is) ∙ count_is h body)
 
   to_end : place_after text ≡ place_past start (h ++ body)
@@ -267,6 +276,11 @@ module _ (limits : Limits) (bytes : List ℕ) (heads : Heads) (heads_is : heads_
           → cond o (shown c (before ++ more)) (read_as c ∷ shown c (before ++ more)) ≡ cond o (shown c before) (read_as c ∷ shown c before) ++ shown (reached_after (beside.past s c) before).previous more
       by true f = f
       by false f = ap (λ (u : List ℕ). read_as c ∷ u) f
+
+  pub syllables_well : AreWellPlaced score.syllables
+  syllables_well =
+      subst AreWellPlaced (sym of_body.0)
+      (placed_well true final.made (all_made_well limits head lines macros (place_after text) ending body (place_past start h) read.begun (record { first = refl; before_scalar = refl; kept_scalar = refl }) tt scalar_body))
 
   pub all_found : (reached_after begins (utf8_prefix_of (take limits.input bytes))).kept ≡ []
   all_found =

@@ -6,7 +6,7 @@ use Rattle.gabc_places.specs.declared.place.Span.{Span}
 use Rattle.gabc_body.specs.Syllable.{slice, text_at, is_seam}
 use Rattle.gabc_tree.specs.Placed.{offset}
 
-slice_len : (span : Span) (bytes : List ℕ) → length (slice span bytes) ≤ span.to - span.from
+pub slice_len : (span : Span) (bytes : List ℕ) → length (slice span bytes) ≤ span.to - span.from
 unfolding slice
 slice_len span bytes = grind (arith, length-take)
 
