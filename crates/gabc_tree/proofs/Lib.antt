@@ -11,6 +11,7 @@ pub mod NestedNotes
 pub mod NestedTexts
 pub mod NodesOfItems
 pub mod OneDigit
+pub mod OwnBytes
 pub mod PiecesOfDescriptors
 pub mod SuffixesStepByStep
 pub mod TextNodesByTokens

@@ -27,7 +27,7 @@ use Rattle.gabc_text.proofs.machine.LoopOverText.{bytes_encodes}
 use Rattle.gabc_tree.specs.declared.kind.Kind.TheVariants as node
 use Rattle.gabc_tree.specs.declared.node.Node.{Node}
 use Rattle.gabc_tree.specs.declared.text_nodes.Before.{Before}
-use Rattle.gabc_tree.specs.TextNodes.{leaf, begins_with, numbers_of, is_piece_at, is_escape, raw_number, number_of_mark, tag_node, node_by, node_at, nodes_along, joined, text_nodes}
+use Rattle.gabc_tree.specs.TextNodes.{text_node, begins_with, numbers_of, is_piece_at, is_escape, raw_number, number_of_mark, tag_node, node_by, node_at, nodes_along, joined, text_nodes}
 use Rattle.gabc_tree.specs.machine.TextNodes.{shown_by, styles_past, shown_past, shown_past_tag, has_piece, node_after}
 
 -- ---- a text begins with characters of ASCII if its bytes do
@@ -86,7 +86,7 @@ escape_same (c ∷ cs) = by (36 == c) refl
         ∙ sym (ap (λ (b : Bool). b && nat_lt 1 (length (c ∷ cs))) none)
 
 tag_same : (span : Span) (n : ℕ) (cs : List ℕ) (e : TagEffect) → tag_node span n (encodes cs) e ≡ tag_node span n cs e
-tag_same span n cs does.Mark = ap (λ (m : Option SpanMark). leaf span node.SpanMark n (number_of_mark m) 0) (mark_same cs)
+tag_same span n cs does.Mark = ap (λ (m : Option SpanMark). text_node span node.SpanMark n (number_of_mark m) 0) (mark_same cs)
 tag_same span n cs _ = refl
 
 node_same : (span : Span) (n : ℕ) (piece first : Bool) (cs : List ℕ) (k : TokenKind) (e : TagEffect) → node_by span n piece first (encodes cs) k e ≡ node_by span n piece first cs k e

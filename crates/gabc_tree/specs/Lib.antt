@@ -8,6 +8,7 @@ pub mod Nested
 pub mod NotKept
 pub mod NoteNodes
 pub mod Numbers
+pub mod Own
 pub mod Placed
 pub mod Signs
 pub mod SyllableNodes

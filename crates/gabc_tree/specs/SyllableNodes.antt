@@ -11,10 +11,7 @@ use Rattle.gabc_tree.specs.declared.node.Node.{Node}
 use Rattle.gabc_tree.specs.NabcNodes.{nabc_nodes}
 use Rattle.gabc_tree.specs.NoteNodes.{gabc_nodes}
 use Rattle.gabc_tree.specs.Placed.{offset}
-use Rattle.gabc_tree.specs.TextNodes.{text_nodes}
-
-abbrev pub bit : Bool → ℕ → ℕ
-bit holds n = cond holds n 0
+use Rattle.gabc_tree.specs.TextNodes.{bit, text_nodes}
 
 abbrev pub position_number : Position → ℕ
 position_number position.One = 0

@@ -16,13 +16,14 @@ use Rattle.gabc_text.specs.View.{effect, kind_of, rank, has_begin, has_end, has_
 use Rattle.gabc_text.specs.Events.{styles_of, is_blank_at}
 use Rattle.gabc_text.specs.KeptText.{bytes_before}
 use Rattle.gabc_text.specs.RegularText.{mark_at}
+use Rattle.gabc_tree.specs.NotKept.{leaf}
 use Rattle.gabc_tree.specs.declared.kind.Kind.{Kind}
 use Rattle.gabc_tree.specs.declared.kind.Kind.TheVariants as kind
 use Rattle.gabc_tree.specs.declared.node.Node.{Node}
 
--- a node in which no other lies
-abbrev pub leaf : Span → Kind → ℕ → ℕ → ℕ → Node
-leaf span k a b c = record { begin = span.from; end = span.to; inner = 0; kind = k; a = a; b = b; c = c }
+-- a node with these bytes, kind and numbers, in which no other lies
+abbrev pub text_node : Span → Kind → ℕ → ℕ → ℕ → Node
+text_node span k a b c = record (leaf k a span.from span.to) { b = b; c = c }
 
 -- ---- numbers
 
@@ -61,22 +62,22 @@ number_of_mark None = 0
 
 -- of a tag with these bytes, numbers and spelling, by what it does
 abbrev pub tag_node : Span → ℕ → List ℕ → TagEffect → Node
-tag_node span n s (Opens r) = leaf span kind.StyleTag 0 (rank r) 0
-tag_node span n s (Closes r) = leaf span kind.StyleTag 0 (rank r) 1
-tag_node span n s Mark = leaf span kind.SpanMark n (number_of_mark (mark_at s)) 0
-tag_node span n s _ = leaf span kind.Tag n 0 0
+tag_node span n s (Opens r) = text_node span kind.StyleTag 0 (rank r) 0
+tag_node span n s (Closes r) = text_node span kind.StyleTag 0 (rank r) 1
+tag_node span n s Mark = text_node span kind.SpanMark n (number_of_mark (mark_at s)) 0
+tag_node span n s _ = text_node span kind.Tag n 0 0
 
 -- Of a token, by its kind and what its tag does: `n` are the numbers there, `is_piece` says of a
 -- blank that it is a piece, `is_first` of a translation that none stands before it, and `s` is how
 -- it is spelled. No other token is in the text of a syllable with notes.
 abbrev pub node_by : Span → ℕ → Bool → Bool → List ℕ → TokenKind → TagEffect → Option Node
-node_by span n is_piece is_first s Letter e = Some (leaf span (if is_escape s then kind.Escape else kind.Characters) n 0 0)
-node_by span n is_piece is_first s Blank e = Some (leaf span kind.TextBlank n (bit is_piece 1) 0)
-node_by span n is_piece is_first s Raw e = Some (leaf span kind.Raw n (raw_number s) 0)
+node_by span n is_piece is_first s Letter e = Some (text_node span (if is_escape s then kind.Escape else kind.Characters) n 0 0)
+node_by span n is_piece is_first s Blank e = Some (text_node span kind.TextBlank n (bit is_piece 1) 0)
+node_by span n is_piece is_first s Raw e = Some (text_node span kind.Raw n (raw_number s) 0)
 node_by span n is_piece is_first s Tag e = Some (tag_node span n s e)
-node_by span n is_piece is_first s Begin e = Some (leaf span kind.Brace 0 0 0)
-node_by span n is_piece is_first s End e = Some (leaf span kind.Brace 0 1 0)
-node_by span n is_piece is_first s Translation e = Some (leaf span kind.Translation 0 (bit is_first 1) 0)
+node_by span n is_piece is_first s Begin e = Some (text_node span kind.Brace 0 0 0)
+node_by span n is_piece is_first s End e = Some (text_node span kind.Brace 0 1 0)
+node_by span n is_piece is_first s Translation e = Some (text_node span kind.Translation 0 (bit is_first 1) 0)
 node_by span n is_piece is_first s _ e = None
 
 -- the bytes of the token

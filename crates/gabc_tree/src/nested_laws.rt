@@ -8,6 +8,7 @@ ghost use Rattle.gabc_places.specs.declared.limits.Limits.{Limits};
 ghost use Rattle.gabc_tree.specs.Nested.{AreNested, AreOneTree};
 ghost use Rattle.gabc_tree.specs.NabcNodes.{nabc_nodes};
 ghost use Rattle.gabc_tree.specs.NoteNodes.{gabc_nodes};
+ghost use Rattle.gabc_tree.specs.Own.{HaveAllBytes};
 ghost use Rattle.gabc_tree.specs.Placed.{offset};
 ghost use Rattle.gabc_tree.specs.Tree.{tree_nodes};
 ghost use Rattle.gabc_tree.specs.TextNodes.{text_nodes};
@@ -44,4 +45,15 @@ pub fn nodes_of_an_input_are_one_tree()
 {
     gabc_body::laws::a_syllable_holds_its_parts();
     gabc_body::by_kept_laws::a_score_says_what_is_kept();
+}
+
+/// Law: each byte of an input belongs to one of its nodes: the own bytes of all nodes, those that
+/// lie in no node inside, join to the input. The input has fewer than 2^32 bytes, and the tree as
+/// few nodes.
+pub fn own_bytes_join_to_the_input()
+    ensures { (limits : Limits) (bytes : List ℕ) → length bytes < 2 ^ 32 →
+        length (tree_nodes limits bytes) < 2 ^ 32 →
+        HaveAllBytes bytes (tree_nodes limits bytes) }
+{
+    nodes_of_an_input_are_one_tree();
 }

@@ -100,8 +100,8 @@ impl<'a> Model for Placing<'a> {
 }
 
 impl<'a> Placing<'a> {
-    /// Returns a list of the node `first` alone, before all of `out`, which is not kept. It has room
-    /// for `room` nodes.
+    /// Returns a list of the node `first` alone, before all of `out`, which is not kept. It has
+    /// room for `room` nodes.
     pub(crate) fn new(
         alloc: Global,
         first: Node,

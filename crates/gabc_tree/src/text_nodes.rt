@@ -3,7 +3,7 @@
 ghost use Rattle.std.specs.Prelude.{◌≡◌, ◌+◌, ◌<◌, ◌≤◌, ◌^◌, ◌++◌, List, length, slice_range, is_some, option_to_list, OnOk};
 ghost use Rattle.gabc_text.specs.View.{is_open_after, piece_kind};
 ghost use Rattle.gabc_tree.specs.declared.node.Node.{Node};
-ghost use Rattle.gabc_tree.specs.TextNodes.{leaf, text_nodes, joined, bit, styles_number, numbers, is_escape, raw_number, number_of_mark, tag_node};
+ghost use Rattle.gabc_tree.specs.TextNodes.{text_node as node_of_text, text_nodes, joined, bit, styles_number, numbers, is_escape, raw_number, number_of_mark, tag_node};
 ghost use Rattle.gabc_tree.specs.machine.TextNodes.{shown_past, shown_past_tag, styles_past, has_piece, is_blank_piece, node_after};
 
 use crate::kind::Kind;
@@ -114,23 +114,29 @@ impl Before {
     {
         let span = token.span;
         let node = match token.kind {
-            TokenKind::Letter if is_escape(spelled) => leaf(
+            TokenKind::Letter if is_escape(spelled) => text_node(
                 span,
                 Kind::Escape,
                 self.numbers(),
                 0,
                 0,
             ),
-            TokenKind::Letter => leaf(span, Kind::Characters, self.numbers(), 0, 0),
+            TokenKind::Letter => text_node(span, Kind::Characters, self.numbers(), 0, 0),
             TokenKind::Blank => {
                 let is_piece = self.is_blank_piece(token, ahead);
-                leaf(span, Kind::TextBlank, self.numbers(), bit(is_piece, 1), 0)
+                text_node(span, Kind::TextBlank, self.numbers(), bit(is_piece, 1), 0)
             }
-            TokenKind::Raw => leaf(span, Kind::Raw, self.numbers(), raw_number(spelled), 0),
+            TokenKind::Raw => text_node(span, Kind::Raw, self.numbers(), raw_number(spelled), 0),
             TokenKind::Tag => tag_node(span, self.numbers(), spelled, token.effect),
-            TokenKind::Begin => leaf(span, Kind::Brace, 0, 0, 0),
-            TokenKind::End => leaf(span, Kind::Brace, 0, 1, 0),
-            TokenKind::Translation => leaf(span, Kind::Translation, 0, bit(!self.translated, 1), 0),
+            TokenKind::Begin => text_node(span, Kind::Brace, 0, 0, 0),
+            TokenKind::End => text_node(span, Kind::Brace, 0, 1, 0),
+            TokenKind::Translation => text_node(
+                span,
+                Kind::Translation,
+                0,
+                bit(!self.translated, 1),
+                0,
+            ),
             _ => return None,
         };
         Some(node)
@@ -138,10 +144,10 @@ impl Before {
 }
 
 /// Returns a node with these bytes, kind and numbers, in which no other lies.
-pub(crate) fn leaf(span: Span, kind: Kind, a: u16, b: u16, c: u16) -> Node
+pub(crate) fn text_node(span: Span, kind: Kind, a: u16, b: u16, c: u16) -> Node
     requires from { span.from < 2 ^ 32 }
     requires to { span.to < 2 ^ 32 }
-    ensures { result ≡ leaf span kind a b c }
+    ensures { result ≡ node_of_text span kind a b c }
 {
     Node {
         begin: span.from as u32,
@@ -266,10 +272,10 @@ fn tag_node(span: Span, n: u16, spelled: &[u8], effect: TagEffect) -> Node
     ensures { result ≡ tag_node span n spelled.now effect }
 {
     match effect {
-        TagEffect::Opens(style) => leaf(span, Kind::StyleTag, 0, style as u16, 0),
-        TagEffect::Closes(style) => leaf(span, Kind::StyleTag, 0, style as u16, 1),
-        TagEffect::Mark => leaf(span, Kind::SpanMark, n, number_of_mark(mark_at(spelled)), 0),
-        _ => leaf(span, Kind::Tag, n, 0, 0),
+        TagEffect::Opens(style) => text_node(span, Kind::StyleTag, 0, style as u16, 0),
+        TagEffect::Closes(style) => text_node(span, Kind::StyleTag, 0, style as u16, 1),
+        TagEffect::Mark => text_node(span, Kind::SpanMark, n, number_of_mark(mark_at(spelled)), 0),
+        _ => text_node(span, Kind::Tag, n, 0, 0),
     }
 }
 

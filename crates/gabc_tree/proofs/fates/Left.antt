@@ -208,9 +208,9 @@ past_heads (c ∷ cs) s (d ∷ u) t e h = by (is_left_out (s.previous, c)) refl 
         record {
           there = r.there;
           rest = r.rest;
-          left_is = left ∙ r.left_is;
+          left_is = ◌∙◌ {c = (d ∷ u) ++ left_of r.there r.rest} left r.left_is;
           heads_is = r.heads_is;
-          kept_is = r.kept_is ∙ kept;
+          kept_is = ◌∙◌ {c = s.kept} r.kept_is kept;
           after_is = r.after_is;
           bytes =
               let a = one_byte s c cs (Some (kind.Silent, 0)) (ap (λ (o : Bool). cond o (Some (kind.Silent, 0)) (out_by s (read_as c))) l) in
@@ -232,9 +232,9 @@ past_heads (c ∷ cs) s (d ∷ u) t e h = by (is_left_out (s.previous, c)) refl 
         record {
           there = r.there;
           rest = r.rest;
-          left_is = left ∙ (ap (λ (a : ℕ). a ∷ left_of (past s c) cs) first ∙ ap (λ (v : List ℕ). d ∷ v) r.left_is);
+          left_is = ◌∙◌ {c = (d ∷ u) ++ left_of r.there r.rest} left (◌∙◌ {c = (d ∷ u) ++ left_of r.there r.rest} (ap (λ (a : ℕ). a ∷ left_of (past s c) cs) first) (ap (λ (v : List ℕ). d ∷ v) r.left_is));
           heads_is = r.heads_is;
-          kept_is = r.kept_is ∙ kept;
+          kept_is = ◌∙◌ {c = s.kept} r.kept_is kept;
           after_is = r.after_is;
           bytes =
               let a = one_byte s c cs None none in
