@@ -10,3 +10,4 @@ pub mod Input
 pub mod OfScore
 pub mod Left
 pub mod MadeWell
+pub mod LeftOutThere

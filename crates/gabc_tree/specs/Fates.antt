@@ -1,7 +1,11 @@
 -- What is not kept of a body, by what becomes of each character where the reading by what is kept
 -- stands.
-use Rattle.std.specs.Prelude.{◌≡◌, ℕ, List, [], ◌∷◌, ◌++◌, Bool, true, false, cond, not, ◌&&◌, ◌==◌, nat_le, length, map, take, drop, Option, Some, None, is_some, Ok}
+use Rattle.std.specs.Prelude.{◌≡◌, ◌⊎◌, ℕ, List, [], ◌∷◌, ◌++◌, Bool, true, false, cond, not, ◌&&◌, ◌==◌, nat_le, length, map, take, drop, Option, Some, None, is_some, Ok}
 use Rattle.gabc_places.specs.Fate.{Fate, Keep, Comment, Ends, LeaveOut}
+use Rattle.std.specs.List.{All}
+use Rattle.gabc_places.specs.declared.code.Code.{Code}
+use Rattle.gabc_places.specs.declared.code.Code.TheVariants.{E1, E2, E3}
+use Rattle.gabc_places.specs.declared.code.Finding.{Finding}
 use Rattle.gabc_places.specs.declared.limits.Limits.{Limits}
 use Rattle.gabc_places.specs.declared.place.Char.{Char}
 use Rattle.gabc_places.specs.Place.{placed_characters}
@@ -111,3 +115,33 @@ pub record IsKeptText (limits : Limits) (bytes : List ℕ) (heads : Heads) : Typ
       let score = score_of limits (ending_by decoded.fault) decoded.text in
       let s = begun (characters_before heads.body decoded.text) (kept_characters score.syllables) score.findings in
       map spaced (left_of s (utf8_prefix_of (take limits.input bytes))) ≡ map spaced (heads_text decoded.text ++ (kept_characters score.syllables ++ tail))
+
+-- ---- findings
+
+-- a finding of that code stands at a character that is left out
+abbrev pub is_error : Code → Bool
+is_error E1 = true
+is_error E2 = true
+is_error E3 = true
+is_error _ = false
+
+-- A character of the input stands where the finding does. It is left out with its code, if a
+-- character of the syllables is still to come there.
+pub record IsLeftOutThere (limits : Limits) (bytes : List ℕ) (heads : Heads) (f : Finding) : Type 0 where
+  pub before : List ℕ
+  pub after : List ℕ
+  pub c : ℕ
+  pub parts : utf8_prefix_of (take limits.input bytes) ≡ before ++ c ∷ after
+  pub there :
+      let decoded = decoded_of limits true bytes in
+      let score = score_of limits (ending_by decoded.fault) decoded.text in
+      let s = reached_after (begun (characters_before heads.body decoded.text) (kept_characters score.syllables) score.findings) before in
+      (s.place ≡ f.place) × ((s.kept ≡ []) ⊎ (out_of s c ≡ Some (kind.LeftOut, number_of_code f.code)))
+
+-- Law: what is found to be left out is so where it is found.
+abbrev pub AreLeftOutThere : Limits → List ℕ → Type 0
+AreLeftOutThere limits bytes =
+    let decoded = decoded_of limits true bytes in
+    let score = score_of limits (ending_by decoded.fault) decoded.text in
+    (heads : Heads) → heads_of limits decoded.text ≡ Ok heads
+    → All (λ (f : Finding). is_error f.code ≡ true → IsLeftOutThere limits bytes heads f) score.findings

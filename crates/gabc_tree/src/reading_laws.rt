@@ -6,7 +6,7 @@ ghost use Rattle.gabc_headers.specs.Heads.{heads_of};
 ghost use Rattle.gabc_headers.specs.declared.heads.Heads.{Heads};
 ghost use Rattle.gabc_places.specs.Text.{text_of_bytes};
 ghost use Rattle.gabc_places.specs.declared.limits.Limits.{Limits};
-ghost use Rattle.gabc_tree.specs.Fates.{IsWhatIsRead, AllAreFound, IsKeptText};
+ghost use Rattle.gabc_tree.specs.Fates.{IsWhatIsRead, AllAreFound, IsKeptText, AreLeftOutThere};
 
 /// Law: up to the last character that is kept, a character of the body is a node of what is not
 /// kept exactly if it is not kept where the reading stands, with the kind and the code of what
@@ -28,4 +28,11 @@ pub fn what_is_left_is_the_kept_text()
     ensures { (limits : Limits) (bytes : List ℕ) (heads : Heads) →
         heads_of limits (text_of_bytes limits.input bytes) ≡ Ok heads →
         IsKeptText limits bytes heads }
+{}
+
+/// Law: each finding of a score with the code E1, E2 or E3 stands at a character of the input. It
+/// is left out with that code, and so a node, if a character of the syllables is still to come
+/// there.
+pub fn what_is_found_to_be_left_out_is_a_node()
+    ensures { (limits : Limits) (bytes : List ℕ) → AreLeftOutThere limits bytes }
 {}

@@ -15,7 +15,7 @@ use Rattle.gabc_body.specs.Body.{has_text, empty_snippet}
 use Rattle.gabc_body.specs.Reading.{BodyRead, kept_bytes, past, code_now, found_at, with_found, with_text_ended, with_syllable, with_last, ended}
 use Rattle.gabc_body.specs.declared.ending.InputEnding.{InputEnding}
 use Rattle.gabc_tree.specs.NotKept.{leaves_out, is_before, is_at, from_here, code_at}
-use Rattle.gabc_tree.proofs.fates.Steps.{AreMild, AreHere, mild_here, both_here, codes_here, Step, comments, leaves, keeps, opens, splits, closes, left_found, step}
+use Rattle.gabc_tree.proofs.fates.Steps.{AreMild, AreHere, AreOthers, codes_others, both_others, text_end_others, mild_here, both_here, codes_here, Step, comments, leaves, keeps, opens, splits, closes, left_found, step}
 use Rattle.gabc_tree.proofs.fates.Coming.{is_whole, read_to_end}
 
 -- ---- places
@@ -140,15 +140,16 @@ one_here p code fs h =
 pub record EndFinds (here : Place) (b : BodyRead) : Type 0 where
   pub now : List Finding
   pub all_here : AreHere here now
+  pub others : AreOthers now
   pub found_is : (ended here b).found ≡ b.found ++ now
 
-last_finds : (here : Place) (b : BodyRead) → (now : List Finding) × AreHere here now × ((with_last here b).found ≡ b.found ++ now)
+last_finds : (here : Place) (b : BodyRead) → (now : List Finding) × AreHere here now × AreOthers now × ((with_last here b).found ≡ b.found ++ now)
 last_finds here b = by (has_text (view_of_kept b.reading.kept))
   where
-    by : (o : Bool) → (now : List Finding) × AreHere here now
+    by : (o : Bool) → (now : List Finding) × AreHere here now × AreOthers now
         × ((cond o (with_found (found_at (W9 ∷ []) here) (with_syllable (kept_bytes b.reading) b.reading.kept (empty_snippet (kept_bytes b.reading) ∷ []) b)) b).found ≡ b.found ++ now)
-    by true = (found_at (W9 ∷ []) here, codes_here here (W9 ∷ []), refl)
-    by false = ([], tt, sym (append-nil b.found))
+    by true = (found_at (W9 ∷ []) here, codes_here here (W9 ∷ []), (refl, tt), refl)
+    by false = ([], tt, tt, sym (append-nil b.found))
 
 pub end_finds : (here : Place) (b : BodyRead) → EndFinds here b
 end_finds here b =
@@ -160,8 +161,13 @@ end_finds here b =
     record {
       now = first ++ (l.0 ++ spans);
       all_here = both_here here first (l.0 ++ spans) (codes_here here (codes_at_end (reverse (tokens b.reading.kept)))) (both_here here l.0 spans l.1 (codes_here here (cond (all.eu || all.nlba) (W11 ∷ []) [])));
-      found_is = ap (λ (fs : List Finding). fs ++ spans) l.2 ∙ (append_assoc (b.found ++ first) l.0 spans ∙ append_assoc b.found first (l.0 ++ spans));
+      others = both_others first (l.0 ++ spans) (codes_others here (codes_at_end (reverse (tokens b.reading.kept))) (text_end_others (reverse (tokens b.reading.kept)))) (both_others l.0 spans l.2 (spans_others (all.eu || all.nlba)));
+      found_is = ap (λ (fs : List Finding). fs ++ spans) l.3 ∙ (append_assoc (b.found ++ first) l.0 spans ∙ append_assoc b.found first (l.0 ++ spans));
     }
+  where
+    spans_others : (o : Bool) → AreOthers (found_at (cond o (W11 ∷ []) []) here)
+    spans_others true = (refl, tt)
+    spans_others false = tt
 
 -- ---- what is found with a character, and later
 

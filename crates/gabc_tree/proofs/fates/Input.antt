@@ -64,7 +64,7 @@ placed_length p [] = refl
 placed_length p (c ∷ t) = ap suc (placed_length (next_place p c) t)
 
 -- fronts of one length
-same_front : (u h t v : List ℕ) → length u ≡ length h → u ++ t ≡ h ++ v → (u ≡ h) × (t ≡ v)
+pub same_front : (u h t v : List ℕ) → length u ≡ length h → u ++ t ≡ h ++ v → (u ≡ h) × (t ≡ v)
 same_front [] [] t v e f = (refl, f)
 same_front [] (d ∷ h) t v e f = absurd (omega (arith, e))
 same_front (c ∷ u) [] t v e f = absurd (omega (arith, e))

@@ -1,11 +1,14 @@
 -- What is not kept of a score's input is what is read.
-use Rattle.std.proofs.Common.{◌≡◌, ℕ, zero, suc, ◌+◌, ◌≤◌, ◌<◌, ◌^◌, ◌-◌, Bool, true, false, cond, ◌==◌, List, [], ◌∷◌, ◌++◌, map, filter, length, take, drop, take-append-drop, Option, Some, None, Result, Ok, Err, is_some, nat_lt, refl, sym, ap, subst, ◌∙◌, append-nil, inl, inr, arith, if◌then◌else◌}
+use Rattle.std.proofs.Common.{◌≡◌, ℕ, zero, suc, ◌+◌, ◌≤◌, ◌<◌, ◌^◌, ◌-◌, Bool, true, false, true≢false, cond, ◌==◌, List, [], ◌∷◌, ◌++◌, map, filter, length, take, drop, take-append-drop, Option, Some, None, Result, Ok, Err, is_some, nat_lt, refl, sym, ap, subst, ◌∙◌, append_assoc, append-nil, length-append, ◌⊎◌, inl, inr, arith, if◌then◌else◌}
 use Rattle.std.specs.Char.{len_utf8}
+use Rattle.std.specs.List.{All}
 use Rattle.std.specs.Str.{chars}
 use Rattle.std.proofs.lemmas.Bool.{eqb-true}
+use Rattle.std.proofs.lemmas.List.Elements.{All-nil, All-cons, All-append}
 use Rattle.std.proofs.lemmas.List.{take_at, drop_at}
 use Rattle.std.proofs.lemmas.Str.{len_utf8_bounds}
 use lib.Utf8.{scalars}
+use Rattle.gabc_places.specs.Fate.{LeaveOut}
 use Rattle.gabc_places.specs.Findings.{Known, findings_before, Stop, earliest}
 use Rattle.gabc_places.specs.Place.{next_place, place_past, place_after, placed_characters, placed_characters_after, placed_characters_from}
 use Rattle.gabc_places.specs.Text.{is_left_out, read_as, text_of_bytes, text_of_characters, utf8_prefix_of, decoded_of}
@@ -36,19 +39,21 @@ use Rattle.gabc_body.specs.Syllable.{PlacedSyllable, UnplacedSyllable}
 use Rattle.gabc_body.specs.declared.body_result.BodyResult.{BodyResult}
 use Rattle.gabc_body.specs.declared.ending.InputEnding.{InputEnding}
 use Rattle.gabc_body.specs.declared.score.Score.{Score}
-use Rattle.gabc_tree.specs.Fates.{kept_at_end, out_by_reading, reached_after, read_first, IsWhatIsRead, AllAreFound}
+use Rattle.gabc_tree.specs.CodeNumber.{number_of_code}
+use Rattle.gabc_tree.specs.Fates.{fate_at, kept_at_end, is_cut, out_by_fate, out_by_reading, is_error, IsLeftOutThere, AreLeftOutThere, reached_after, read_first, IsWhatIsRead, AllAreFound}
 use Rattle.gabc_tree.specs.HeaderNodes.{head_end_by}
 use Rattle.gabc_tree.specs.NotKept.{Reached, begun, start, leaves_out, from_here, is_silent, out_of, out_by, out_in_body, but_first}
 use Rattle.gabc_tree.specs.NotKept as beside
 use Rattle.gabc_tree.specs.Tree.{ending_by, characters_before, kept_characters}
 use Rattle.gabc_tree.specs.declared.kind.Kind.TheVariants as kind
-use Rattle.gabc_tree.proofs.fates.Steps.{AreMild}
+use Rattle.gabc_tree.proofs.fates.Steps.{AreMild, AreOthers, mild_others}
 use Rattle.gabc_tree.proofs.fates.Coming.{coming, read_to_end, kept_in, from_syllable}
+use Rattle.gabc_tree.proofs.fates.LeftOutThere.{IsLeft, AreLeft, later_left, shown_at}
 use Rattle.gabc_tree.proofs.fates.MadeWell.{IsMadeWell, AreMadeWell, all_made_well}
 use Rattle.gabc_tree.proofs.fates.ToTheEnd.{result_is, kept_to_end}
 use Rattle.gabc_tree.proofs.fates.FoundLater.{found_later, later_is, mild_past}
 use Rattle.gabc_tree.proofs.fates.Walk.{IsNear, Beside}
-use Rattle.gabc_tree.proofs.fates.Input.{shown, shown_is, past_both, placed_both, placed_length, Stands, after_characters, out_is_read, found_all}
+use Rattle.gabc_tree.proofs.fates.Input.{same_front, shown, shown_is, past_both, placed_both, placed_length, Stands, after_characters, out_is_read, found_all}
 
 -- ---- the headers
 
@@ -143,6 +148,16 @@ placed_well first (m ∷ ms) h = (h.0, placed_well false ms h.1)
 pub few_characters : (t : List ℕ) → length t ≤ bytes_len t
 few_characters [] = omega arith
 few_characters (c ∷ t) = let n = bytes_len-cons c t in let least = (len_utf8_bounds c).0 in let more = few_characters t in omega (arith, n, least, more)
+
+-- what follows a front
+rest_is : (a u rest t all : List ℕ) → a ≡ u → all ≡ a ++ rest → all ≡ u ++ t → rest ≡ t
+rest_is a u rest t all e f g = (same_front u u rest t refl (ap (λ (v : List ℕ). v ++ rest) (sym e) ∙ (sym f ∙ g))).1
+
+-- a character of the body that is shown
+out_shown : (s : Reached) (c : ℕ) → s.heads ≡ 0 → is_silent s c ≡ false → out_of s c ≡ out_in_body s (read_as c)
+out_shown s c none loud =
+    ap (λ (o : Bool). cond o (Some (kind.Silent, 0)) (out_by s (read_as c))) loud
+    ∙ ap (λ (n : ℕ). cond (nat_lt 0 n) None (out_in_body s (read_as c))) none
 
 module _ (limits : Limits) (bytes : List ℕ) (heads : Heads) (heads_is : heads_of limits (text_of_bytes limits.input bytes) ≡ Ok heads) where
   abbrev text : List ℕ
@@ -310,17 +325,67 @@ module _ (limits : Limits) (bytes : List ℕ) (heads : Heads) (heads_is : heads_
       ap (λ (m : ℕ). take m (placed_characters text)) n ∙ (ap (take (length u)) placed ∙ take_at (placed_characters_from start u) (placed_characters_from (place_past start u) (d ∷ t)) (length u) long) in
       let x_is : x ≡ record { c = d; place = place_past start u } = cc rest in
       let ys_are : ys ≡ placed_characters_from (next_place (place_past start u) d) t = cc rest in
-      out_when s c none loud
+      out_shown s c none loud
       ∙ (out_is_read limits head lines macros (place_after text) ending h body kept score.findings to_end near ready s u t d (all ∙ sym text_is) stands none some
       ∙ (ap (λ (b : BodyRead). out_by_reading lines macros b (record { c = d; place = place_past start u }) (placed_characters_from (place_past start (u ++ d ∷ [])) t)) (ap (λ (zs : List Char). read_of lines macros read.begun zs) (ap (λ (m : ℕ). drop m (placed_characters_from start u)) (sym count_of) ∙ ap (drop count) (sym front)))
       ∙ (ap (λ (q : Place). out_by_reading lines macros (read_first lines macros count (placed_characters text) (length (text_of_characters before))) (record { c = d; place = place_past start u }) (placed_characters_from q t)) (past_both start u (d ∷ []))
       ∙ (ap (λ (y : Char). out_by_reading lines macros (read_first lines macros count (placed_characters text) (length (text_of_characters before))) y (placed_characters_from (next_place (place_past start u) d) t)) (sym x_is)
       ∙ ap (λ (zs : List Char). out_by_reading lines macros (read_first lines macros count (placed_characters text) (length (text_of_characters before))) x zs) (sym ys_are)))))
+
+  -- ---- what is found
+
+  one_there : (f : Finding) → IsLeft lines macros read.begun (place_past start h) body f → IsLeftOutThere limits bytes heads f
+  one_there f l =
+      let cs = utf8_prefix_of (take limits.input bytes) in
+      let u : List ℕ = h ++ l.front in
+      let all : u ++ l.c ∷ l.back ≡ text = append_assoc h l.front (l.c ∷ l.back) ∙ (ap (λ (v : List ℕ). h ++ v) (sym l.split) ∙ text_is) in
+      let r = shown_at cs begins u l.back l.c (sym (shown_is cs) ∙ sym all) in
+      let s : Reached = reached_after begins r.before in
+      let more = rest_is (shown 0 r.before) u (shown s.previous (r.c ∷ r.after)) (l.c ∷ l.back) (shown 0 cs) r.before_is (ap (shown 0) {y = r.before ++ r.c ∷ r.after} r.parts ∙ shown_both 0 begins r.before (r.c ∷ r.after) refl) (sym (shown_is cs) ∙ sym all) in
+      let stands : StandsHere s u (l.c ∷ l.back) = subst (StandsHere s u) more (subst (λ (v : List ℕ). StandsHere s v (shown s.previous (r.c ∷ r.after))) r.before_is (after_some r.before (r.c ∷ r.after) r.parts)) in
+      let there = by l s r.c all r.loud r.read_is stands stands in
+      record { before = r.before; after = r.after; c = r.c; parts = r.parts; there = there }
     where
-      out_when : (s : Reached) (c : ℕ) → s.heads ≡ 0 → is_silent s c ≡ false → out_of s c ≡ out_in_body s (read_as c)
-      out_when s c none loud =
-          ap (λ (o : Bool). cond o (Some (kind.Silent, 0)) (out_by s (read_as c))) loud
-          ∙ ap (λ (n : ℕ). cond (nat_lt 0 n) None (out_in_body s (read_as c))) none
+      by : (l : IsLeft lines macros read.begun (place_past start h) body f) (s : Reached) (c : ℕ) → (h ++ l.front) ++ l.c ∷ l.back ≡ text → is_silent s c ≡ false → read_as c ≡ l.c
+          → StandsHere s (h ++ l.front) (l.c ∷ l.back) → StandsHere s (h ++ l.front) (l.c ∷ l.back)
+          → (s.place ≡ f.place) × ((s.kept ≡ []) ⊎ (out_of s c ≡ Some (kind.LeftOut, number_of_code f.code)))
+      by l s c all loud d stands (inl i) = absurd (let n = i.count_is in let m = length-append h l.front in omega (arith, n, m))
+      by l s c all loud d stands (inr i) = (i.place_is ∙ (past_both start h l.front ∙ sym l.place_is), kept_is s.kept refl)
+        where
+          fate_is : fate_at lines (read_of lines macros read.begun (drop (length h) (placed_characters_from start (h ++ l.front)))) (record { c = l.c; place = place_past start (h ++ l.front) }) ≡ LeaveOut (Some f.code)
+          fate_is =
+              ap (λ (ys : List Char). fate_at lines (read_of lines macros read.begun ys) (record { c = l.c; place = place_past start (h ++ l.front) }))
+              (ap (drop (length h)) (placed_both start h l.front) ∙ drop_at (placed_characters_from start h) (placed_characters_from (place_past start h) l.front) (length h) (placed_length start h))
+              ∙ (ap (λ (p : Place). fate_at lines (read_of lines macros read.begun (placed_characters_from (place_past start h) l.front)) (record { c = l.c; place = p })) (past_both start h l.front) ∙ l.fate_is)
+
+          kept_is : (ks : List ℕ) → s.kept ≡ ks → (s.kept ≡ []) ⊎ (out_of s c ≡ Some (kind.LeftOut, number_of_code f.code))
+          kept_is [] e = inl e
+          kept_is (k ∷ ks) e =
+              let u : List ℕ = h ++ l.front in
+              let x : Char = record { c = l.c; place = place_past start (h ++ l.front) } in
+              let ys = placed_characters_from (place_past start (u ++ l.c ∷ [])) l.back in
+              let b : BodyRead = read_of lines macros read.begun (drop (length h) (placed_characters_from start u)) in
+              inr (out_shown s c i.heads_is loud
+              ∙ (ap (out_in_body s) d
+              ∙ (out_is_read limits head lines macros (place_after text) ending h body kept score.findings to_end near ready s u l.back l.c (all ∙ sym text_is) stands i.heads_is (λ n. (let z : [] ≡ k ∷ ks = sym n ∙ e in cc))
+              ∙ ap (out_by_fate (is_cut lines macros b x ys) l.c) fate_is)))
+
+  later_there : (fs : List Finding) → AreLeft lines macros read.begun (place_past start h) body fs → All (λ (f : Finding). is_error f.code ≡ true → IsLeftOutThere limits bytes heads f) fs
+  later_there [] a = All-nil (λ (f : Finding). is_error f.code ≡ true → IsLeftOutThere limits bytes heads f)
+  later_there (f ∷ fs) a = All-cons (λ (f : Finding). is_error f.code ≡ true → IsLeftOutThere limits bytes heads f) f fs (λ e. one_there f (a.0 e)) (later_there fs a.1)
+
+  heads_there : (fs : List Finding) → AreOthers fs → All (λ (f : Finding). is_error f.code ≡ true → IsLeftOutThere limits bytes heads f) fs
+  heads_there [] a = All-nil (λ (f : Finding). is_error f.code ≡ true → IsLeftOutThere limits bytes heads f)
+  heads_there (f ∷ fs) a = All-cons (λ (f : Finding). is_error f.code ≡ true → IsLeftOutThere limits bytes heads f) f fs (λ e. absurd (true≢false (sym e ∙ a.0))) (heads_there fs a.1)
+
+  pub all_there : All (λ (f : Finding). is_error f.code ≡ true → IsLeftOutThere limits bytes heads f) score.findings
+  all_there =
+      let later = found_later limits head lines macros (place_after text) ending read.begun xs in
+      subst (All (λ (f : Finding). is_error f.code ≡ true → IsLeftOutThere limits bytes heads f))
+      (sym (of_body.1 ∙ ap (λ (fs : List Finding). heads.findings ++ fs) (later_is limits head lines macros (place_after text) ending xs read.begun)))
+      (All-append (λ (f : Finding). is_error f.code ≡ true → IsLeftOutThere limits bytes heads f) heads.findings later
+      (heads_there heads.findings (mild_others heads.findings (heads_are limits text heads heads_is).mild))
+      (later_there later (later_left limits head lines macros (place_after text) ending body (place_past start h) read.begun)))
 
 -- ---- the laws
 
@@ -355,3 +420,6 @@ found_so limits bytes = by (heads_of limits (text_of_bytes limits.input bytes)) 
     by (Ok heads) e =
         subst (λ (q : Result Heads HeadFault). (reached_after (begun (characters_before (head_end_by q) (text_of_bytes limits.input bytes)) (kept_characters (score_of limits (ending_by (decoded_of limits true bytes).fault) (text_of_bytes limits.input bytes)).syllables) (score_of limits (ending_by (decoded_of limits true bytes).fault) (text_of_bytes limits.input bytes)).findings) (utf8_prefix_of (take limits.input bytes))).kept ≡ [])
         (sym e) (all_found limits bytes heads e)
+
+pub left_so : (limits : Limits) (bytes : List ℕ) → AreLeftOutThere limits bytes
+left_so limits bytes = λ heads e. all_there limits bytes heads e

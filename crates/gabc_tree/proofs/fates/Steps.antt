@@ -1,8 +1,9 @@
 -- One character that the reading by what is kept goes past.
-use Rattle.std.proofs.Common.{◌≡◌, ℕ, Bool, true, false, cond, not, ◌&&◌, ◌||◌, ◌==◌, List, [], ◌∷◌, ◌++◌, reverse, length, codes, encode_utf8_all, Option, Some, None, refl, sym, ap, append_assoc, append-nil, ◌⊎◌, inl, inr}
+use Rattle.std.proofs.Common.{◌≡◌, ℕ, Bool, true, false, true≢false, cond, not, ◌&&◌, ◌||◌, ◌==◌, List, [], ◌∷◌, ◌++◌, reverse, length, codes, encode_utf8_all, Option, Some, None, refl, sym, ap, append_assoc, append-nil, ◌⊎◌, inl, inr}
+use Rattle.std.specs.List.{list_any}
 use Rattle.gabc_places.specs.Fate.{Fate, Keep, Comment, Ends, LeaveOut}
 use Rattle.gabc_places.specs.declared.code.Code.{Code}
-use Rattle.gabc_places.specs.declared.code.Code.TheVariants.{W7, W8, W10, W3, W5}
+use Rattle.gabc_places.specs.declared.code.Code.TheVariants.{E1, E2, E3, E6, W4, W7, W8, W10, W3, W5}
 use Rattle.gabc_places.specs.declared.code.Finding.{Finding}
 use Rattle.gabc_places.specs.declared.place.Char.{Char}
 use Rattle.gabc_places.specs.declared.place.Place.{Place}
@@ -12,7 +13,7 @@ use Rattle.gabc_text.specs.declared.token.TagEffect.TheVariants as does
 use Rattle.gabc_text.specs.declared.token.TokenKind.{TokenKind}
 use Rattle.gabc_text.specs.declared.token.TokenKind.TheVariants.{Tag, OpenTranslation}
 use Rattle.gabc_text.specs.Token.{Token, tokens}
-use Rattle.gabc_text.specs.View.{effect, codes_at_end, tag_codes_by}
+use Rattle.gabc_text.specs.View.{effect, is_open, all_styles, has_begin, has_end, codes_at_end, tag_codes_by}
 use Rattle.gabc_text.specs.KeptText.{view_of_kept, codes_by, codes_with}
 use Rattle.gabc_notes.specs.Events.{ItemText, opens_fusion, closes_fusion, macro_of, is_missing}
 use Rattle.gabc_notes.specs.FirstSound.{first_sound}
@@ -25,7 +26,7 @@ use Rattle.gabc_body.specs.Reading.{Part, InText, InNotes, Reading, BodyRead, at
 use Rattle.gabc_body.specs.Syllable.{UnplacedSyllable, snippet_at}
 use Rattle.gabc_body.specs.SpansPast.{open_past}
 use Rattle.gabc_body.specs.declared.snippets.Snippet.{Snippet}
-use Rattle.gabc_tree.specs.Fates.{fate_at}
+use Rattle.gabc_tree.specs.Fates.{fate_at, is_error}
 use Rattle.gabc_tree.specs.NotKept.{leaves_out}
 
 -- ---- findings
@@ -43,6 +44,62 @@ AreMildCodes (c ∷ cs) = (leaves_out c ≡ false) × AreMildCodes cs
 abbrev pub AreHere : Place → List Finding → Type 0
 AreHere here [] = Unit {0}
 AreHere here (f ∷ fs) = ((leaves_out f.code ≡ false) ⊎ (f.place ≡ here)) × AreHere here fs
+
+-- none of these is found where a character is left out
+abbrev pub AreOthers : List Finding → Type 0
+AreOthers [] = Unit {0}
+AreOthers (f ∷ fs) = (is_error f.code ≡ false) × AreOthers fs
+
+abbrev pub AreOtherCodes : List Code → Type 0
+AreOtherCodes [] = Unit {0}
+AreOtherCodes (c ∷ cs) = (is_error c ≡ false) × AreOtherCodes cs
+
+error_leaves : (c : Code) → leaves_out c ≡ false → is_error c ≡ false
+error_leaves E1 h = absurd (true≢false h)
+error_leaves E2 h = absurd (true≢false h)
+error_leaves E3 h = absurd (true≢false h)
+error_leaves _ h = refl
+
+pub mild_others : (fs : List Finding) → AreMild fs → AreOthers fs
+mild_others [] h = tt
+mild_others (f ∷ fs) h = (error_leaves f.code h.0, mild_others fs h.1)
+
+pub codes_others : (here : Place) (cs : List Code) → AreOtherCodes cs → AreOthers (found_at cs here)
+codes_others here [] h = tt
+codes_others here (c ∷ cs) h = (h.0, codes_others here cs h.1)
+
+pub both_others : (fs gs : List Finding) → AreOthers fs → AreOthers gs → AreOthers (fs ++ gs)
+both_others [] gs h i = i
+both_others (f ∷ fs) gs h i = (h.0, both_others fs gs h.1 i)
+
+two_codes : (a b : Bool) (c d : Code) → is_error c ≡ false → is_error d ≡ false → AreOtherCodes (cond a (c ∷ []) [] ++ cond b (d ∷ []) [])
+two_codes true true c d h i = (h, (i, tt))
+two_codes true false c d h i = (h, tt)
+two_codes false true c d h i = (i, tt)
+two_codes false false c d h i = tt
+
+pub text_end_others : (before : List Token) → AreOtherCodes (codes_at_end before)
+text_end_others before = two_codes (list_any (λ (s : Style). is_open s before) all_styles) (has_begin before && not (has_end before)) W3 W4 refl refl
+
+notes_end_others : (kept : List ℕ) → AreOtherCodes (notes.found_at_end kept)
+notes_end_others kept = by (notes.is_snippet kept) (notes.is_fused (notes.items_back kept))
+  where
+    by : (a b : Bool) → AreOtherCodes (cond a [] (E6 ∷ []) ++ cond b (W10 ∷ []) [])
+    by true b = two_codes false b E6 W10 refl refl
+    by false b = two_codes true b E6 W10 refl refl
+
+nabc_end_others : (kept : List ℕ) → AreOtherCodes (nabc_text.found_at_end kept)
+nabc_end_others kept = by (nabc_text.is_snippet kept)
+  where
+    by : (a : Bool) → AreOtherCodes (cond a [] (E6 ∷ []))
+    by true = tt
+    by false = (refl, tt)
+
+sound_others : (sounded : Bool) (first : Option Bool) → AreOtherCodes (sound_codes sounded first)
+sound_others true first = tt
+sound_others false None = tt
+sound_others false (Some true) = (refl, tt)
+sound_others false (Some false) = tt
 
 pub mild_here : (here : Place) (fs : List Finding) → AreMild fs → AreHere here fs
 mild_here here [] h = tt
@@ -151,6 +208,7 @@ pub record Parts (b : BodyRead) (x : Char) (next : BodyRead) (before : List ℕ)
   pub comment_is : next.reading.comment ≡ false
   pub now : List Finding
   pub here : AreHere x.place now
+  pub others : AreOthers now
   pub found_is : next.found ≡ b.found ++ now
 
 -- the syllable ends, of which this is kept
@@ -161,6 +219,7 @@ pub record Closes (b : BodyRead) (x : Char) (next : BodyRead) (all : List ℕ) :
   pub reading_is : next.reading ≡ at_start false
   pub now : List Finding
   pub here : AreHere x.place now
+  pub others : AreOthers now
   pub found_is : next.found ≡ b.found ++ now
 
 abbrev pub left_found : Option Code → Place → List Finding
@@ -185,6 +244,7 @@ record Ended (b e : BodyRead) (here : Place) : Type 0 where
   reading_is : e.reading ≡ b.reading
   now : List Finding
   all_here : AreHere here now
+  others : AreOthers now
   found_is : e.found ≡ b.found ++ now
 
 ended : (line : ℕ) (here : Place) (b : BodyRead) → Ended b (with_snippet_ended line here b) here
@@ -199,9 +259,10 @@ ended line here b = by (line == 0)
           reading_is = refl;
           now = found ++ sounds;
           all_here = both_here here found sounds (codes_here here (notes.found_at_end b.reading.kept)) (codes_here here (sound_codes b.sounded (first_sound (items_by gabc (whole_front gabc b.reading.kept)))));
+          others = both_others found sounds (codes_others here (notes.found_at_end b.reading.kept) (notes_end_others b.reading.kept)) (codes_others here (sound_codes b.sounded (first_sound (items_by gabc (whole_front gabc b.reading.kept)))) (sound_others b.sounded (first_sound (items_by gabc (whole_front gabc b.reading.kept)))));
           found_is = append_assoc b.found found sounds;
         }
-    by false = record { made_is = refl; reading_is = refl; now = found_at (nabc_text.found_at_end b.reading.kept) here; all_here = codes_here here (nabc_text.found_at_end b.reading.kept); found_is = refl }
+    by false = record { made_is = refl; reading_is = refl; now = found_at (nabc_text.found_at_end b.reading.kept) here; all_here = codes_here here (nabc_text.found_at_end b.reading.kept); others = codes_others here (nabc_text.found_at_end b.reading.kept) (nabc_end_others b.reading.kept); found_is = refl }
 
 abbrev pub syllable_of : List ℕ → List ℕ → List Snippet → BodyRead → UnplacedSyllable
 syllable_of kept t snippets b = record {
@@ -225,14 +286,14 @@ snippet_step lines line b e x h o fate part = by (x.c == 124) refl
         syllable_of (encode_utf8_all (e.reading.before ++ (whole ++ x.c ∷ []))) e.reading.text (e.reading.snippets ++ snippet_at line (length (encode_utf8_all e.reading.before)) (encode_utf8_all whole) ∷ []) e
 
     by : (mark : Bool) → (x.c == 124) ≡ mark → Step lines b x (past_snippet lines line x.c e)
-    by true m = splits line o fate part m (rw m (record { made_is = h.made_is; line = _; part_is = refl; kept_is = refl; before_is = before_is; comment_is = refl; now = h.now; here = h.all_here; found_is = h.found_is }))
-    by false m = closes line o fate part m (rw m (record { syllable = last; all_is = ap encode_utf8_all before_is; made_is = ap (λ (ms : List UnplacedSyllable). ms ++ last ∷ []) h.made_is; reading_is = refl; now = h.now; here = h.all_here; found_is = h.found_is }))
+    by true m = splits line o fate part m (rw m (record { made_is = h.made_is; line = _; part_is = refl; kept_is = refl; before_is = before_is; comment_is = refl; now = h.now; here = h.all_here; others = h.others; found_is = h.found_is }))
+    by false m = closes line o fate part m (rw m (record { syllable = last; all_is = ap encode_utf8_all before_is; made_is = ap (λ (ms : List UnplacedSyllable). ms ++ last ∷ []) h.made_is; reading_is = refl; now = h.now; here = h.all_here; others = h.others; found_is = h.found_is }))
 
 -- ---- a character
 
 module _ (lines macros : ℕ) (b : BodyRead) (x : Char) where
   end_step : (b.reading.comment && not (x.c == 10)) ≡ false → fate_at lines b x ≡ Ends → (part : Part) → b.reading.part ≡ part → Step lines b x (with_end lines part b x)
-  end_step o fate InText p = opens o fate p (record { made_is = refl; line = 0; part_is = refl; kept_is = refl; before_is = refl; comment_is = refl; now = found_at (codes_at_end (reverse (tokens b.reading.kept))) x.place; here = codes_here x.place (codes_at_end (reverse (tokens b.reading.kept))); found_is = refl })
+  end_step o fate InText p = opens o fate p (record { made_is = refl; line = 0; part_is = refl; kept_is = refl; before_is = refl; comment_is = refl; now = found_at (codes_at_end (reverse (tokens b.reading.kept))) x.place; here = codes_here x.place (codes_at_end (reverse (tokens b.reading.kept))); others = codes_others x.place (codes_at_end (reverse (tokens b.reading.kept))) (text_end_others (reverse (tokens b.reading.kept))); found_is = refl })
   end_step o fate (InNotes line) p = snippet_step lines line b (with_snippet_ended line x.place b) x (ended line x.place b) o fate p
 
   fate_step : (b.reading.comment && not (x.c == 10)) ≡ false → (f : Fate) → fate_at lines b x ≡ f → Step lines b x (with_fate lines macros b x f)
