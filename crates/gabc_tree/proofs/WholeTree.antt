@@ -38,7 +38,8 @@ use Rattle.gabc_tree.proofs.KeptNodes.{AreKept, none, kept_both}
 use Rattle.gabc_tree.proofs.NestedHeaders.{both}
 use Rattle.gabc_tree.proofs.fates.Left.{kept_fits}
 use Rattle.gabc_tree.proofs.placed_nodes.Counted.{count_least}
-use Rattle.gabc_tree.proofs.fates.OfScore.{heads_are, few_characters, AreWellPlaced, syllables_well}
+use Rattle.gabc_tree.proofs.fates.OfHeaders.{heads_are}
+use Rattle.gabc_tree.proofs.fates.OfScore.{few_characters, AreWellPlaced, syllables_well}
 use Rattle.gabc_tree.proofs.not_kept_nodes.FewBytes.{joined_bytes}
 use Rattle.gabc_tree.proofs.not_kept_nodes.InPlace.{InRow, row_nested, from_row, joined_row}
 use Rattle.gabc_tree.proofs.placed_nodes.Fronts.{is_front}

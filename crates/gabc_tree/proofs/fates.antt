@@ -7,6 +7,7 @@ pub mod NextComes
 pub mod FoundLater
 pub mod Walk
 pub mod Input
+pub mod OfHeaders
 pub mod OfScore
 pub mod Left
 pub mod MadeWell

@@ -38,8 +38,8 @@ abbrev pub kept_at_end : ℕ → ℕ → BodyRead → List Char → List ℕ
 kept_at_end lines macros b [] = b.reading.kept
 kept_at_end lines macros b (x ∷ xs) = cond (ends (fate_at lines b x)) b.reading.kept (kept_at_end lines macros (read.past lines macros b x) xs)
 
--- Of a snippet an unfinished end is cut where it ends: with it goes what is kept after this, of all
--- that is kept there.
+-- Of a snippet an unfinished end is cut where it ends: a character that is kept after this text
+-- goes with it, if all this is kept there.
 abbrev pub is_cut_by : Part → List ℕ → List ℕ → Bool
 is_cut_by InText kept all = false
 is_cut_by (InNotes line) kept all = nat_le (length (whole_of line all)) (length kept)
@@ -48,21 +48,17 @@ is_cut_by (InNotes line) kept all = nat_le (length (whole_of line all)) (length 
 abbrev pub is_cut : ℕ → ℕ → BodyRead → Char → List Char → Bool
 is_cut lines macros b x xs = is_cut_by b.reading.part b.reading.kept (kept_at_end lines macros b (x ∷ xs))
 
--- what a character is that is cut
-abbrev pub out_by_cut : ℕ → Kind × ℕ
-out_by_cut c = cond (is_blank c) (kind.FurtherBlank, 0) (kind.LeftOut, 106)
-
 -- what a character is of which this becomes, if it is not kept: its kind and its number
-abbrev pub out_by_fate : Bool → ℕ → Fate → Option (Kind × ℕ)
-out_by_fate cut c Keep = cond cut (Some (out_by_cut c)) None
-out_by_fate cut c Comment = Some (kind.Comment, 0)
-out_by_fate cut c Ends = None
-out_by_fate cut c (LeaveOut None) = Some (kind.FurtherBlank, 0)
-out_by_fate cut c (LeaveOut (Some code)) = Some (kind.LeftOut, number_of_code code)
+abbrev pub out_by_fate : Bool → Fate → Option (Kind × ℕ)
+out_by_fate cut Keep = cond cut (Some (kind.LeftOut, 106)) None
+out_by_fate cut Comment = Some (kind.Comment, 0)
+out_by_fate cut Ends = None
+out_by_fate cut (LeaveOut None) = Some (kind.FurtherBlank, 0)
+out_by_fate cut (LeaveOut (Some code)) = Some (kind.LeftOut, number_of_code code)
 
 -- what the character is where the reading stands, before these characters
 abbrev pub out_by_reading : ℕ → ℕ → BodyRead → Char → List Char → Option (Kind × ℕ)
-out_by_reading lines macros b x xs = out_by_fate (is_cut lines macros b x xs) x.c (fate_at lines b x)
+out_by_reading lines macros b x xs = out_by_fate (is_cut lines macros b x xs) (fate_at lines b x)
 
 -- ---- of an input
 

@@ -5,6 +5,10 @@ use Rattle.std.proofs.lemmas.Bool.{and_parts, eqb-true, leb-true, leb-false}
 use Rattle.std.proofs.lemmas.List.{length-take-le, take_at}
 use Rattle.gabc_places.specs.Fate.{Keep, Comment, Ends, LeaveOut}
 use Rattle.gabc_places.specs.declared.code.Code.TheVariants.{E1, E3}
+use Rattle.gabc_patterns.specs.Derivative.{is_alive, is_whole}
+use Rattle.gabc_patterns.proofs.AutomatonsByTests.{reading_of}
+use Rattle.gabc_text.specs.Token.{is_blank}
+use Rattle.gabc_notes.proofs.machine.MachineReadsTable.{machine}
 use Rattle.gabc_patterns.specs.Pattern.{is_in}
 use Rattle.gabc_patterns.specs.Reads.{is_read, longest, whole_front}
 use Rattle.gabc_patterns.proofs.WholeFront.{Best, longest_is_best}
@@ -12,12 +16,12 @@ use Rattle.gabc_notes.specs.Table.{gabc}
 use Rattle.gabc_notes.specs.KeptNotes.{is_snippet, is_viable, in_raw, fate_in_notes}
 use Rattle.gabc_notes.specs.declared.state.ItemState.{ItemState}
 use Rattle.gabc_notes.specs.declared.state.ItemState.TheVariants.{Start}
-use Rattle.gabc_notes.proofs.by_kept.NotesViable.{raw_same}
-use Rattle.gabc_notes.proofs.grammar.InsideRawIsAnOpenBracket.{walk_from, walk_append, is_raw, raw_emitted, raw_stays}
+use Rattle.gabc_notes.proofs.by_kept.NotesViable.{raw_same, snippet_same, viable_same}
+use Rattle.gabc_notes.proofs.grammar.InsideRawIsAnOpenBracket.{on, walk_from, walk_append, walked, is_raw, is_whole_state, raw_emitted, raw_stays}
 use Rattle.gabc_nabc.specs.KeptNabc as nabc_text
 use Rattle.gabc_nabc.specs.KeptNabc.{fate_in_nabc}
 use Rattle.gabc_body.specs.Reading.{InNotes, fate_by}
-use Rattle.gabc_tree.proofs.fates.NextKept.{clash, none_holds}
+use Rattle.gabc_tree.proofs.fates.NextKept.{blank_is, clash, none_holds}
 
 -- ---- marks
 
@@ -81,6 +85,43 @@ raw_closes k c h n = by (c == 93) refl
     by : (o : Bool) → (c == 93) ≡ o → is_snippet (k ++ c ∷ []) ≡ true
     by true e = subst (λ (d : ℕ). is_snippet (k ++ d ∷ []) ≡ true) (sym (eqb-true c 93 e)) (and_parts (is_snippet (k ++ codes "]")) (not (is_snippet k)) h).0
     by false e = clash (in_raw (k ++ c ∷ [])) (raw_goes k c h e) n
+
+-- ---- blanks
+
+-- outside raw a blank that goes on ends an item
+blank_ends : (s z : ItemState) → is_raw (Some s) ≡ false → on s 32 ≡ Some z → is_whole_state (Some z) ≡ true
+blank_ends s z r e = grind arith
+
+whole_walk : (o : Option ItemState) → is_whole (reading_of gabc machine o) ≡ is_whole_state o
+whole_walk o = grind arith
+
+alive_walk : (o : Option ItemState) → is_alive (reading_of gabc machine o) ≡ true → (z : ItemState) × (o ≡ Some z)
+alive_walk None h = absurd (cc)
+alive_walk (Some z) h = (z, refl)
+
+same_walk : (c : ℕ) → is_blank c ≡ true → (o : Option ItemState) → walk_from o (c ∷ []) ≡ walk_from o (32 ∷ [])
+same_walk = blank_is (λ (c : ℕ). (o : Option ItemState) → walk_from o (c ∷ []) ≡ walk_from o (32 ∷ [])) (λ o. refl) tab lf
+  where
+    tab : (o : Option ItemState) → walk_from o (9 ∷ []) ≡ walk_from o (32 ∷ [])
+    tab None = refl
+    tab (Some s) = refl
+
+    lf : (o : Option ItemState) → walk_from o (10 ∷ []) ≡ walk_from o (32 ∷ [])
+    lf None = refl
+    lf (Some s) = refl
+
+whole_after : (o : Option ItemState) (z : ItemState) → is_raw o ≡ false → walk_from o (32 ∷ []) ≡ Some z → is_whole_state (Some z) ≡ true
+whole_after None z r e = absurd (cc)
+whole_after (Some s) z r e = blank_ends s z r e
+
+-- so what is kept with it is a snippet
+pub blank_snippet : (k : List ℕ) (c : ℕ) → is_blank c ≡ true → in_raw k ≡ false → is_viable (k ++ c ∷ []) ≡ true → is_snippet (k ++ c ∷ []) ≡ true
+blank_snippet k c b r v =
+    let alive : is_alive (reading_of gabc machine (walk_from (Some Start) (k ++ c ∷ []))) ≡ true = sym (ap is_alive (walked (k ++ c ∷ []))) ∙ (sym (viable_same (k ++ c ∷ [])) ∙ v) in
+    let z = alive_walk (walk_from (Some Start) (k ++ c ∷ [])) alive in
+    let plain : is_raw (walk_from (Some Start) k) ≡ false = sym (raw_emitted k) ∙ (sym (raw_same k) ∙ r) in
+    let last : walk_from (walk_from (Some Start) k) (32 ∷ []) ≡ Some z.0 = sym (same_walk c b (walk_from (Some Start) k)) ∙ (sym (walk_append (Some Start) k (c ∷ [])) ∙ z.1) in
+    snippet_same (k ++ c ∷ []) ∙ (ap is_whole (walked (k ++ c ∷ [])) ∙ (whole_walk (walk_from (Some Start) (k ++ c ∷ [])) ∙ (ap is_whole_state z.1 ∙ whole_after (walk_from (Some Start) k) z.0 plain last)))
 
 -- ---- the front that stays
 

@@ -1,16 +1,19 @@
 -- The first of the characters that are to come may come next.
-use Rattle.std.proofs.Common.{◌≡◌, ℕ, reverse, ◌+◌, ◌≤◌, Bool, true, false, true≢false, cond, not, ◌&&◌, ◌==◌, List, [], ◌∷◌, ◌++◌, length, length-append, Option, Some, None, is_some, nat_le, refl, sym, ap, subst, ◌∙◌, append_assoc, append-nil, arith}
+use Rattle.std.proofs.Common.{◌≡◌, ℕ, reverse, ◌+◌, ◌≤◌, Bool, true, false, true≢false, cond, not, ◌&&◌, ◌||◌, ◌==◌, List, [], ◌∷◌, ◌++◌, length, length-append, Option, Some, None, is_some, nat_le, nat_lt, refl, sym, ap, subst, ◌∙◌, append_assoc, append-nil, arith}
 use Rattle.std.specs.Option.{option_map}
 use Rattle.std.proofs.lemmas.Bool.{leb-true, le-leb}
 use Rattle.gabc_places.specs.Fate.{Fate, Keep, Comment, Ends, LeaveOut}
+use Rattle.gabc_places.specs.declared.code.Code.TheVariants.{E1, E3}
 use Rattle.gabc_places.specs.declared.limits.Limits.{Limits}
 use Rattle.gabc_places.specs.declared.place.Char.{Char}
 use Rattle.gabc_places.specs.declared.place.Place.{Place}
 use Rattle.gabc_patterns.specs.Reads.{whole_front}
 use Rattle.gabc_text.specs.KeptText.{belongs}
-use Rattle.gabc_text.specs.Token.{tokens}
+use Rattle.gabc_text.specs.Token.{tokens, is_blank}
 use Rattle.gabc_notes.specs.Table.{gabc}
-use Rattle.gabc_notes.specs.KeptNotes.{is_snippet, in_raw}
+use Rattle.gabc_notes.specs.KeptNotes.{is_snippet, is_viable, in_raw, fate_in_notes}
+use Rattle.gabc_nabc.specs.KeptNabc as nabc_text
+use Rattle.gabc_nabc.specs.KeptNabc.{fate_in_nabc}
 use Rattle.gabc_nabc.specs.Table.{nabc}
 use Rattle.gabc_body.specs.Reading.{Part, InText, InNotes, BodyRead, fate_by, kept_as, whole_of, past, code_now}
 use Rattle.gabc_body.specs.declared.ending.InputEnding.{InputEnding}
@@ -18,8 +21,8 @@ use Rattle.gabc_body.specs.declared.ending.InputEnding.TheVariants.{Whole, Broke
 use Rattle.gabc_tree.specs.Fates.{fate_at, ends, kept_at_end, is_cut_by}
 use Rattle.gabc_tree.proofs.fates.Steps.{Step, comments, leaves, keeps, opens, splits, closes, step}
 use Rattle.gabc_tree.proofs.fates.Coming.{makes_last, or_none, with_next, coming}
-use Rattle.gabc_tree.proofs.fates.NextKept.{is_shown, MayCome, text_ends}
-use Rattle.gabc_tree.proofs.fates.CutEnds.{is_mark, is_raw_in, ends_at_mark, mark_ends, raw_closes, longest_front}
+use Rattle.gabc_tree.proofs.fates.NextKept.{none_holds, is_shown, MayCome, text_ends}
+use Rattle.gabc_tree.proofs.fates.CutEnds.{blank_snippet, is_mark, is_raw_in, ends_at_mark, mark_ends, raw_closes, longest_front}
 
 -- ---- options
 
@@ -277,3 +280,39 @@ module _ (limits : Limits) (head lines macros : ℕ) (at_end : Place) (ending : 
       by true d ks h = cc
       by false d ks h = cc
   next_may (x ∷ xs) b = next_step b x xs (next_may xs (past lines macros b x))
+
+-- ---- no blank is cut
+
+keeps_viable : (split : Bool) (kept : List ℕ) (c : ℕ) → in_raw kept ≡ false → fate_in_notes split kept c ≡ Keep → is_viable (kept ++ c ∷ []) ≡ true
+keeps_viable split kept c r h = by (in_raw kept) (c == 37) ((c == 41) || (split && (c == 124))) (is_viable (kept ++ c ∷ [])) r h
+  where
+    by : (raw percent mark viable : Bool) → raw ≡ false → cond raw Keep (cond percent Comment (cond mark Ends (cond viable Keep (LeaveOut (Some E1))))) ≡ Keep → viable ≡ true
+    by true percent mark viable e f = absurd (true≢false e)
+    by false true mark viable e f = absurd (cc)
+    by false false true viable e f = absurd (cc)
+    by false false false true e f = refl
+    by false false false false e f = absurd (cc)
+
+nabc_keeps_none : (kept : List ℕ) (c : ℕ) → is_blank c ≡ true → fate_in_nabc kept c ≡ Keep → ⊥
+nabc_keeps_none kept c b h = by (c == 37) ((c == 41) || (c == 124)) (is_blank c) (nabc_text.is_viable (kept ++ c ∷ [])) b h
+  where
+    by : (percent mark blank viable : Bool) → blank ≡ true → cond percent Comment (cond mark Ends (cond blank (LeaveOut None) (cond viable Keep (LeaveOut (Some E3))))) ≡ Keep → ⊥
+    by true mark blank viable e f = cc
+    by false true blank viable e f = cc
+    by false false true viable e f = cc
+    by false false false viable e f = true≢false (sym e)
+
+-- what is kept and then cut, outside raw, is no blank
+pub cut_no_blank : (lines macros line : ℕ) (next : BodyRead) (xs : List Char) (kept : List ℕ) (c : ℕ) → fate_by lines (InNotes line) kept c ≡ Keep → is_raw_in line kept ≡ false
+    → next.reading.kept ≡ kept ++ c ∷ [] → length (whole_of line (kept_at_end lines macros next xs)) ≤ length kept → is_blank c ≡ false
+cut_no_blank lines macros line next xs kept c fate outside k short = none_holds (is_blank c) (λ b. by (line == 0) refl b fate outside)
+  where
+    by : (o : Bool) → (line == 0) ≡ o → is_blank c ≡ true → cond o (fate_in_notes (nat_lt 0 lines) kept c) (fate_in_nabc kept c) ≡ Keep → (o && in_raw kept) ≡ false → ⊥
+    by true l b f r =
+        let g = kept_on lines macros next xs in
+        let front = longest_front next.reading.kept g.more (ap is_snippet k ∙ blank_snippet kept c b r (keeps_viable (nat_lt 0 lines) kept c r f)) in
+        let is : whole_of line (kept_at_end lines macros next xs) ≡ whole_front gabc (next.reading.kept ++ g.more) = ap (whole_of line) g.is ∙ ap (λ (o : Bool). cond o (whole_front gabc (next.reading.kept ++ g.more)) (whole_front nabc (next.reading.kept ++ g.more))) l in
+        let long = ap length is in
+        let n = ap length k ∙ length-append kept (c ∷ []) in
+        omega (arith, front, long, n, short)
+    by false l b f r = nabc_keeps_none kept c b f

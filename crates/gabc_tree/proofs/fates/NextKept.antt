@@ -20,7 +20,7 @@ use Rattle.gabc_tree.specs.NotKept.{comes_next}
 
 -- ---- blanks
 
-blank_is : (P : ℕ → Type 0) → P 32 → P 9 → P 10 → (c : ℕ) → is_blank c ≡ true → P c
+pub blank_is : (P : ℕ → Type 0) → P 32 → P 9 → P 10 → (c : ℕ) → is_blank c ≡ true → P c
 blank_is P space tab lf c = by (32 == c) refl (9 == c) refl (10 == c) refl
   where
     by : (s : Bool) → (32 == c) ≡ s → (t : Bool) → (9 == c) ≡ t → (l : Bool) → (10 == c) ≡ l → (s || (t || (l || false))) ≡ true → P c

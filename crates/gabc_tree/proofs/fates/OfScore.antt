@@ -1,18 +1,14 @@
 -- What is not kept of a score's input is what is read.
-use Rattle.std.proofs.Common.{◌≡◌, ℕ, zero, suc, ◌+◌, ◌≤◌, ◌<◌, ◌^◌, ◌-◌, Bool, true, false, true≢false, cond, ◌==◌, List, [], ◌∷◌, ◌++◌, map, filter, length, take, drop, take-append-drop, Option, Some, None, Result, Ok, Err, is_some, nat_lt, refl, sym, ap, subst, ◌∙◌, append_assoc, append-nil, length-append, ◌⊎◌, inl, inr, arith, if◌then◌else◌}
-use Rattle.std.specs.Char.{len_utf8}
+use Rattle.std.proofs.Common.{◌≡◌, ℕ, zero, suc, ◌+◌, ◌≤◌, ◌<◌, ◌^◌, Bool, true, false, true≢false, cond, List, [], ◌∷◌, ◌++◌, length, take, drop, take-append-drop, Option, Some, None, Result, Ok, Err, is_some, nat_lt, refl, sym, ap, subst, ◌∙◌, append_assoc, append-nil, length-append, ◌⊎◌, inl, inr, arith}
 use Rattle.std.specs.List.{All}
 use Rattle.std.specs.Str.{chars}
-use Rattle.std.proofs.lemmas.Bool.{eqb-true}
 use Rattle.std.proofs.lemmas.List.Elements.{All-nil, All-cons, All-append}
 use Rattle.std.proofs.lemmas.List.{take_at, drop_at}
 use Rattle.std.proofs.lemmas.Str.{len_utf8_bounds}
 use lib.Utf8.{scalars}
 use Rattle.gabc_places.specs.Fate.{LeaveOut}
-use Rattle.gabc_places.specs.Findings.{Known, findings_before, Stop, earliest}
 use Rattle.gabc_places.specs.Place.{next_place, place_past, place_after, placed_characters, placed_characters_after, placed_characters_from}
 use Rattle.gabc_places.specs.Text.{is_left_out, read_as, text_of_bytes, text_of_characters, utf8_prefix_of, decoded_of}
-use Rattle.gabc_places.specs.declared.code.Code.TheVariants.{E5, W2}
 use Rattle.gabc_places.specs.declared.code.Finding.{Finding}
 use Rattle.gabc_places.specs.declared.limits.Limits.{Limits}
 use Rattle.gabc_places.specs.declared.place.Char.{Char}
@@ -21,14 +17,12 @@ use Rattle.gabc_places.proofs.PlacesOfAText.{placed_after, after_joined}
 use Rattle.gabc_places.proofs.decoding.PlainTextsAreReadAgain.{all_scalars}
 use Rattle.gabc_places.proofs.texts.TextsAreScalars.{text_scalars, text_short}
 use Rattle.gabc_headers.proofs.entries.TextsAsBytes.{bytes_len-cons, length-encodes}
-use Rattle.gabc_headers.specs.Book.{nabc_lines_of, macros_of, is_kept, repeats}
+use Rattle.gabc_headers.specs.Book.{nabc_lines_of, macros_of}
 use Rattle.gabc_headers.specs.Canonical.{canonical_heads}
-use Rattle.gabc_headers.specs.Heads.{head_len, heads_of, heads_of_parts_by, findings_after, findings_of_name, findings_of_parts, stops_of_parts, body_byte}
+use Rattle.gabc_headers.specs.Heads.{head_len, heads_of}
 use Rattle.gabc_headers.specs.Lines.{bytes_len}
-use Rattle.gabc_headers.specs.Parts.{HeaderPart, left_out, header, unended}
 use Rattle.gabc_headers.specs.declared.heads.Heads.{Heads}
 use Rattle.gabc_headers.specs.declared.heads.HeadFault.{HeadFault}
-use Rattle.gabc_headers.specs.witness.Parts.{head_parts}
 use Rattle.gabc_patterns.proofs.LongestPrefixIsFound.{scalars_parts}
 use Rattle.gabc_body.specs.Canonical.{with_positions, placed_syllables_by}
 use Rattle.gabc_body.specs.ReadAlone.{read_of}
@@ -46,90 +40,15 @@ use Rattle.gabc_tree.specs.NotKept.{Reached, begun, start, leaves_out, from_here
 use Rattle.gabc_tree.specs.NotKept as beside
 use Rattle.gabc_tree.specs.Tree.{ending_by, characters_before, kept_characters}
 use Rattle.gabc_tree.specs.declared.kind.Kind.TheVariants as kind
-use Rattle.gabc_tree.proofs.fates.Steps.{AreMild, AreOthers, mild_others}
+use Rattle.gabc_tree.proofs.fates.OfHeaders.{heads_are, count_is}
+use Rattle.gabc_tree.proofs.fates.Steps.{AreOthers, mild_others}
 use Rattle.gabc_tree.proofs.fates.Coming.{coming, read_to_end, kept_in, from_syllable}
-use Rattle.gabc_tree.proofs.fates.LeftOutThere.{IsLeft, AreLeft, later_left, shown_at}
+use Rattle.gabc_tree.proofs.fates.LeftOutThere.{IsLeft, AreLeft, IsShownAt, later_left, shown_at}
 use Rattle.gabc_tree.proofs.fates.MadeWell.{IsMadeWell, AreMadeWell, all_made_well}
 use Rattle.gabc_tree.proofs.fates.ToTheEnd.{result_is, kept_to_end}
 use Rattle.gabc_tree.proofs.fates.FoundLater.{found_later, later_is, mild_past}
 use Rattle.gabc_tree.proofs.fates.Walk.{IsNear, Beside}
 use Rattle.gabc_tree.proofs.fates.Input.{same_front, shown, shown_is, past_both, placed_both, placed_length, Stands, after_characters, out_is_read, found_all}
-
--- ---- the headers
-
--- what is found in headers leaves out no character
-abbrev AreMildKnown : List Known → Type 0
-AreMildKnown [] = Unit {0}
-AreMildKnown (k ∷ ks) = (leaves_out k.finding.code ≡ false) × AreMildKnown ks
-
-known_both : (ks js : List Known) → AreMildKnown ks → AreMildKnown js → AreMildKnown (ks ++ js)
-known_both [] js h i = i
-known_both (k ∷ ks) js h i = (h.0, known_both ks js h.1 i)
-
-parts_mild : (seen : List (List ℕ)) (ps : List HeaderPart) → AreMildKnown (findings_after seen ps)
-parts_mild seen [] = tt
-parts_mild seen (left_out k p ∷ ps) = (refl, parts_mild seen ps)
-parts_mild seen (unended k ∷ ps) = parts_mild seen ps
-parts_mild seen (header k name value p ∷ ps) = by (is_kept name value) (repeats seen name) (parts_mild (cond (is_kept name value) (name ∷ seen) seen) ps)
-  where
-    by : (o r : Bool) → AreMildKnown (findings_after (cond (is_kept name value) (name ∷ seen) seen) ps)
-        → AreMildKnown (cond o (cond r (record { point = p; finding = record { place = record { line = k; column = 1 }; code = W2 } } ∷ []) []) (record { point = p; finding = record { place = record { line = k; column = 1 }; code = E5 } } ∷ []) ++ findings_after (cond (is_kept name value) (name ∷ seen) seen) ps)
-    by true true h = (refl, h)
-    by true false h = h
-    by false r h = (refl, h)
-
-all_mild : (t : List ℕ) (ps : List HeaderPart) → AreMildKnown (findings_of_parts t ps)
-all_mild t ps = known_both (findings_after [] ps) (findings_of_name t ps) (parts_mild [] ps) (name_mild t ps)
-  where
-    one : (o : Bool) (k : Known) → leaves_out k.finding.code ≡ false → AreMildKnown (cond o (k ∷ []) [])
-    one true k h = (h, tt)
-    one false k h = tt
-
-    name_mild : (t : List ℕ) (ps : List HeaderPart) → AreMildKnown (findings_of_name t ps)
-    name_mild t ps = one _ _ refl
-
-before_mild : (stop : ℕ) (ks : List Known) → AreMildKnown ks → AreMild (findings_before stop ks)
-before_mild stop [] h = tt
-before_mild stop (k ∷ ks) h = by (nat_lt k.point stop) (before_mild stop ks h.1)
-  where
-    by : (o : Bool) → AreMild (findings_before stop ks) → AreMild (map (λ (k : Known). k.finding) (if o then k ∷ filter (λ (k : Known). nat_lt k.point stop) ks else filter (λ (k : Known). nat_lt k.point stop) ks))
-    by true g = (h.0, g)
-    by false g = g
-
--- the headers that are whole
-pub record AreHeads (t : List ℕ) (heads : Heads) : Type 0 where
-  pub body_is : heads.body ≡ bytes_len (heads_text t)
-  pub mild : AreMild heads.findings
-
-pub heads_are : (limits : Limits) (t : List ℕ) (heads : Heads) → heads_of limits t ≡ Ok heads → AreHeads t heads
-heads_are limits t heads e = by (earliest (stops_of_parts limits t (head_parts t))) e
-  where
-    by : (o : Option Stop) → heads_of_parts_by t (head_parts t) o ≡ Ok heads → AreHeads t heads
-    by (Some s) f = absurd (cc)
-    by None f =
-        let body : body_byte t ≡ heads.body = ap (head_end_by) f in
-        let found : findings_before (length t + 1) (findings_of_parts t (head_parts t)) ≡ heads.findings = ap findings_in f in
-        record { body_is = sym body; mild = subst AreMild found (before_mild (length t + 1) (findings_of_parts t (head_parts t)) (all_mild t (head_parts t))) }
-      where
-        findings_in : Result Heads HeadFault → List Finding
-        findings_in (Ok heads) = heads.findings
-        findings_in (Err stop) = []
-
--- as many characters
-count_is : (u v : List ℕ) → characters_before (bytes_len u) (u ++ v) ≡ length u
-count_is [] [] = refl
-count_is [] (c ∷ v) = refl
-count_is (c ∷ u) v =
-    let n = bytes_len-cons c u in
-    let least = (len_utf8_bounds c).0 in
-    some (bytes_len (c ∷ u)) c (omega (arith, n, least)) (omega (arith, n)) (count_is u v)
-  where
-    some : (n c : ℕ) → 1 ≤ n → n - len_utf8 c ≡ bytes_len u → characters_before (bytes_len u) (u ++ v) ≡ length u → cond (n == 0) 0 (1 + characters_before (n - len_utf8 c) (u ++ v)) ≡ suc (length u)
-    some n c h e f = by (n == 0) refl
-      where
-        by : (o : Bool) → (n == 0) ≡ o → cond o 0 (1 + characters_before (n - len_utf8 c) (u ++ v)) ≡ suc (length u)
-        by true g = absurd (let z = eqb-true n 0 g in omega (arith, h, z))
-        by false g = let k = ap (λ (m : ℕ). characters_before m (u ++ v)) e in omega (arith, k, f)
 
 -- ---- the score
 
@@ -334,45 +253,45 @@ module _ (limits : Limits) (bytes : List ℕ) (heads : Heads) (heads_is : heads_
 
   -- ---- what is found
 
-  one_there : (f : Finding) → IsLeft lines macros read.begun (place_past start h) body f → IsLeftOutThere limits bytes heads f
-  one_there f l =
+  -- all of the text, by where the finding stands
+  all_is : (f : Finding) (l : IsLeft lines macros read.begun (place_past start h) body f) → (h ++ l.front) ++ l.c ∷ l.back ≡ text
+  all_is f l = append_assoc h l.front (l.c ∷ l.back) ∙ (ap (λ (v : List ℕ). h ++ v) (sym l.split) ∙ text_is)
+
+  stands_there : (f : Finding) (l : IsLeft lines macros read.begun (place_past start h) body f) (s : Reached) (c : ℕ) → is_silent s c ≡ false → read_as c ≡ l.c → StandsHere s (h ++ l.front) (l.c ∷ l.back)
+      → (s.place ≡ f.place) × ((s.kept ≡ []) ⊎ (out_of s c ≡ Some (kind.LeftOut, number_of_code f.code)))
+  stands_there f l s c loud d (inl i) = absurd (let n = i.count_is in let m = length-append h l.front in omega (arith, n, m))
+  stands_there f l s c loud d (inr i) = (i.place_is ∙ (past_both start h l.front ∙ sym l.place_is), kept_is s.kept refl)
+    where
+      fate_is : fate_at lines (read_of lines macros read.begun (drop (length h) (placed_characters_from start (h ++ l.front)))) (record { c = l.c; place = place_past start (h ++ l.front) }) ≡ LeaveOut (Some f.code)
+      fate_is =
+          ap (λ (ys : List Char). fate_at lines (read_of lines macros read.begun ys) (record { c = l.c; place = place_past start (h ++ l.front) }))
+          (ap (drop (length h)) (placed_both start h l.front) ∙ drop_at (placed_characters_from start h) (placed_characters_from (place_past start h) l.front) (length h) (placed_length start h))
+          ∙ (ap (λ (p : Place). fate_at lines (read_of lines macros read.begun (placed_characters_from (place_past start h) l.front)) (record { c = l.c; place = p })) (past_both start h l.front) ∙ l.fate_is)
+
+      kept_is : (ks : List ℕ) → s.kept ≡ ks → (s.kept ≡ []) ⊎ (out_of s c ≡ Some (kind.LeftOut, number_of_code f.code))
+      kept_is [] e = inl e
+      kept_is (k ∷ ks) e =
+          let u : List ℕ = h ++ l.front in
+          let x : Char = record { c = l.c; place = place_past start (h ++ l.front) } in
+          let ys = placed_characters_from (place_past start (u ++ l.c ∷ [])) l.back in
+          let b : BodyRead = read_of lines macros read.begun (drop (length h) (placed_characters_from start u)) in
+          inr (out_shown s c i.heads_is loud
+          ∙ (ap (out_in_body s) d
+          ∙ (out_is_read limits head lines macros (place_after text) ending h body kept score.findings to_end near ready s u l.back l.c (all_is f l ∙ sym text_is) (inr i) i.heads_is (λ n. (let z : [] ≡ k ∷ ks = sym n ∙ e in cc))
+          ∙ ap (out_by_fate (is_cut lines macros b x ys)) fate_is)))
+
+  one_there : (f : Finding) (l : IsLeft lines macros read.begun (place_past start h) body f) → IsShownAt begins (utf8_prefix_of (take limits.input bytes)) (h ++ l.front) l.c → IsLeftOutThere limits bytes heads f
+  one_there f l r =
       let cs = utf8_prefix_of (take limits.input bytes) in
       let u : List ℕ = h ++ l.front in
-      let all : u ++ l.c ∷ l.back ≡ text = append_assoc h l.front (l.c ∷ l.back) ∙ (ap (λ (v : List ℕ). h ++ v) (sym l.split) ∙ text_is) in
-      let r = shown_at cs begins u l.back l.c (sym (shown_is cs) ∙ sym all) in
       let s : Reached = reached_after begins r.before in
-      let more = rest_is (shown 0 r.before) u (shown s.previous (r.c ∷ r.after)) (l.c ∷ l.back) (shown 0 cs) r.before_is (ap (shown 0) {y = r.before ++ r.c ∷ r.after} r.parts ∙ shown_both 0 begins r.before (r.c ∷ r.after) refl) (sym (shown_is cs) ∙ sym all) in
+      let more = rest_is (shown 0 r.before) u (shown s.previous (r.c ∷ r.after)) (l.c ∷ l.back) (shown 0 cs) r.before_is (ap (shown 0) r.parts ∙ shown_both 0 begins r.before (r.c ∷ r.after) refl) (sym (shown_is cs) ∙ sym (all_is f l)) in
       let stands : StandsHere s u (l.c ∷ l.back) = subst (StandsHere s u) more (subst (λ (v : List ℕ). StandsHere s v (shown s.previous (r.c ∷ r.after))) r.before_is (after_some r.before (r.c ∷ r.after) r.parts)) in
-      let there = by l s r.c all r.loud r.read_is stands stands in
-      record { before = r.before; after = r.after; c = r.c; parts = r.parts; there = there }
-    where
-      by : (l : IsLeft lines macros read.begun (place_past start h) body f) (s : Reached) (c : ℕ) → (h ++ l.front) ++ l.c ∷ l.back ≡ text → is_silent s c ≡ false → read_as c ≡ l.c
-          → StandsHere s (h ++ l.front) (l.c ∷ l.back) → StandsHere s (h ++ l.front) (l.c ∷ l.back)
-          → (s.place ≡ f.place) × ((s.kept ≡ []) ⊎ (out_of s c ≡ Some (kind.LeftOut, number_of_code f.code)))
-      by l s c all loud d stands (inl i) = absurd (let n = i.count_is in let m = length-append h l.front in omega (arith, n, m))
-      by l s c all loud d stands (inr i) = (i.place_is ∙ (past_both start h l.front ∙ sym l.place_is), kept_is s.kept refl)
-        where
-          fate_is : fate_at lines (read_of lines macros read.begun (drop (length h) (placed_characters_from start (h ++ l.front)))) (record { c = l.c; place = place_past start (h ++ l.front) }) ≡ LeaveOut (Some f.code)
-          fate_is =
-              ap (λ (ys : List Char). fate_at lines (read_of lines macros read.begun ys) (record { c = l.c; place = place_past start (h ++ l.front) }))
-              (ap (drop (length h)) (placed_both start h l.front) ∙ drop_at (placed_characters_from start h) (placed_characters_from (place_past start h) l.front) (length h) (placed_length start h))
-              ∙ (ap (λ (p : Place). fate_at lines (read_of lines macros read.begun (placed_characters_from (place_past start h) l.front)) (record { c = l.c; place = p })) (past_both start h l.front) ∙ l.fate_is)
-
-          kept_is : (ks : List ℕ) → s.kept ≡ ks → (s.kept ≡ []) ⊎ (out_of s c ≡ Some (kind.LeftOut, number_of_code f.code))
-          kept_is [] e = inl e
-          kept_is (k ∷ ks) e =
-              let u : List ℕ = h ++ l.front in
-              let x : Char = record { c = l.c; place = place_past start (h ++ l.front) } in
-              let ys = placed_characters_from (place_past start (u ++ l.c ∷ [])) l.back in
-              let b : BodyRead = read_of lines macros read.begun (drop (length h) (placed_characters_from start u)) in
-              inr (out_shown s c i.heads_is loud
-              ∙ (ap (out_in_body s) d
-              ∙ (out_is_read limits head lines macros (place_after text) ending h body kept score.findings to_end near ready s u l.back l.c (all ∙ sym text_is) stands i.heads_is (λ n. (let z : [] ≡ k ∷ ks = sym n ∙ e in cc))
-              ∙ ap (out_by_fate (is_cut lines macros b x ys) l.c) fate_is)))
+      record { before = r.before; after = r.after; c = r.c; parts = r.parts; there = stands_there f l s r.c r.loud r.read_is stands }
 
   later_there : (fs : List Finding) → AreLeft lines macros read.begun (place_past start h) body fs → All (λ (f : Finding). is_error f.code ≡ true → IsLeftOutThere limits bytes heads f) fs
   later_there [] a = All-nil (λ (f : Finding). is_error f.code ≡ true → IsLeftOutThere limits bytes heads f)
-  later_there (f ∷ fs) a = All-cons (λ (f : Finding). is_error f.code ≡ true → IsLeftOutThere limits bytes heads f) f fs (λ e. one_there f (a.0 e)) (later_there fs a.1)
+  later_there (f ∷ fs) a = All-cons (λ (f : Finding). is_error f.code ≡ true → IsLeftOutThere limits bytes heads f) f fs (λ e. (let l = a.0 e in let cs = utf8_prefix_of (take limits.input bytes) in one_there f l (shown_at cs begins (h ++ l.front) l.back l.c (sym (shown_is cs) ∙ sym (all_is f l))))) (later_there fs a.1)
 
   heads_there : (fs : List Finding) → AreOthers fs → All (λ (f : Finding). is_error f.code ≡ true → IsLeftOutThere limits bytes heads f) fs
   heads_there [] a = All-nil (λ (f : Finding). is_error f.code ≡ true → IsLeftOutThere limits bytes heads f)

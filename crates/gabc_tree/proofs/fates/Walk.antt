@@ -20,7 +20,7 @@ use Rattle.gabc_nabc.specs.KeptNabc.{fate_in_nabc}
 use Rattle.gabc_body.specs.Reading.{Part, InText, InNotes, Reading, BodyRead, fate_by, kept_as, whole_of, past, code_now}
 use Rattle.gabc_body.specs.declared.ending.InputEnding.{InputEnding}
 use Rattle.gabc_tree.specs.CodeNumber.{number_of_code}
-use Rattle.gabc_tree.specs.Fates.{fate_at, kept_at_end, is_cut_by, is_cut, out_by_cut, out_by_fate, out_by_reading}
+use Rattle.gabc_tree.specs.Fates.{fate_at, kept_at_end, is_cut_by, is_cut, out_by_fate, out_by_reading}
 use Rattle.gabc_tree.specs.NotKept.{Reached, leaves_out, from_here, code_at, comes_next, out_by_code, out_in_body, is_comment, but_first, past_shown}
 use Rattle.gabc_tree.specs.declared.kind.Kind.{Kind}
 use Rattle.gabc_tree.specs.declared.kind.Kind.TheVariants as kind
@@ -28,7 +28,7 @@ use Rattle.gabc_tree.proofs.fates.Steps.{AreMild, Step, comments, leaves, keeps,
 use Rattle.gabc_tree.proofs.fates.Coming.{or_none, coming}
 use Rattle.gabc_tree.proofs.fates.NextKept.{none_holds, is_shown, not_next, text_ends}
 use Rattle.gabc_tree.proofs.fates.CutEnds.{is_mark, is_raw_in, mark_ends}
-use Rattle.gabc_tree.proofs.fates.NextComes.{some_is, map_is, fate_here, all_is, with_fate, with_part, cut_ends, cut_outside, next_may}
+use Rattle.gabc_tree.proofs.fates.NextComes.{some_is, map_is, fate_here, all_is, with_fate, with_part, cut_ends, cut_outside, cut_no_blank, next_may}
 use Rattle.gabc_tree.proofs.fates.FoundLater.{before_next, past_here, from_later, none_here, mild_past, one_here, now_of, now_here, found_later, later_from}
 
 -- ---- what a fate says of the character
@@ -260,8 +260,8 @@ module _ (limits : Limits) (head lines macros : ℕ) (at_end : Place) (ending : 
     shut : (o : Bool) → (b.reading.comment && not (c == 10)) ≡ o → (comment && not (c == 10)) ≡ o
     shut o e = ap (λ (a : Bool). a && not (c == 10)) follows.comment_is ∙ e
 
-    by_fate : (f : Fate) → fate_at lines b x ≡ f → out_by_reading lines macros b x xs ≡ out_by_fate (is_cut lines macros b x xs) c f
-    by_fate f e = ap (out_by_fate (is_cut lines macros b x xs) c) e
+    by_fate : (f : Fate) → fate_at lines b x ≡ f → out_by_reading lines macros b x xs ≡ out_by_fate (is_cut lines macros b x xs) f
+    by_fate f e = ap (out_by_fate (is_cut lines macros b x xs)) e
 
     -- what the fate by what is kept says
     says : (f : Fate) → (b.reading.comment && not (c == 10)) ≡ false → fate_at lines b x ≡ f → Said f c
@@ -300,9 +300,9 @@ module _ (limits : Limits) (head lines macros : ℕ) (at_end : Place) (ending : 
         → (ks ≡ []) ⊎ (Coming next xs ≡ Some ks) → Gone
     next_gone f n out comes i more = gone None ks (out_when false true (c == 37) (code_at p findings) (shut false n) comes refl refl) out refl more (sym i)
 
-    keeps_gone : (b.reading.comment && not (c == 10)) ≡ false → fate_at lines b x ≡ Keep → next.reading.comment ≡ false → next.reading.part ≡ b.reading.part → length next.reading.kept ≡ length b.reading.kept + 1
+    keeps_gone : (b.reading.comment && not (c == 10)) ≡ false → fate_at lines b x ≡ Keep → next.reading.comment ≡ false → next.reading.part ≡ b.reading.part → next.reading.kept ≡ b.reading.kept ++ kept_as b.reading.part b.reading.kept c ∷ []
         → (now : List Finding) → AreMild now → findings ≡ from_here p (now ++ Later next xs) → Gone
-    keeps_gone n e i q k now m is =
+    keeps_gone n e i q kept now m is =
         let j = map_is _ (Coming next xs) (d ∷ ks) (with_fate limits head lines macros at_end ending b x xs (d ∷ ks) Keep e follows.coming_is) in
         by b.reading.part refl (is_cut lines macros b x xs) refl j.0 j.1 j.2
       where
@@ -310,16 +310,8 @@ module _ (limits : Limits) (head lines macros : ℕ) (at_end : Place) (ending : 
         plain part js r cut j g =
             let same : js ≡ ks = cc g in
             let first : kept_as part b.reading.kept c ≡ d = cc g in
-            next_gone Keep n (by_fate Keep e ∙ ap (λ (o : Bool). cond o (Some (out_by_cut c)) None) cut)
+            next_gone Keep n (by_fate Keep e ∙ ap (λ (o : Bool). cond o (Some (kind.LeftOut, 106)) None) cut)
             (subst (λ (u : ℕ). comes_next (u ∷ ks) c ≡ true) first (as_next part b.reading.kept ks c)) i (inr (j ∙ ap Some same))
-
-        split_cond : {A : Type 0} (o : Bool) (u v : A) → cond o (Some u) (Some v) ≡ Some (cond o u v)
-        split_cond true u v = refl
-        split_cond false u v = refl
-
-        no_comment : (o : Bool) → is_comment (Some (cond o (kind.FurtherBlank, 0) (kind.LeftOut, 106))) ≡ false
-        no_comment true = refl
-        no_comment false = refl
 
         cut_gone : (line : ℕ) (js : List ℕ) → b.reading.part ≡ InNotes line → is_cut lines macros b x xs ≡ true → Coming next xs ≡ Some js → js ≡ d ∷ ks → Gone
         cut_gone line js r cut j g =
@@ -327,13 +319,15 @@ module _ (limits : Limits) (head lines macros : ℕ) (at_end : Place) (ending : 
             let outside = cut_outside limits head lines macros at_end ending b x xs line (d ∷ ks) r follows.coming_is over in
             let less = leb-true _ _ over in
             let small : length (whole_of line (kept_at_end lines macros next xs)) ≤ length b.reading.kept = subst (λ (u : List ℕ). length (whole_of line u) ≤ length b.reading.kept) (all_is lines macros b x xs Keep e) less in
-            let mark = cut_ends limits head lines macros at_end ending xs next line js (q ∙ r) (omega (arith, small, k)) j in
+            let one : length next.reading.kept ≡ length b.reading.kept + 1 = ap length kept ∙ length-append b.reading.kept (kept_as b.reading.part b.reading.kept c ∷ []) in
+            let mark = cut_ends limits head lines macros at_end ending xs next line js (q ∙ r) (omega (arith, small, one)) j in
             let first : d ≡ mark.mark = cc (g, mark.is) in
             let fate : fate_by lines (InNotes line) b.reading.kept c ≡ Keep = ap (λ (u : Part). fate_by lines u b.reading.kept c) (sym r) ∙ (sym (fate_here lines b x n) ∙ e) in
             let hidden_here : comes_next (d ∷ ks) c ≡ false = mark_not_next lines line d c ks (ap (is_mark lines line) first ∙ mark.marks) (keeps_no_mark lines line b.reading.kept c outside fate) in
-            gone (Some (out_by_cut c)) (d ∷ ks)
-            (◌∙◌ {c = Some (out_by_cut c)} (out_when false false false None (shut false n) hidden_here (keeps_none lines line b.reading.kept c outside fate) (no_code now is m)) (split_cond (is_blank c) (kind.FurtherBlank, 0) (kind.LeftOut, 106)))
-            (◌∙◌ {c = Some (out_by_cut c)} (by_fate Keep e) (ap (λ (o : Bool). cond o (Some (out_by_cut c)) None) cut)) refl (inr (j ∙ ap Some g)) (no_comment (is_blank c) ∙ sym i)
+            let plain = cut_no_blank lines macros line next xs b.reading.kept c fate outside (kept ∙ ap (λ (u : Part). b.reading.kept ++ kept_as u b.reading.kept c ∷ []) r) small in
+            gone (Some (kind.LeftOut, 106)) (d ∷ ks)
+            (◌∙◌ {c = Some (kind.LeftOut, 106)} (out_when false false false None (shut false n) hidden_here (keeps_none lines line b.reading.kept c outside fate) (no_code now is m)) (ap (λ (o : Bool). cond o (Some (kind.FurtherBlank, 0)) (Some (kind.LeftOut, 106))) plain))
+            (◌∙◌ {c = Some (kind.LeftOut, 106)} (by_fate Keep e) (ap (λ (o : Bool). cond o (Some (kind.LeftOut, 106)) None) cut)) refl (inr (j ∙ ap Some g)) (sym i)
 
         by : (part : Part) → b.reading.part ≡ part → (o : Bool) → is_cut lines macros b x xs ≡ o → (js : List ℕ) → Coming next xs ≡ Some js
             → cond (is_cut lines macros b x xs) js (kept_as b.reading.part b.reading.kept c ∷ js) ≡ d ∷ ks → Gone
@@ -365,7 +359,7 @@ module _ (limits : Limits) (head lines macros : ℕ) (at_end : Place) (ending : 
     by_step : (s : Step lines b x next) → findings ≡ from_here p (now_of s ++ Later next xs) → Gone
     by_step (comments e s) is = comments_gone e s.comment_is
     by_step (leaves code n e s) is = leaves_gone code n e s.comment_is is
-    by_step (keeps n e s) is = keeps_gone n e s.comment_is s.part_is (ap length s.kept_is ∙ length-append b.reading.kept (_ ∷ [])) s.now s.mild is
+    by_step (keeps n e s) is = keeps_gone n e s.comment_is s.part_is s.kept_is s.now s.mild is
     by_step (opens n e r s) is = opens_gone n e r s.comment_is
     by_step (splits line n e r m s) is = snippet_gone line n e r s.comment_is
     by_step (closes line n e r m s) is = snippet_gone line n e r (ap (λ (r : Reading). r.comment) s.reading_is)
