@@ -132,8 +132,10 @@ export class Page {
     await this.run(settled);
   }
 
+  /** Clicks on an element, and waits until what this began is shown. */
   async click(selector) {
     await this.run((it) => document.querySelector(it).click(), selector);
+    await this.run(settled);
   }
 
   focus(selector) {
