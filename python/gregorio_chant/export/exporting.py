@@ -4,7 +4,6 @@ from __future__ import annotations
 from dataclasses import dataclass
 from pathlib import Path
 
-from gregorio_chant._native.results import Kind
 from gregorio_chant.export import Way
 from gregorio_chant.export.losses import losses
 from gregorio_chant.objects.compiled import TooLong
@@ -55,7 +54,7 @@ def _export(name: str, data: bytes, options: Options, lost: _Told) -> tuple[int,
         score = Score.parse(data)
     except ScoreError as error:
         return _FATAL, f"{name}:{error}; it is not written"
-    fault = next((it for it in score.messages if it.kind is Kind.FATAL), None)
+    fault = score.fault
     if fault is not None:
         return (
             _FATAL,

@@ -109,7 +109,11 @@ class Compiled:
     @property
     def fault(self) -> Message | None:
         """The fatal fault that stops the score, if there is one."""
-        return self.messages[-1] if self._report.status is Status.FATAL else None
+        if self._limits is None and "tree" in self.__dict__:
+            is_fatal = NodeKind.UNREAD in self.tree.kinds
+        else:
+            is_fatal = self._report.status is Status.FATAL
+        return self.messages[-1] if is_fatal else None
 
     @property
     def canonical(self) -> str:

@@ -71,9 +71,14 @@ class Score(Reading):
         return self.compiled.messages
 
     @property
+    def fault(self) -> Message | None:
+        """The fatal fault that stopped the reading, if one did."""
+        return self.compiled.fault
+
+    @property
     def is_whole(self) -> bool:
         """Whether no fault stopped the reading."""
-        return self.compiled.fault is None
+        return self.fault is None
 
     @cached_property
     def left_out(self) -> tuple[LeftOut, ...]:

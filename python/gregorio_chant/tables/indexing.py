@@ -5,7 +5,6 @@ from collections.abc import Iterator, Sequence
 from dataclasses import dataclass, field, fields
 from itertools import islice
 
-from gregorio_chant._native.results import Kind
 from gregorio_chant.errors import UsageError
 from gregorio_chant.export.volpiano import volpiano_of
 from gregorio_chant.objects.passages import Word, each_word
@@ -60,7 +59,7 @@ def entry_of(score: Score, headers: Sequence[str] = ()) -> IndexEntry:
     notes, reach = score.notes, score.range
     first = notes[0] if notes else score.syllables[0] if score.syllables else None
     words = list(islice(each_word(score.syllables), _WORDS))
-    fault = next((it for it in score.messages if it.kind is Kind.FATAL), None)
+    fault = score.fault
     return IndexEntry(
         first.source.line if first else 1,
         first.source.column if first else 1,

@@ -9,7 +9,7 @@ from dataclasses import dataclass
 from functools import partial
 from typing import Protocol, Union
 
-from gregorio_chant._native.results import Kind, Message, Status
+from gregorio_chant._native.results import Message, Status
 from gregorio_chant.objects.compiled import TooLong
 from gregorio_chant.objects.reading import ScoreError
 from gregorio_chant.objects.score import Score
@@ -99,8 +99,8 @@ def made_of(name: str, make: Maker, read: Read) -> Made:
     """Returns the rows of a file."""
     try:
         score = Score.parse(read(name).data)
-        fault = next((it for it in score.messages if it.kind is Kind.FATAL), None)
-        return Made(name, tuple(make(score)), fault, None, int(Status.FATAL) if fault else 0)
+        status = int(Status.WHOLE if score.is_whole else Status.FATAL)
+        return Made(name, tuple(make(score)), score.fault, None, status)
     except ScoreError as error:
         return Made(name, fault=error.message, status=int(Status.FATAL))
     except OSError as error:
