@@ -99,7 +99,7 @@ class Formatted:
 def formatted(data: bytes, style: Style, allow: frozenset[str] = frozenset()) -> Formatted:
     """Returns what a score is formatted to; the losses are those that are not allowed. Raises
     `TooLong` for a score of which more than blanks would change, if it is too long for its tree."""
-    score = Compiled.written_of(data)
+    score = Compiled.with_canonical(data)
     if score.fault is not None:
         it = score.fault
         return Formatted(fault=f"{it.line}:{it.column}: {it.code}: {it.text}")
@@ -111,7 +111,7 @@ def formatted(data: bytes, style: Style, allow: frozenset[str] = frozenset()) ->
         return Formatted(new)
     before = Reading.of(score)
     del score
-    return Formatted(new, objection=objection(before, Compiled.written_of(new), write_it))
+    return Formatted(new, objection=objection(before, Compiled.with_canonical(new), write_it))
 
 
 def _canonical(score: Compiled, allow: frozenset[str]) -> Formatted:

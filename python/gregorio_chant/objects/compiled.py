@@ -66,7 +66,7 @@ class Compiled:
         self.data, self._limits = data, limits
 
     @classmethod
-    def written_of(cls, data: bytes) -> Compiled:
+    def with_canonical(cls, data: bytes) -> Compiled:
         """Compiles a score whose canonical text is wanted, and not its messages alone."""
         compiled = cls(data)
         compiled._result
