@@ -84,7 +84,7 @@ class Everywhere(unittest.TestCase):
                     told[what if reason is None else f"{what}, refused"] += 1
         self.assertGreater(told["replace"], 100 * told["replace, refused"], told)
         for what in ("remove", "before", "after"):
-            self.assertGreater(told[what], 4 * told[f"{what}, refused"], told)
+            self.assertGreater(told[what], 3 * told[f"{what}, refused"], told)
             self.assertGreater(told[what], 500)
 
     def edits(self, score: Score, it: Item) -> Iterator[tuple[str, str | None]]:
