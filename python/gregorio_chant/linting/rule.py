@@ -49,6 +49,11 @@ class Subject:
         return self.score.tree.source
 
     @cached_property
+    def line(self) -> Node:
+        """The line `%%`."""
+        return next(self.tree.of_kind(NodeKind.SCORE_LINE))
+
+    @cached_property
     def plains(self) -> list[str]:
         """The text of each syllable, without markup."""
         return all_letters(self.tree)

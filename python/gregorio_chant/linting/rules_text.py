@@ -25,6 +25,8 @@ _PUNCTUATION = (",", ";", ":", ".", "!", "?")
 # Punctuation at the end of a text; the ; of a character's name in HTML is none.
 _ENDS_SENTENCE = re.compile(r"(?!.*&#?\w+;$).*[,;:.!?]$", re.DOTALL)
 _NOTES_IN_BRACKETS = re.compile(rb"\[([a-mA-M](?:[a-mA-MvVwWsoq~<>.'_/!]*))\]")
+_BLANK_BEFORE_NOTES = re.compile(rb"[ \t\r\n]\(")
+_BAR_SIGN = re.compile(rb"[;:,][ \t\r\n]")
 _BAR_AS_TEXT = re.compile(rb"[ \t\r\n]*([;:,])[ \t\r\n]+[\w\x80-\xff]")
 _LETTER = re.compile(rb"[\w\x80-\xff]")
 _BLANKS = b" \t\r\n"
@@ -40,6 +42,10 @@ _ITEMS = kinds_pattern(
     NodeKind.LINE_BREAK,
     NodeKind.ATTRIBUTE,
     NodeKind.FUSION,
+)
+# A snippet in which no item comes first.
+_EMPTY = re.compile(
+    b"%c(?![%c-%c])" % (NodeKind.SNIPPET, NodeKind.GLYPH, NodeKind.FUSION), re.DOTALL
 )
 # What stands beside letters in a text, and is no letter.
 _NO_LETTERS = NOT_KEPT - {NodeKind.LEFT_OUT} | {
@@ -59,6 +65,8 @@ def comment(subject: Subject) -> Iterator[Found]:
 def blank_before_notes(subject: Subject) -> Iterator[Found]:
     told = "there is a blank between a word and its notes: the compiler drops it"
     source = subject.source
+    if _BLANK_BEFORE_NOTES.search(source, subject.line.end) is None:
+        return
     for number, (_, _, begin, end) in enumerate(subject.texts):
         if source[end - 1] in _BLANKS and source[end : end + 1] == b"(":
             length = len(source[begin:end].rstrip())
@@ -171,6 +179,8 @@ def missing_blank(subject: Subject) -> Iterator[Found]:
 
 
 def bar_as_text(subject: Subject) -> Iterator[Found]:
+    if _BAR_SIGN.search(subject.source, subject.line.end) is None:
+        return
     for _, _, begin, end in subject.texts:
         found = _BAR_AS_TEXT.match(subject.source, begin, end)
         if found is not None:
@@ -206,6 +216,8 @@ def html_entity(subject: Subject) -> Iterator[Found]:
 
 def syllable_without_notes(subject: Subject) -> Iterator[Found]:
     kinds, syllables = subject.tree.kinds, subject.score.syllables
+    if _EMPTY.search(kinds) is None:
+        return
     for it, text, plain in zip(syllables, subject.texts, subject.plains):
         if _ITEMS.search(kinds, text.number, text.past) is None:
             is_within = it.position in ("beginning", "middle")
@@ -226,9 +238,8 @@ def notes_in_translation(subject: Subject) -> Iterator[Found]:
 
 def second_score_line(subject: Subject) -> Iterator[Found]:
     source = subject.source
-    line = next(subject.tree.of_kind(NodeKind.SCORE_LINE))
     for it in subject.comments:
         begins_line = source[it.begin - 1 : it.begin] in (b"\n", b"\r")
-        if it.begin > line.end and begins_line and source.startswith(b"%%", it.begin):
+        if it.begin > subject.line.end and begins_line and source.startswith(b"%%", it.begin):
             told = "a second line %% is a comment: remove it"
             yield Found(it.begin, f"{told}, or look whether another score begins there")
