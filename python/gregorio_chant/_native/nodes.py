@@ -204,9 +204,9 @@ class Tree:
         """Yields the nodes of these kinds, in order."""
         return (Node(self, it) for it in self.numbers_of(*kinds))
 
-    def numbers_of(self, *kinds: NodeKind) -> Iterator[int]:
-        """Yields the numbers of the nodes of these kinds, in order."""
-        return (it.start() for it in kinds_pattern(*kinds).finditer(self.kinds))
+    def numbers_of(self, *kinds: NodeKind) -> list[int]:
+        """Returns the numbers of the nodes of these kinds, in order."""
+        return [it.start() for it in kinds_pattern(*kinds).finditer(self.kinds)]
 
     def said_but_of(self, kinds: Collection[NodeKind]) -> Iterator[bytes]:
         """Yields the kinds of all nodes that are of none of these kinds, then their first numbers,

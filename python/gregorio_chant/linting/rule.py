@@ -69,8 +69,8 @@ class Subject:
             ends.add(it.end)
         return found
 
-    def numbers(self, *kinds: NodeKind) -> Iterator[int]:
-        """Yields the numbers of the nodes of these kinds."""
+    def numbers(self, *kinds: NodeKind) -> list[int]:
+        """Returns the numbers of the nodes of these kinds."""
         return self.tree.numbers_of(*kinds)
 
     @cached_property

@@ -111,11 +111,11 @@ def _is_used(alteration: Alteration, after: list[Item]) -> bool:
 def lone_capital(subject: Subject) -> Iterator[Found]:
     """Finds an inclinatum with no other one beside it. One with a sign that only an inclinatum has
     is meant, and so are those of a table of signs, where most notes have one."""
-    numbers = list(subject.numbers(NodeKind.NOTE))
-    narrow = subject.tree.narrow
+    numbers = subject.numbers(NodeKind.NOTE)
+    narrow, wide = subject.tree.narrow, subject.tree.wide
     shapes = bytes([narrow[10 * it + 8] & 31 for it in numbers])
     found = [at for at, it in enumerate(shapes) if it == _INCLINATUM]
-    if not found or 2 * sum(_has_signs(subject, it) for it in numbers) > len(numbers):
+    if not found or 2 * sum(wide[5 * it + 1] > wide[5 * it] + 1 for it in numbers) > len(numbers):
         return
     for at in found:
         around = shapes[max(at - 1, 0) : at] + shapes[at + 1 : at + 2]
@@ -125,11 +125,6 @@ def lone_capital(subject: Subject) -> Iterator[Found]:
         if is_alone and not set("~<>012") & set(spelling):
             told = "is a punctum inclinatum alone among other notes"
             yield subject.found(note, f"{spelling} {told}: did you mean {spelling.lower()}?")
-
-
-def _has_signs(subject: Subject, number: int) -> bool:
-    begin, end = subject.tree.wide[5 * number : 5 * number + 2]
-    return end > begin + 1
 
 
 def _is_neume(subject: Subject, note: Note) -> bool:

@@ -40,7 +40,7 @@ class Reading:
         self.compiled, self.tree = compiled, compiled.tree
         if not compiled.has_score:
             raise ScoreError(compiled.messages[-1])
-        self._syllables = list(self.tree.numbers_of(NodeKind.SYLLABLE))[: compiled.count]
+        self._syllables = self.tree.numbers_of(NodeKind.SYLLABLE)[: compiled.count]
 
     @cached_property
     def written(self) -> Written:
@@ -123,7 +123,7 @@ class Reading:
 
     @cached_property
     def _clefs(self) -> list[int]:
-        return list(self.tree.numbers_of(NodeKind.CLEF))
+        return self.tree.numbers_of(NodeKind.CLEF)
 
     def clef_before(self, number: int) -> Clef | None:
         """Returns the last clef before a node."""
