@@ -1,0 +1,30 @@
+//! What stands in a picture of a score: a display list between the layout, which makes it
+//! (`gabc_draw`), and the text of the picture, which is written from it (`gabc_svg`).
+//!
+//! A [`Picture`] has rows, each with a staff, and parts of syllables, which stand in the rows one
+//! after the other. A part has the heads of its notes and whatever else belongs to it. Heights are
+//! relative to the lowest line of the staff and go down; all distances are whole numbers
+//! ([`Distance`]).
+#![tactic(auto)]
+
+mod distance;
+mod head;
+mod joined;
+mod outlines;
+mod picture;
+mod sign;
+mod styles;
+mod symbol;
+mod width_table;
+mod widths;
+mod words;
+
+pub use distance::Distance;
+pub use head::{Head, Metrics, NoteHead, Single, height_of};
+pub use joined::{Ending, Family, Joined};
+pub use picture::{Levels, Part, Picture, Row};
+pub use sign::Sign;
+pub use styles::Styles;
+pub use symbol::Symbol;
+pub use widths::{char_width, styled_width, text_width};
+pub use words::{Level, NabcLine, Words};

@@ -1,0 +1,57 @@
+//! A picture: rows, and the parts of syllables in them.
+
+use crate::distance::Distance;
+use crate::head::NoteHead;
+use crate::sign::Sign;
+
+/// A syllable, or what stands of it in one row. It was read from the bytes of the file from `begin`
+/// up to before `end`.
+#[derive(Debug, Drop)]
+pub struct Part<'a> {
+    pub begin: u32,
+    pub end: u32,
+    /// The number of the syllable, from 1.
+    pub number: u32,
+    /// Whether it is the first part of its syllable.
+    pub is_first: bool,
+    /// Where it stands in its row: the places of its heads and signs count from here.
+    pub x: Distance,
+    pub heads: Vec<NoteHead>,
+    pub signs: Vec<Sign<'a>>,
+}
+
+/// How far below the lowest line of a staff its texts stand.
+#[derive(Clone, Copy, Debug, PartialEq, Eq)]
+pub struct Levels {
+    pub text: Distance,
+    pub translation: Distance,
+    pub above: Distance,
+    /// The lines of NABC.
+    pub first: Distance,
+    pub second: Distance,
+    pub third: Distance,
+    pub fourth: Distance,
+}
+
+/// A row of the picture: `y` is where the lowest line of its staff stands. It has the next `parts`
+/// parts of the picture; the last row has all that are left.
+#[derive(Debug, Drop)]
+pub struct Row<'a> {
+    pub y: Distance,
+    pub levels: Levels,
+    pub parts: usize,
+    /// What belongs to no syllable: the staff, the clef at its begin, the custos at its end, hyphens.
+    pub signs: Vec<Sign<'a>>,
+}
+
+/// A picture: its size, what stands over the score, its rows, and the parts in them.
+#[derive(Debug, Drop)]
+pub struct Picture<'a> {
+    pub width: Distance,
+    pub height: Distance,
+    /// The name of the score; empty if it has none.
+    pub name: &'a str,
+    pub title: Vec<Sign<'a>>,
+    pub rows: Vec<Row<'a>>,
+    pub parts: Vec<Part<'a>>,
+}

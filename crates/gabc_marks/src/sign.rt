@@ -1,0 +1,31 @@
+//! Whatever is drawn and is no head of a note.
+
+use crate::distance::Distance;
+use crate::symbol::Symbol;
+use crate::words::Words;
+
+/// Something that is drawn beside the heads.
+#[derive(Clone, Copy, Debug)]
+pub enum Sign<'a> {
+    /// An outline with its origin at this place.
+    Symbol {
+        symbol: Symbol,
+        x: Distance,
+        y: Distance,
+    },
+    /// A black rectangle, of which this place is the left end of its top: a stem, a bar, an episema,
+    /// a ledger line.
+    Rect {
+        x: Distance,
+        y: Distance,
+        width: Distance,
+        height: Distance,
+    },
+    /// A line of the staff.
+    StaffLine {
+        x: Distance,
+        y: Distance,
+        width: Distance,
+    },
+    Words(Words<'a>),
+}

@@ -1,0 +1,33 @@
+//! The styles of a text.
+
+/// How letters look: the styles of GABC, and italics for what is no sung text.
+#[derive(Clone, Copy, Debug, PartialEq, Eq)]
+pub struct Styles {
+    pub bold: bool,
+    pub red: bool,
+    pub italic: bool,
+    pub small_capitals: bool,
+    pub typewriter: bool,
+    pub underlined: bool,
+    /// Whether a stroke stands through the letter, as in a versicle.
+    pub barred: bool,
+}
+
+impl Styles {
+    /// Plain letters.
+    pub const PLAIN: Styles = Styles {
+        bold: false,
+        red: false,
+        italic: false,
+        small_capitals: false,
+        typewriter: false,
+        underlined: false,
+        barred: false,
+    };
+
+    /// Italic letters.
+    pub const ITALIC: Styles = Styles {
+        italic: true,
+        ..Styles::PLAIN
+    };
+}

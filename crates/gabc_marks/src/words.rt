@@ -1,0 +1,38 @@
+//! Texts in a picture.
+
+use crate::distance::Distance;
+use crate::styles::Styles;
+
+/// A line of NABC, from the lowest one up.
+#[derive(Clone, Copy, Debug, PartialEq, Eq)]
+pub enum NabcLine {
+    First,
+    Second,
+    Third,
+    Fourth,
+}
+
+/// On which line of its row a text stands.
+#[derive(Clone, Copy, Debug, PartialEq, Eq)]
+pub enum Level {
+    /// The sung text.
+    Text,
+    /// The translation below it.
+    Translation,
+    /// Texts over the staff.
+    Above,
+    Nabc(NabcLine),
+    /// That far below the lowest line of the staff.
+    At(Distance),
+}
+
+/// Letters in one style, from `x` on, `width` wide, in type of this `size`.
+#[derive(Clone, Copy, Debug)]
+pub struct Words<'a> {
+    pub text: &'a str,
+    pub x: Distance,
+    pub level: Level,
+    pub width: Distance,
+    pub size: Distance,
+    pub styles: Styles,
+}

@@ -1,0 +1,5 @@
+pub mod Escape
+pub mod Laws
+pub mod OutlineNames
+pub mod Page
+pub mod Xml

@@ -1,0 +1,82 @@
+//! Texts as they stand in XML.
+
+ghost use Rattle.std.specs.Prelude.{◌≡◌, ◌<◌, encode_utf8};
+ghost use Rattle.std.specs.Fmt.{decimal, signed_decimal};
+ghost use Rattle.gabc_svg.specs.Escape.{escaped, escaped_char, escaped_control, is_hidden as hides};
+
+use gabc_places::Put;
+use itoa::Buffer;
+
+/// Returns whether `c` is not shown as it is: no XML may hold it, or it steers a terminal, or turns
+/// the direction of a text.
+fn is_hidden(c: u32) -> bool
+    ensures { result ≡ hides c }
+{
+    127 <= c && c <= 159
+        || 8206 <= c && c <= 8207
+        || 8232 <= c && c <= 8238
+        || 8294 <= c && c <= 8297
+        || 64976 <= c && c <= 65007
+        || c == 1564
+        || c == 65279
+        || 65534 <= c && c <= 65535
+}
+
+/// Puts `c` in UTF-8.
+fn put_char<S: Put>(c: char, out: &mut S)
+    ensures { out.new ≡ S.taken out.old (encode_utf8 c) }
+{
+    let mut buffer = [0; 4];
+    out.put(c.encode_utf8(&mut buffer).as_bytes());
+}
+
+/// Puts the picture of the control character `c`, which stands below the blank; a blank for a tab or
+/// an LF.
+fn put_control<S: Put>(c: u8, out: &mut S)
+    requires { c < 32 }
+    ensures { out.new ≡ S.taken out.old (escaped_control c) }
+{
+    if c == b'\t' || c == b'\n' {
+        out.put(b" ");
+    } else {
+        out.put(&[0xe2, 0x90, 0x80 + c]);
+    }
+}
+
+/// Puts `c` as it stands in a text or in the value of an attribute.
+fn put_escaped_char<S: Put>(c: char, out: &mut S)
+    ensures { out.new ≡ S.taken out.old (escaped_char c) }
+{
+    match c {
+        '\0'..='\u{1f}' => put_control(c as u8, out),
+        '&' => out.put(b"&amp;"),
+        '<' => out.put(b"&lt;"),
+        '>' => out.put(b"&gt;"),
+        '"' => out.put(b"&quot;"),
+        _ if is_hidden(c as u32) => put_char('\u{fffd}', out),
+        _ => put_char(c, out),
+    }
+}
+
+/// Puts `text` as it stands in a text or in the value of an attribute.
+pub(crate) fn put_escaped<S: Put>(text: &str, out: &mut S)
+    ensures { out.new ≡ S.taken out.old (escaped text.now) }
+{
+    for c in text.chars() {
+        put_escaped_char(c, out);
+    }
+}
+
+/// Puts `number` in decimal digits.
+pub(crate) fn put_decimal<S: Put>(number: u32, out: &mut S)
+    ensures { out.new ≡ S.taken out.old (escaped (decimal number)) }
+{
+    put_escaped(Buffer::new().format(number), out);
+}
+
+/// Puts `number` in decimal digits, with its sign if it is below 0.
+pub(crate) fn put_signed<S: Put>(number: i32, out: &mut S)
+    ensures { out.new ≡ S.taken out.old (escaped (signed_decimal number)) }
+{
+    put_escaped(Buffer::new().format(number), out);
+}

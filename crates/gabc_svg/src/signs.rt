@@ -1,0 +1,128 @@
+//! Heads and signs.
+
+ghost use Rattle.std.specs.Prelude.{◌≡◌, ◌∷◌, [], ◌++◌, codes};
+ghost use Rattle.gabc_svg.specs.OutlineNames.{name_of_head, name_of_symbol as symbol_name};
+ghost use Rattle.gabc_svg.specs.Xml.{written, written_attribute, written_attributes};
+ghost use Rattle.gabc_svg.specs.Page.{outline, sides, rect_content, staff_line_content, use_content, sign_content, signs_content, head_content, heads_content};
+
+use crate::escape::put_escaped;
+use crate::outline_names::{name_of_symbol, put_head_name};
+use crate::tag::{Name, Tag};
+use crate::texts::put_words;
+use crate::xml::{begin_tag, begin_value, put_attribute, put_distance};
+use gabc_marks::{Distance, Head, Levels, NoteHead, Sign, Symbol, height_of};
+use gabc_places::Put;
+
+/// Puts the attribute that names the outline of `head`.
+#[tactic(auto, using(crate::proofs::Written::steps), unfolding(crate::specs::Xml::written_attribute))]
+fn put_head_outline<S: Put>(head: Head, out: &mut S)
+    ensures { out.new ≡ S.taken out.old (written_attribute (outline (name_of_head head))) }
+{
+    begin_value(Name::Href, out);
+    put_escaped("#", out);
+    put_head_name(head, out);
+    out.put(b"\"");
+}
+
+/// Puts the attribute that names the outline of `symbol`.
+#[tactic(auto, using(crate::proofs::Written::steps), unfolding(crate::specs::Xml::written_attribute))]
+fn put_symbol_outline<S: Put>(symbol: Symbol, out: &mut S)
+    ensures { out.new ≡ S.taken out.old (written_attribute (outline (symbol_name symbol ∷ []))) }
+{
+    begin_value(Name::Href, out);
+    put_escaped("#", out);
+    put_escaped(name_of_symbol(symbol), out);
+    out.put(b"\"");
+}
+
+/// Puts the head of a note, or of several, at the height of its pitch.
+#[tactic(auto, using(crate::proofs::Written::steps), unfolding(crate::specs::Xml::written, crate::specs::Xml::opened, crate::specs::Page::use_content, crate::specs::Page::head_content))]
+fn put_head<S: Put>(head: NoteHead, out: &mut S)
+    ensures { out.new ≡ S.taken out.old (written (head_content head)) }
+{
+    begin_tag(Tag::Use, out);
+    put_head_outline(head.head, out);
+    put_distance(Name::X, head.x, out);
+    put_distance(Name::Y, height_of(head.pitch), out);
+    out.put(b"/>");
+}
+
+/// Puts heads.
+#[tactic(auto, using(crate::proofs::Written::steps))]
+pub(crate) fn put_heads<S: Put>(heads: &[NoteHead], out: &mut S)
+    ensures { out.new ≡ S.taken out.old (written (heads_content heads.now)) }
+{
+    let mut rest = heads;
+    while let [head, more @ ..] = rest {
+        put_head(*head, out);
+        rest = more;
+    }
+}
+
+/// Puts an outline at its place.
+#[tactic(auto, using(crate::proofs::Written::steps), unfolding(crate::specs::Xml::written, crate::specs::Xml::opened, crate::specs::Page::use_content))]
+fn put_symbol<S: Put>(symbol: Symbol, x: Distance, y: Distance, out: &mut S)
+    ensures { out.new ≡ S.taken out.old (written (use_content (symbol_name symbol ∷ []) x.0 y.0)) }
+{
+    begin_tag(Tag::Use, out);
+    put_symbol_outline(symbol, out);
+    put_distance(Name::X, x, out);
+    put_distance(Name::Y, y, out);
+    out.put(b"/>");
+}
+
+/// Puts the place and the size of a rectangle, and ends its tag.
+fn put_sides<S: Put>(x: Distance, y: Distance, width: Distance, height: Distance, out: &mut S)
+    ensures { out.new ≡ S.taken out.old 
+        (written_attributes (sides x.0 y.0 width.0 height.0) ++ codes "/>") }
+{
+    put_distance(Name::X, x, out);
+    put_distance(Name::Y, y, out);
+    put_distance(Name::Width, width, out);
+    put_distance(Name::Height, height, out);
+    out.put(b"/>");
+}
+
+/// Puts a black rectangle.
+#[tactic(auto, using(crate::proofs::Written::steps), unfolding(crate::specs::Xml::written, crate::specs::Xml::opened, crate::specs::Page::rect_content))]
+fn put_rect<S: Put>(x: Distance, y: Distance, width: Distance, height: Distance, out: &mut S)
+    ensures { out.new ≡ S.taken out.old (written (rect_content x.0 y.0 width.0 height.0)) }
+{
+    begin_tag(Tag::Rect, out);
+    put_sides(x, y, width, height, out);
+}
+
+/// Puts a line of the staff.
+#[tactic(auto, using(crate::proofs::Written::steps), unfolding(crate::specs::Xml::written, crate::specs::Xml::opened, crate::specs::Page::staff_line_content))]
+fn put_staff_line<S: Put>(x: Distance, y: Distance, width: Distance, out: &mut S)
+    ensures { out.new ≡ S.taken out.old (written (staff_line_content x.0 y.0 width.0)) }
+{
+    begin_tag(Tag::Rect, out);
+    put_attribute(Name::Class, "staff", out);
+    put_sides(x, y, width, Distance(70), out);
+}
+
+/// Puts `sign` in a row with these `levels`.
+#[tactic(auto, using(crate::proofs::Written::steps), unfolding(crate::specs::Page::sign_content))]
+fn put_sign<S: Put>(levels: Levels, sign: Sign<'_>, out: &mut S)
+    ensures { out.new ≡ S.taken out.old (written (sign_content levels sign.entry)) }
+{
+    match sign {
+        Sign::Symbol { symbol, x, y } => put_symbol(symbol, x, y, out),
+        Sign::Rect { x, y, width, height } => put_rect(x, y, width, height, out),
+        Sign::StaffLine { x, y, width } => put_staff_line(x, y, width, out),
+        Sign::Words(words) => put_words(levels, words, out),
+    }
+}
+
+/// Puts signs in a row with these `levels`.
+#[tactic(auto, using(crate::proofs::Written::steps))]
+pub(crate) fn put_signs<S: Put>(levels: Levels, signs: &[Sign<'_>], out: &mut S)
+    ensures { out.new ≡ S.taken out.old (written (signs_content levels signs.now)) }
+{
+    let mut rest = signs;
+    while let [sign, more @ ..] = rest {
+        put_sign(levels, *sign, out);
+        rest = more;
+    }
+}

@@ -1,0 +1,93 @@
+//! The names of elements and of attributes.
+
+/// The name of an element.
+#[derive(Clone, Copy, Debug, PartialEq, Eq)]
+pub enum Tag {
+    Svg,
+    Title,
+    Group,
+    Rect,
+    Use,
+    Text,
+}
+
+/// The name of an attribute.
+#[derive(Clone, Copy, Debug, PartialEq, Eq)]
+pub enum Name {
+    Xmlns,
+    Space,
+    ViewBox,
+    Width,
+    Height,
+    Class,
+    FontSize,
+    Role,
+    Transform,
+    X,
+    Y,
+    Href,
+    TextLength,
+    LengthAdjust,
+    FontWeight,
+    FontStyle,
+    FontVariant,
+    FontFamily,
+    TextDecoration,
+    Id,
+    Begin,
+    End,
+}
+
+impl Tag {
+    ghost use Rattle.std.specs.Prelude.{◌≡◌};
+    ghost use Rattle.gabc_svg.specs.Xml.{text_of_tag};
+
+    /// Returns the name as it stands in a text.
+    pub fn text(self) -> &'static str
+        ensures { result.now ≡ text_of_tag self }
+    {
+        match self {
+            Tag::Svg => "svg",
+            Tag::Title => "title",
+            Tag::Group => "g",
+            Tag::Rect => "rect",
+            Tag::Use => "use",
+            Tag::Text => "text",
+        }
+    }
+}
+
+impl Name {
+    ghost use Rattle.std.specs.Prelude.{◌≡◌};
+    ghost use Rattle.gabc_svg.specs.Xml.{text_of_name};
+
+    /// Returns the name as it stands in a text.
+    pub fn text(self) -> &'static str
+        ensures { result.now ≡ text_of_name self }
+    {
+        match self {
+            Name::Xmlns => "xmlns",
+            Name::Space => "xml:space",
+            Name::ViewBox => "viewBox",
+            Name::Width => "width",
+            Name::Height => "height",
+            Name::Class => "class",
+            Name::FontSize => "font-size",
+            Name::Role => "role",
+            Name::Transform => "transform",
+            Name::X => "x",
+            Name::Y => "y",
+            Name::Href => "href",
+            Name::TextLength => "textLength",
+            Name::LengthAdjust => "lengthAdjust",
+            Name::FontWeight => "font-weight",
+            Name::FontStyle => "font-style",
+            Name::FontVariant => "font-variant",
+            Name::FontFamily => "font-family",
+            Name::TextDecoration => "text-decoration",
+            Name::Id => "id",
+            Name::Begin => "data-begin",
+            Name::End => "data-end",
+        }
+    }
+}
