@@ -1,0 +1,2 @@
+pub mod Pitches
+pub mod machine

@@ -1,0 +1,9 @@
+//! Draws a score.
+#![tactic(auto)]
+
+mod heads;
+mod neume;
+mod note;
+mod outline;
+mod pen;
+mod plan;
