@@ -8,7 +8,7 @@ use crate::heads::push_head;
 use crate::outline::joined_outline;
 use crate::pen::{Drawn, PUNCTUM, Pen, STROKE_FOOT};
 use crate::plan::{GlyphKind, Joint, Planned, fall_between};
-use gabc_marks::{Distance, Head, Joined, NoteHead};
+use gabc_marks::{Distance, Head, Joined, NoteHead, height_of};
 use std::alloc::AllocError;
 
 /// Returns by how many steps the broad stroke falls that shows just `first` and `second`, if `first`
@@ -151,10 +151,11 @@ fn write_joined(
         ≡ pitches_of_heads heads.old.items ++ pitches_of_planned planned.now) }
 {
     let head = Head::Joined(joined);
-    let width = head.metrics().width;
+    let outline = head.metrics();
     push_head(head, pen.x, pitch, heads)?;
-    note_columns(planned, width, pen)?;
-    pen.x += width;
+    note_columns(planned, outline.width, pen)?;
+    pen.reach(height_of(pitch), outline);
+    pen.x += outline.width;
     Ok(())
 }
 

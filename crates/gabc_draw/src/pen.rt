@@ -9,7 +9,7 @@ use crate::heads::{push_head, push_note};
 use crate::note::{Liquescence, Note, Shape};
 use crate::outline::{plain_head, whole};
 use crate::plan::{Joint, Planned};
-use gabc_marks::{Distance, Head, NoteHead, Sign, Single, Symbol, height_of};
+use gabc_marks::{Distance, Head, Metrics, NoteHead, Sign, Single, Symbol, height_of};
 use std::alloc::{AllocError, Global};
 
 /// Half a space of the staff: a step.
@@ -52,11 +52,14 @@ impl Drawn {
 }
 
 /// A pen: where it stands, the notes of the neume that it writes, and the signs that it has drawn.
+/// `top` and `bottom` bound all that it has drawn.
 #[derive(Debug, Drop)]
 pub(crate) struct Pen<'a> {
     pub(crate) x: Distance,
     pub(crate) drawn: Vec<Drawn>,
     pub(crate) signs: Vec<Sign<'a>>,
+    pub(crate) top: Distance,
+    pub(crate) bottom: Distance,
 }
 
 impl<'a> Pen<'a> {
@@ -66,7 +69,15 @@ impl<'a> Pen<'a> {
             x: Distance::ZERO,
             drawn: Vec::new(alloc),
             signs: Vec::new(alloc),
+            top: Distance::ZERO,
+            bottom: Distance::ZERO,
         }
+    }
+
+    /// Widens the bounds by an outline at `y`.
+    pub(crate) fn reach(&mut self, y: Distance, outline: Metrics) {
+        self.top = self.top.min(y - outline.up);
+        self.bottom = self.bottom.max(y + outline.down);
     }
 
     /// Draws a rectangle.
@@ -78,12 +89,15 @@ impl<'a> Pen<'a> {
         height: Distance,
     ) -> Result<(), AllocError> {
         self.signs.push(Sign::Rect { x, y, width, height })?;
+        self.top = self.top.min(y);
+        self.bottom = self.bottom.max(y + height);
         Ok(())
     }
 
     /// Draws a symbol.
     pub(crate) fn symbol(&mut self, symbol: Symbol, x: Distance, y: Distance) -> Result<(), AllocError> {
         self.signs.push(Sign::Symbol { symbol, x, y })?;
+        self.reach(y, symbol.metrics());
         Ok(())
     }
 
@@ -101,8 +115,15 @@ impl<'a> Pen<'a> {
         self.rect(x - STEM, y.min(from), STEM, (y - from).size())
     }
 
-    /// Notes that `note` was drawn at `x`, with a head of this width.
-    pub(crate) fn note(&mut self, note: Note, x: Distance, width: Distance) -> Result<(), AllocError> {
+    /// Notes that `note` was drawn at `x`, with heads of this `outline` that are so wide in all.
+    fn note(
+        &mut self,
+        note: Note,
+        x: Distance,
+        width: Distance,
+        outline: Metrics,
+    ) -> Result<(), AllocError> {
+        self.reach(height_of(note.pitch), outline);
         self.drawn.push(Drawn {
             note,
             x,
@@ -171,7 +192,7 @@ impl<'a> Pen<'a> {
         let stride = single.metrics().width + BETWEEN;
         push_note(single, note, first, stride, heads)?;
         let width = stride.times(i32::from(note.times)) - BETWEEN;
-        self.note(note, first, width)?;
+        self.note(note, first, width, single.metrics())?;
         self.x += width;
         Ok(())
     }
@@ -194,7 +215,7 @@ impl<'a> Pen<'a> {
         self.around_heads(note, left + margin, width, stride)?;
         let whole = stride.times(i32::from(note.times)) - BETWEEN;
         self.tail(note, left + whole)?;
-        self.note(note, left, whole)?;
+        self.note(note, left, whole, single.metrics())?;
         self.x += whole;
         Ok(())
     }
@@ -213,7 +234,7 @@ impl<'a> Pen<'a> {
         self.x += room;
         let width = single.metrics().width;
         push_note(single, note, self.x, width, heads)?;
-        self.note(note, self.x, width)?;
+        self.note(note, self.x, width, single.metrics())?;
         self.x += width;
         Ok(())
     }
@@ -250,7 +271,7 @@ impl<'a> Pen<'a> {
         self.join(right, y)?;
         push_note(single, note, right - width, Distance::ZERO, heads)?;
         self.tail(note, right)?;
-        self.note(note, right - width, width)?;
+        self.note(note, right - width, width, single.metrics())?;
         self.mark_covering();
         Ok(())
     }
@@ -351,10 +372,10 @@ impl<'a> Pen<'a> {
             self.join(self.x + STEM, y)?;
         }
         push_head(head, self.x, first.note.pitch, heads)?;
-        self.note(first.note, self.x, PUNCTUM)?;
+        self.note(first.note, self.x, PUNCTUM, head.metrics())?;
         self.mark_foot(STROKE_FOOT + Distance(100 * steps));
         self.x += head.metrics().width;
-        self.note(second.note, self.x - PUNCTUM, PUNCTUM)
+        self.note(second.note, self.x - PUNCTUM, PUNCTUM, Single::Punctum.metrics())
     }
 
     /// Notes how much lower than that of a head the black of the last note goes.

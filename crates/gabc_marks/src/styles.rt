@@ -9,8 +9,6 @@ pub struct Styles {
     pub small_capitals: bool,
     pub typewriter: bool,
     pub underlined: bool,
-    /// Whether a stroke stands through the letter, as in a versicle.
-    pub barred: bool,
 }
 
 impl Styles {
@@ -22,7 +20,6 @@ impl Styles {
         small_capitals: false,
         typewriter: false,
         underlined: false,
-        barred: false,
     };
 
     /// Italic letters.

@@ -26,8 +26,6 @@ pub enum Symbol {
     Brace,
     BracketLeft,
     BracketRight,
-    /// The stroke through a letter of a versicle.
-    LetterStroke,
 }
 
 impl Symbol {
@@ -52,7 +50,6 @@ impl Symbol {
             Symbol::Brace => (600, 100, 170),
             Symbol::BracketLeft => (220, 520, 520),
             Symbol::BracketRight => (260, 520, 520),
-            Symbol::LetterStroke => (900, 1300, 200),
         };
         Metrics::new(width, up, down)
     }

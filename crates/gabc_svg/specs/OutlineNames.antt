@@ -83,7 +83,6 @@ name_of_symbol symbol.UpperArc = codes "upper-arc"
 name_of_symbol symbol.Brace = codes "brace"
 name_of_symbol symbol.BracketLeft = codes "bracket-left"
 name_of_symbol symbol.BracketRight = codes "bracket-right"
-name_of_symbol symbol.LetterStroke = codes "letter-stroke"
 
 -- as the texts that it is joined of: torculus-120-deminutus rises by a step, and falls by two
 abbrev pub name_of_joined : Joined → List (List ℕ)

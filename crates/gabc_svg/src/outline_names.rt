@@ -101,7 +101,6 @@ pub(crate) fn name_of_symbol(symbol: Symbol) -> &'static str
         Symbol::Brace => "brace",
         Symbol::BracketLeft => "bracket-left",
         Symbol::BracketRight => "bracket-right",
-        Symbol::LetterStroke => "letter-stroke",
     }
 }
 
