@@ -1,0 +1,116 @@
+//! What the layout knows of a part: how far it goes, and what stands in it.
+
+use crate::staff::Clef;
+use gabc_marks::{Distance, Sign};
+use std::alloc::Global;
+
+/// How a score wants a line to end.
+#[derive(Clone, Copy, Debug, PartialEq, Eq)]
+pub(crate) struct LineEnd {
+    /// Whether the line is as wide as the others.
+    pub(crate) is_justified: bool,
+    pub(crate) has_custos: bool,
+}
+
+/// Where a text begins and ends.
+#[derive(Clone, Copy, Debug)]
+pub(crate) struct Extent {
+    pub(crate) left: Distance,
+    pub(crate) right: Distance,
+}
+
+/// Where a syllable stands in its word, and in which spans.
+#[derive(Clone, Copy, Debug, PartialEq, Eq)]
+pub(crate) struct Place {
+    pub(crate) begins_word: bool,
+    /// Whether its word goes on after it.
+    pub(crate) goes_on: bool,
+    pub(crate) is_eu: bool,
+    pub(crate) is_nlba: bool,
+}
+
+impl Place {
+    /// A word of its own, in no span.
+    pub(crate) const ALONE: Place = Place {
+        begins_word: true,
+        goes_on: false,
+        is_eu: false,
+        is_nlba: false,
+    };
+
+    /// Returns the place that the numbers of a syllable say: its position, and its spans.
+    pub(crate) fn of(position: u16, spans: u16) -> Place {
+        Place {
+            begins_word: position < 2,
+            goes_on: position == 1 || position == 2,
+            is_eu: spans % 2 == 1,
+            is_nlba: spans / 2 % 2 == 1,
+        }
+    }
+}
+
+/// A part: its signs, the number of its heads, and its extents, from where the notes of its syllable
+/// begin.
+#[derive(Debug, Drop)]
+pub(crate) struct Measures<'a> {
+    pub(crate) signs: Vec<Sign<'a>>,
+    pub(crate) heads: usize,
+    pub(crate) place: Place,
+    /// Whether it is the first part of its syllable.
+    pub(crate) is_first: bool,
+    /// Its notes, if it has any, or a clef, a bar or the like.
+    pub(crate) notes: Option<Extent>,
+    pub(crate) text: Option<Extent>,
+    pub(crate) translation: Option<Extent>,
+    /// The middle of its first note, or of a bar, under which the text stands.
+    pub(crate) anchor: Option<Distance>,
+    /// The pitch of its first note.
+    pub(crate) first: Option<u8>,
+    pub(crate) clef: Option<Clef>,
+    pub(crate) begins_with_clef: bool,
+    pub(crate) end: Option<LineEnd>,
+    pub(crate) has_bar: bool,
+    /// Whether the last thing in it is a custos, or wants none after it.
+    pub(crate) wants_no_custos: bool,
+    pub(crate) has_above: bool,
+    /// How many lines of NABC it has.
+    pub(crate) nabc: u16,
+    pub(crate) top: Distance,
+    pub(crate) bottom: Distance,
+}
+
+impl<'a> Measures<'a> {
+    /// Returns a part with nothing in it.
+    pub(crate) fn new(alloc: Global, place: Place, is_first: bool) -> Measures<'a> {
+        Measures {
+            signs: Vec::new(alloc),
+            heads: 0,
+            place,
+            is_first,
+            notes: None,
+            text: None,
+            translation: None,
+            anchor: None,
+            first: None,
+            clef: None,
+            begins_with_clef: false,
+            end: None,
+            has_bar: false,
+            wants_no_custos: false,
+            has_above: false,
+            nabc: 0,
+            top: Distance::ZERO,
+            bottom: Distance::ZERO,
+        }
+    }
+
+    /// Returns whether a bar stands in it and no note.
+    pub(crate) fn is_bar(&self) -> bool {
+        self.has_bar && self.first.is_none()
+    }
+
+    /// Returns whether it begins a word.
+    pub(crate) fn begins_word(&self) -> bool {
+        self.is_first && self.place.begins_word
+    }
+}

@@ -1,0 +1,484 @@
+//! The sheet on which a syllable is laid out: its blocks one after the other, its text, its NABC.
+
+use crate::episemata::{SnippetNote, put_signs};
+use crate::language::Language;
+use crate::lettering::Lettering;
+use crate::measures::{Extent, LineEnd, Measures, Place};
+use crate::pen::Pen;
+use crate::reading::{Open, distance_of, text_of};
+use crate::rhythm::{height_of_step, put_around};
+use crate::spaces;
+use crate::staff::{Clef, custos, put_alteration, put_bar};
+use gabc_marks::{Distance, Level, NabcLine, Sign, Styles, Words, height_of, text_width};
+use gabc_tree::{Kind, Node};
+use std::alloc::{AllocError, Global};
+
+/// The size of NABC that is written as its text.
+const NABC_SIZE: Distance = Distance(900);
+
+/// What a block is.
+#[derive(Clone, Copy, Debug, PartialEq, Eq)]
+pub(crate) enum BlockKind {
+    Neume { pitch: u8, anchor: Distance },
+    Clef(Clef),
+    Alteration,
+    Bar,
+    Custos,
+}
+
+/// A sheet: the part that is laid out, and those before it.
+#[derive(Debug, Drop)]
+pub(crate) struct Sheet<'a> {
+    pub(crate) lines: i32,
+    language: Language,
+    pub(crate) pen: Pen<'a>,
+    pub(crate) lettering: Lettering<'a>,
+    pub(crate) done: Vec<Measures<'a>>,
+    part: Measures<'a>,
+    notes: Vec<SnippetNote>,
+    /// How many notes stand before the next one with nothing else between.
+    row: usize,
+    /// What stands after the last block, and whether the score says so.
+    after: Distance,
+    has_space: bool,
+    /// Where the notes of the last snippet began.
+    snippet_left: Distance,
+    /// The pitch of the last note, if the next one is fused to it.
+    fused: Option<u8>,
+    last: Option<u8>,
+    /// How many heads stand in the parts before.
+    heads: usize,
+    input: &'a str,
+    /// The characters that are being read.
+    open: Option<Open>,
+}
+
+impl<'a> Sheet<'a> {
+    /// Returns an empty sheet for the score `input`, with staves of `lines` lines.
+    pub(crate) fn new(alloc: Global, input: &'a str, lines: i32, language: Language) -> Sheet<'a> {
+        Sheet {
+            lines,
+            language,
+            pen: Pen::new(alloc),
+            lettering: Lettering::new(alloc),
+            done: Vec::new(alloc),
+            part: Measures::new(alloc, Place::ALONE, true),
+            notes: Vec::new(alloc),
+            row: 0,
+            after: Distance::ZERO,
+            has_space: false,
+            snippet_left: Distance::ZERO,
+            fused: None,
+            last: None,
+            heads: 0,
+            input,
+            open: None,
+        }
+    }
+
+    /// Begins a syllable.
+    pub(crate) fn begin(&mut self, alloc: Global, place: Place) {
+        self.part = Measures::new(alloc, place, true);
+        self.lettering.clear();
+        self.pen.x = Distance::ZERO;
+        self.after = Distance::ZERO;
+        self.has_space = false;
+        self.snippet_left = Distance::ZERO;
+        self.fused = None;
+        self.last = None;
+        self.open = None;
+    }
+
+    /// Returns where the next block begins.
+    fn next_x(&self) -> Distance {
+        self.part.notes.map_or(self.pen.x, |notes| notes.right + self.after)
+    }
+
+    /// Begins a snippet of notes.
+    pub(crate) fn begin_snippet(&mut self) {
+        self.snippet_left = self.next_x();
+        self.row = 0;
+    }
+
+    /// Begins a block where the last one ends.
+    pub(crate) fn begin_block(&mut self) {
+        self.pen.x = self.next_x();
+        self.pen.top = Distance::ZERO;
+        self.pen.bottom = Distance::ZERO;
+        self.pen.drawn.clear();
+    }
+
+    /// Takes the signs that the pen has drawn into the part.
+    fn take_signs(&mut self) -> Result<(), AllocError> {
+        self.part.signs.extend_from_slice(self.pen.signs.as_slice())?;
+        self.pen.signs.clear();
+        self.part.top = self.part.top.min(self.pen.top);
+        self.part.bottom = self.part.bottom.max(self.pen.bottom);
+        Ok(())
+    }
+
+    /// Ends a block that goes up to `right`, with this distance `after` it.
+    pub(crate) fn end_block(
+        &mut self,
+        kind: BlockKind,
+        right: Distance,
+        after: Distance,
+    ) -> Result<(), AllocError> {
+        let left = self.next_x();
+        self.take_signs()?;
+        self.note_kind(kind, left, right);
+        self.part.notes = Some(Extent {
+            left: self.part.notes.map_or(left, |notes| notes.left),
+            right,
+        });
+        self.after = after;
+        self.has_space = false;
+        Ok(())
+    }
+
+    /// Notes what a block from `left` to `right` is.
+    fn note_kind(&mut self, kind: BlockKind, left: Distance, right: Distance) {
+        let is_begin = self.part.notes.is_none();
+        self.part.wants_no_custos = kind == BlockKind::Custos;
+        match kind {
+            BlockKind::Neume { pitch, anchor } => {
+                self.part.anchor = self.part.anchor.or(Some(anchor));
+                self.part.first = self.part.first.or(Some(pitch));
+            }
+            BlockKind::Clef(clef) => {
+                self.part.clef = Some(clef);
+                self.part.begins_with_clef = self.part.begins_with_clef || is_begin;
+            }
+            BlockKind::Bar => {
+                self.part.anchor = self.part.anchor.or(Some((left + right).half()));
+                self.part.has_bar = true;
+            }
+            BlockKind::Alteration | BlockKind::Custos => {}
+        }
+    }
+
+    /// Ends the neume that the pen has drawn from `left` on, and draws what stands around it. `first`
+    /// and `last` are the pitches of its first and its last note.
+    pub(crate) fn end_neume(&mut self, alloc: Global, first: u8, last: u8) -> Result<(), AllocError> {
+        let left = self.next_x();
+        self.join_fused(left, first)?;
+        let end = self.pen.drawn.iter().fold(self.pen.x, |right, it| right.max(it.right()));
+        let drawn = self.pen.drawn.clone()?;
+        let right = put_around(alloc, drawn.as_slice(), self.lines, end, &mut self.pen)?;
+        self.note_drawn(left, right)?;
+        let anchor = drawn.first().map_or(left, |it| it.x + it.width.half());
+        let kind = BlockKind::Neume { pitch: first, anchor };
+        self.end_block(kind, right, spaces::AFTER_NEUME)?;
+        self.last = Some(last);
+        Ok(())
+    }
+
+    /// Draws the line from the last note to a neume that begins at `left` with this `pitch`, if both
+    /// are fused.
+    fn join_fused(&mut self, left: Distance, pitch: u8) -> Result<(), AllocError> {
+        let Some(before) = self.fused else {
+            return Ok(());
+        };
+        self.fused = None;
+        let (from, to) = (height_of(before), height_of(pitch));
+        self.pen.rect(left - Distance(40), from.min(to), Distance(80), (from - to).size())
+    }
+
+    /// Notes the notes of a neume from `left` to `right`, for what depends on several neumes.
+    fn note_drawn(&mut self, left: Distance, right: Distance) -> Result<(), AllocError> {
+        for drawn in &self.pen.drawn {
+            self.row = self.row.saturating_add(1);
+            self.notes.push(SnippetNote {
+                drawn: *drawn,
+                left,
+                right,
+                reach: self.row,
+            })?;
+        }
+        Ok(())
+    }
+
+    /// Notes that something stands after the notes over which no episema goes back.
+    pub(crate) fn end_row(&mut self) {
+        self.row = 0;
+    }
+
+    /// Makes room of this `distance` after the last block.
+    pub(crate) fn add_space(&mut self, distance: Distance) {
+        if self.part.notes.is_some() {
+            let before = if self.has_space { self.after } else { Distance::ZERO };
+            self.after = before + distance;
+            self.has_space = true;
+        }
+    }
+
+    /// Fuses the next neume to the last note.
+    pub(crate) fn fuse(&mut self) {
+        self.add_space(Distance::ZERO);
+        self.fused = self.last;
+    }
+
+    /// Adds a clef.
+    pub(crate) fn add_clef(&mut self, node: Node) -> Result<(), AllocError> {
+        self.begin_block();
+        let clef = Clef::of(node);
+        let x = self.pen.x;
+        clef.put(x, &mut self.pen)?;
+        self.end_block(BlockKind::Clef(clef), x + clef.width(), spaces::AFTER_CLEF)
+    }
+
+    /// Adds an alteration.
+    pub(crate) fn add_alteration(&mut self, node: Node) -> Result<(), AllocError> {
+        self.begin_block();
+        let width = put_alteration(node, &mut self.pen)?;
+        let right = self.pen.x + width;
+        self.end_block(BlockKind::Alteration, right, spaces::AFTER_ALTERATION)
+    }
+
+    /// Adds a bar that is spelled so.
+    pub(crate) fn add_bar(&mut self, node: Node, text: &str) -> Result<(), AllocError> {
+        self.begin_block();
+        let lines = self.lines;
+        let width = put_bar(node, text, lines, &mut self.pen)?;
+        let right = self.pen.x + width;
+        self.end_block(BlockKind::Bar, right, spaces::AFTER_BAR)
+    }
+
+    /// Adds a custos of this `pitch`.
+    pub(crate) fn add_custos(&mut self, pitch: u8) -> Result<(), AllocError> {
+        self.begin_block();
+        let symbol = custos(pitch, self.lines);
+        let x = self.pen.x;
+        self.pen.symbol(symbol, x, height_of_step(i32::from(pitch) - 3))?;
+        self.end_block(BlockKind::Custos, x + symbol.metrics().width, spaces::AFTER_CUSTOS)
+    }
+
+    /// Notes that the line ends after what stands there.
+    pub(crate) fn end_line(&mut self, end: LineEnd) {
+        self.part.end = self.part.end.or(Some(end));
+    }
+
+    /// Returns whether a line ends here.
+    pub(crate) fn ends_line(&self) -> bool {
+        self.part.end.is_some()
+    }
+
+    /// Notes that no custos is wanted at the line's end.
+    pub(crate) fn forbid_custos(&mut self) {
+        self.part.wants_no_custos = true;
+    }
+
+    /// Adds a line of NABC over the notes of the last snippet.
+    pub(crate) fn add_nabc(&mut self, line: u16, text: &'a str) -> Result<(), AllocError> {
+        let x = self.snippet_left;
+        let width = text_width(text, NABC_SIZE);
+        self.part.signs.push(Sign::Words(Words {
+            text,
+            x,
+            level: Level::Nabc(nabc_line(line)),
+            width,
+            size: NABC_SIZE,
+            styles: Styles::PLAIN,
+        }))?;
+        self.part.nabc = self.part.nabc.max(line.min(4));
+        let right = x + width + spaces::BETWEEN_NEUMES;
+        let notes = self.part.notes.unwrap_or(Extent { left: x, right: x });
+        self.part.notes = Some(Extent {
+            left: notes.left,
+            right: notes.right.max(right),
+        });
+        Ok(())
+    }
+
+    /// Draws what depends on several neumes.
+    pub(crate) fn end_snippet(&mut self) -> Result<(), AllocError> {
+        self.pen.top = Distance::ZERO;
+        self.pen.bottom = Distance::ZERO;
+        put_signs(self.notes.as_slice(), &mut self.pen)?;
+        self.notes.clear();
+        self.row = 0;
+        self.take_signs()
+    }
+
+    /// Adds what is left of the characters that are being read, up to the byte `end`.
+    fn add_open(&mut self, end: u32) -> Result<(), AllocError> {
+        let Some(open) = self.open else {
+            return Ok(());
+        };
+        let text = text_of(self.input, open.at, end.min(open.end));
+        self.lettering.add(text, open.styles)
+    }
+
+    /// Ends the characters that are being read.
+    fn close_text(&mut self) -> Result<(), AllocError> {
+        self.add_open(u32::MAX)?;
+        self.open = None;
+        Ok(())
+    }
+
+    /// Passes `node`, which is not kept: the characters that are being read go on after it.
+    fn pass_gap(&mut self, node: Node) -> Result<(), AllocError> {
+        self.add_open(node.begin)?;
+        if let Some(open) = self.open {
+            self.open = Some(Open {
+                at: node.end,
+                ..open
+            });
+        }
+        Ok(())
+    }
+
+    /// Adds a node of the text.
+    fn add_text(&mut self, node: Node) -> Result<(), AllocError> {
+        self.close_text()?;
+        let text = text_of(self.input, node.begin, node.end);
+        match node.kind {
+            Kind::Characters => {
+                self.open = Some(Open {
+                    at: node.begin,
+                    end: node.end,
+                    styles: node.a,
+                });
+                Ok(())
+            }
+            Kind::Escape => self.lettering.add(text.strip_prefix('$').unwrap_or(text), node.a),
+            Kind::TextBlank if node.b == 1 => self.lettering.add(" ", node.a),
+            Kind::Raw => self.lettering.add_raw(text, node.b, node.a),
+            Kind::Translation if node.b == 1 && text != "[/]" => {
+                let inner = text.strip_prefix('[').unwrap_or(text);
+                self.lettering.translation = Some(inner.strip_suffix(']').unwrap_or(inner));
+                Ok(())
+            }
+            _ => Ok(()),
+        }
+    }
+
+    /// Begins a snippet: of notes, or of NABC.
+    fn add_snippet(&mut self, node: Node) -> Result<(), AllocError> {
+        self.close_text()?;
+        if node.a == 0 {
+            self.end_snippet()?;
+            self.begin_snippet();
+            return Ok(());
+        }
+        let text = text_of(self.input, node.begin, node.end);
+        if text.is_empty() { Ok(()) } else { self.add_nabc(node.a, text) }
+    }
+
+    /// Adds `node`, which stands within a neume.
+    pub(crate) fn add_inside(&mut self, node: Node) -> Result<(), AllocError> {
+        if node.kind == Kind::Attribute && text_of(self.input, node.begin, node.end) == "[nocustos]" {
+            self.forbid_custos();
+        }
+        Ok(())
+    }
+
+    /// Adds `node`, which is no note, no neume and no syllable. `next` is the pitch of the next note.
+    pub(crate) fn add(&mut self, node: Node, next: Option<u8>) -> Result<(), AllocError> {
+        match node.kind {
+            Kind::Characters
+            | Kind::Escape
+            | Kind::TextBlank
+            | Kind::Raw
+            | Kind::Tag
+            | Kind::SpanMark
+            | Kind::StyleTag
+            | Kind::Brace
+            | Kind::Translation => self.add_text(node),
+            Kind::Comment | Kind::LeftOut | Kind::FurtherBlank | Kind::Silent => self.pass_gap(node),
+            Kind::Snippet => self.add_snippet(node),
+            _ => self.add_item(node, next),
+        }
+    }
+
+    /// Adds an item of notes. `next` is the pitch of the next note.
+    fn add_item(&mut self, node: Node, next: Option<u8>) -> Result<(), AllocError> {
+        match node.kind {
+            Kind::Attribute | Kind::Fusion => {}
+            _ => self.end_row(),
+        }
+        match node.kind {
+            Kind::Clef => self.add_clef(node),
+            Kind::Alteration => self.add_alteration(node),
+            Kind::Bar => self.add_bar(node, text_of(self.input, node.begin, node.end)),
+            Kind::Custos => self.add_custos_of(node, next),
+            Kind::Attribute => self.add_inside(node),
+            Kind::Spacing => {
+                let text = text_of(self.input, node.begin, node.end);
+                self.add_space(distance_of(node.a, text));
+                Ok(())
+            }
+            Kind::Fusion => {
+                self.fuse();
+                Ok(())
+            }
+            Kind::LineBreak => {
+                self.end_line(LineEnd {
+                    is_justified: node.a == 0,
+                    has_custos: node.b != 2,
+                });
+                Ok(())
+            }
+            _ => Ok(()),
+        }
+    }
+
+    /// Adds the custos of `node`; one that names no pitch has that of the next note.
+    fn add_custos_of(&mut self, node: Node, next: Option<u8>) -> Result<(), AllocError> {
+        let told = if node.a < 15 { Some((node.a % 16) as u8) } else { next };
+        match told {
+            Some(pitch) => self.add_custos(pitch),
+            None => Ok(()),
+        }
+    }
+
+    /// Ends the part: with its text, if it is the first one of its syllable. Of all notes so far
+    /// `heads` heads were drawn.
+    pub(crate) fn end_part(&mut self, alloc: Global, heads: usize) -> Result<(), AllocError> {
+        self.close_text()?;
+        if self.part.is_first {
+            self.put_text()?;
+        }
+        self.part.heads = heads.saturating_sub(self.heads);
+        self.heads = heads;
+        let x = self.next_x();
+        let mut next = Measures::new(alloc, self.part.place, false);
+        std::mem::swap(&mut self.part, &mut next);
+        self.done.push(next)?;
+        self.pen.x = x;
+        self.after = Distance::ZERO;
+        self.has_space = false;
+        self.snippet_left = x;
+        Ok(())
+    }
+
+    /// Puts the text of the syllable, with its translation and the texts over the staff.
+    fn put_text(&mut self) -> Result<(), AllocError> {
+        let left = self.part.notes.map_or(Distance::ZERO, |notes| notes.left);
+        let middle = self.lettering.middle(self.language);
+        let x = self.part.anchor.map_or(left, |anchor| anchor - middle);
+        if !self.lettering.is_empty() {
+            self.lettering.put(x, &mut self.part.signs)?;
+            self.part.text = Some(Extent {
+                left: x,
+                right: x + self.lettering.width,
+            });
+        }
+        let from = if self.lettering.is_empty() { left } else { x };
+        if let Some(right) = self.lettering.put_translation(from, &mut self.part.signs)? {
+            self.part.translation = Some(Extent { left: from, right });
+        }
+        self.part.has_above = !self.lettering.above.is_empty();
+        self.lettering.put_above(left, &mut self.part.signs)
+    }
+}
+
+/// Returns the line of NABC with this number, from 1.
+fn nabc_line(number: u16) -> NabcLine {
+    match number {
+        1 => NabcLine::First,
+        2 => NabcLine::Second,
+        3 => NabcLine::Third,
+        _ => NabcLine::Fourth,
+    }
+}
