@@ -1,1 +1,2 @@
 mod HeadsJoin
+mod PartsJoin

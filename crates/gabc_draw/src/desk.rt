@@ -27,6 +27,16 @@ pub(crate) struct Opening {
     pub(crate) is_first: bool,
 }
 
+impl Opening {
+    /// That of what belongs to no syllable.
+    pub(crate) const NONE: Opening = Opening {
+        begin: 0,
+        end: 0,
+        number: 0,
+        is_first: false,
+    };
+}
+
 /// A desk: the heads so far, the notes of the neume that is being read, the parts that are begun, and
 /// the sheet on which all stands.
 #[derive(Debug, Drop)]

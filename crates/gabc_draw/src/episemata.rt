@@ -154,7 +154,7 @@ impl Run {
     /// Returns where it begins and how wide it is: a small one takes six tenths of its head.
     fn extent(self) -> (Distance, Distance) {
         let width = self.right - self.left;
-        let small = Distance(width.0 / 5).times(3);
+        let small = width.share(5).times(3);
         match self.line.size {
             EpisemaSize::Whole => (self.left, width),
             EpisemaSize::Left => (self.left, small),

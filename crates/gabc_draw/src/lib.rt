@@ -1,7 +1,17 @@
-//! Draws a score.
+//! Draws a score: from its tree (`gabc_tree`) to the display list of a picture (`gabc_marks`), and to
+//! its text (`gabc_svg`).
+//!
+//! The nodes of the tree are gone over once ([`draw`]): each note gets a head at the height of its
+//! pitch, and each syllable a part, at the desk (`desk`). A pen writes neumes (`pen`, `neume`), by the
+//! outline that shows them (`outline`), with the signs around them (`rhythm`, `episemata`, `staff`).
+//! Then the parts are broken into rows (`breaks`), in which they stand beside each other (`rows`).
 #![tactic(auto)]
 
+mod assemble;
+mod breaks;
+mod cursor;
 mod desk;
+mod drawing;
 mod episemata;
 mod heads;
 mod language;
@@ -15,6 +25,10 @@ mod pitches;
 mod plan;
 mod reading;
 mod rhythm;
+mod rows;
 mod sheet;
 mod spaces;
 mod staff;
+mod title;
+
+pub use drawing::{Options, draw};

@@ -102,7 +102,7 @@ fn column_of(planned: &[Planned], at: usize, width: Distance) -> Distance {
     match stroke_column(planned) {
         Some(stroke) if number <= stroke => PUNCTUM.times(number),
         Some(_) => width - PUNCTUM.times(last.saturating_sub(number).saturating_add(1)),
-        None => Distance((width - PUNCTUM).times(number).0 / last.max(1)),
+        None => (width - PUNCTUM).times(number).share(last),
     }
 }
 

@@ -33,10 +33,11 @@ pub struct Levels {
     pub fourth: Distance,
 }
 
-/// A row of the picture: `y` is where the lowest line of its staff stands. It has the next `parts`
+/// A row of the picture: the lowest line of its staff begins at `x`, `y` from above. It has the next `parts`
 /// parts of the picture; the last row has all that are left.
 #[derive(Debug, Drop)]
 pub struct Row<'a> {
+    pub x: Distance,
     pub y: Distance,
     pub levels: Levels,
     pub parts: usize,

@@ -115,7 +115,7 @@ parts_content ls (p ∷ parts) = and_then (part_content ls p) (parts_content ls 
 
 unfoldable pub row_content : Row → List Part → Content
 row_content row parts =
-    Element tag.Group (valued name.Class (codes "row") ∷ moved_to (pos 0) row.y.0 ∷ [])
+    Element tag.Group (valued name.Class (codes "row") ∷ moved_to row.x.0 row.y.0 ∷ [])
         (and_then (signs_content row.levels row.signs.items) (parts_content row.levels parts)) Nothing
 
 -- how many of so many parts stand in a row before these rows: the last row has all that are left

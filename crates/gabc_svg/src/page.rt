@@ -95,7 +95,7 @@ fn put_row<S: Put>(row: &Row<'_>, parts: &[Part<'_>], out: &mut S)
 {
     begin_tag(Tag::Group, out);
     put_attribute(Name::Class, "row", out);
-    put_moved(Distance::ZERO, row.y, out);
+    put_moved(row.x, row.y, out);
     out.put(b">");
     put_signs(row.levels, row.signs.as_slice(), out);
     put_parts(row.levels, parts, out);
