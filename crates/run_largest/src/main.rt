@@ -4,18 +4,19 @@
 //! messages go to standard error. `run_largest whole KEY FILE` prints how many headers stand in
 //! their book, read as a whole, `run_largest stage KEY FILE` read by a stage. Their names are
 //! hashed with a key that is `fixed` or `random`. `run_largest tree FILE` prints how many nodes the
-//! tree of the file has.
+//! tree of the file has, and `run_largest draw FILE` writes its picture as SVG.
 #![tactic(auto)]
 
 mod headers;
 
 use crate::headers::{Way, count};
-use gabc_places::{FromReader, Limits, ToWriter};
+use gabc_draw::{Options, draw};
+use gabc_places::{ByteCounter, FromReader, Limits, Room, ToWriter};
 use gabc_tree::tree_of;
 use gregorio::{Format, Input, Job, Output, Status, compile};
 use std::collections::hash_map::RandomState;
 use std::hash::{BuildHasher, DefaultHasher};
-use std::io::Read;
+use std::io::{Read, Write};
 use std::{env, fs, io};
 
 /// What there is to do with a file.
@@ -24,6 +25,7 @@ enum Task {
     Compile(Format),
     Count { way: Way, is_random: bool },
     Tree,
+    Draw,
 }
 
 /// Returns the largest limits that there are.
@@ -37,6 +39,7 @@ fn task_of(words: &[&str]) -> Option<Task> {
         ["gabc"] => Some(Task::Compile(Format::Gabc)),
         ["dump"] => Some(Task::Compile(Format::Dump)),
         ["tree"] => Some(Task::Tree),
+        ["draw"] => Some(Task::Draw),
         [way, key] => Some(Task::Count {
             way: match *way {
                 "whole" => Way::Whole,
@@ -90,6 +93,19 @@ fn nodes_in(rt: &HostRuntime, path: &str) -> io::Result<usize> {
     Ok(tree.nodes().len())
 }
 
+/// Writes the picture of the file of this name.
+fn write_picture(rt: &HostRuntime, path: &str) -> io::Result<()> {
+    let mut bytes = Vec::new(rt.alloc());
+    fs::open(rt, path)?.read_to_end(&mut bytes)?;
+    let tree = tree_of(rt.alloc(), bytes.as_slice(), largest())?;
+    let mut counter = ByteCounter::new();
+    let options = Options::usual();
+    draw(rt.alloc(), tree.nodes(), bytes.as_slice(), options, &mut counter)?;
+    let mut picture = Room::with_limit(rt.alloc(), counter.count())?;
+    draw(rt.alloc(), tree.nodes(), bytes.as_slice(), options, &mut picture)?;
+    rt.stdout().write_all(picture.slice())
+}
+
 /// Does the task with the file of this name.
 fn perform(rt: &HostRuntime, task: Task, path: &str) -> io::Result<()> {
     match task {
@@ -106,6 +122,7 @@ fn perform(rt: &HostRuntime, task: Task, path: &str) -> io::Result<()> {
             }
         }
         Task::Tree => println!(rt; "{} nodes", nodes_in(rt, path)?),
+        Task::Draw => write_picture(rt, path),
     }
 }
 
