@@ -3,7 +3,7 @@ import os
 import re
 
 ROOT = os.path.dirname(os.path.dirname(os.path.realpath(__file__)))
-MODIFIERS = {"pub", "abbrev", "unfoldable", "opaque", "data", "record"}
+MODIFIERS = {"pub", "abbrev", "unfoldable", "opaque", "data", "record", "ruleset"}
 WORD = r"[A-Za-z_][A-Za-z0-9_]*"
 
 

@@ -20,8 +20,8 @@ pub heads_parted : (heads : List NoteHead) (passed count : ℕ)
     → pitches_of_heads (take count (drop passed heads)) ++ pitches_of_heads (drop (passed + count) heads) ≡ pitches_of_heads (drop passed heads)
 heads_parted heads passed count =
     let joined : pitches_of_heads (take count (drop passed heads) ++ drop count (drop passed heads))
-            ≡ pitches_of_heads (take count (drop passed heads)) ++ pitches_of_heads (drop count (drop passed heads)) =
-        heads-append (take count (drop passed heads)) (drop count (drop passed heads)) in
+    ≡ pitches_of_heads (take count (drop passed heads)) ++ pitches_of_heads (drop count (drop passed heads)) =
+    heads-append (take count (drop passed heads)) (drop count (drop passed heads)) in
     let dropped : drop count (drop passed heads) ≡ drop (passed + count) heads = drop-drop count passed heads in
     let whole : take count (drop passed heads) ++ drop count (drop passed heads) ≡ drop passed heads = take-append-drop count (drop passed heads) in
     grind (arith, joined, dropped, whole)

@@ -53,8 +53,8 @@ fn heads_of(measures: &[Measures<'_>], at: usize, left: usize) -> usize
     measures.get(at).map_or(0, |it| it.heads).min(left)
 }
 
-/// Adds to `parts` the part `at`, which `opening` begins, with its number of `heads` from `passed` on,
-/// and returns how many are passed then.
+/// Adds to `parts` the part `at`, which `opening` begins, with its number of `heads` from `passed`
+/// on, and returns how many are passed then.
 #[tactic(auto, using(crate::proofs::PartsJoin::joined))]
 fn push_next<'a>(
     alloc: Global,
@@ -102,11 +102,27 @@ pub(crate) fn parts_of<'a>(
     let mut at: usize = 0;
     while let [opening, more @ ..] = rest {
         let x = places.get(at).copied().unwrap_or(Distance::ZERO);
-        passed = push_next(alloc, *opening, heads, passed, &mut measures, at, x, &mut parts)?;
+        passed = push_next(
+            alloc,
+            *opening,
+            heads,
+            passed,
+            &mut measures,
+            at,
+            x,
+            &mut parts,
+        )?;
         at = at.saturating_add(1);
         rest = more;
     }
     let (_, left) = heads.split_at(passed);
-    push_part(alloc, Opening::NONE, left, Vec::new(alloc), Distance::ZERO, &mut parts)?;
+    push_part(
+        alloc,
+        Opening::NONE,
+        left,
+        Vec::new(alloc),
+        Distance::ZERO,
+        &mut parts,
+    )?;
     Ok(parts)
 }

@@ -11,15 +11,21 @@ use std::alloc::{AllocError, Global};
 /// What a row costs, in thousandths: by the square of the part of it that is to be spread; if it
 /// parts a word, if a bar ends it, if it has few syllables, and if a unit is wider than it.
 const BY_FREE: i64 = 60;
+
 const PARTED: i64 = 500;
+
 const AT_BAR: i64 = -1500;
+
 const ALONE: i64 = 6000;
+
 const TOO_WIDE: i64 = 1_000_000;
+
 const FEW: usize = 3;
 
-/// What the last row before an end that is asked for costs, which may stay short: one that is not to
-/// be spread costs nothing for what is free up to this part.
+/// What the last row before an end that is asked for costs, which may stay short: one that is not
+/// to be spread costs nothing for what is free up to this part.
 const LAST_BY_FREE: i64 = 10;
+
 const LAST_MAY_LACK: i64 = 500;
 
 /// Parts that no row's end should part: a syllable and the bars after it, what is in `<eu>` and in
@@ -56,7 +62,8 @@ pub(crate) struct Span {
 /// Returns whether no row should end between two parts.
 fn stay_together(before: &Measures<'_>, part: &Measures<'_>) -> bool {
     let is_bar = part.is_bar() && part.text.is_none();
-    let in_span = part.place.is_nlba && before.place.is_nlba || part.place.is_eu && before.place.is_eu;
+    let in_span = part.place.is_nlba && before.place.is_nlba
+        || part.place.is_eu && before.place.is_eu;
     before.end.is_none() && part.is_first && (is_bar || in_span)
 }
 
@@ -140,19 +147,33 @@ fn units_from(
 fn price(free: i64, unit: Unit, syllables: usize, is_last: bool) -> i64 {
     let is_justified = unit.asked.is_some_and(|asked| asked.is_justified);
     if is_last {
-        let lacking = if is_justified { free } else { free.saturating_sub(LAST_MAY_LACK).max(0) };
+        let lacking = if is_justified {
+            free
+        } else {
+            free.saturating_sub(LAST_MAY_LACK).max(0)
+        };
         let alone = if syllables < FEW { ALONE } else { 0 };
         return square(lacking, LAST_BY_FREE).saturating_add(alone);
     }
     let parted = if unit.parts_word { PARTED } else { 0 };
     let bar = if unit.is_bar { AT_BAR } else { 0 };
-    let alone = if syllables.saturating_add(1) < FEW { ALONE } else { 0 };
-    square(free, BY_FREE).saturating_add(parted).saturating_add(bar).saturating_add(alone)
+    let alone = if syllables.saturating_add(1) < FEW {
+        ALONE
+    } else {
+        0
+    };
+    square(free, BY_FREE)
+        .saturating_add(parted)
+        .saturating_add(bar)
+        .saturating_add(alone)
 }
 
 /// Returns the square of so many thousandths, taken so often, in thousandths.
 fn square(thousandths: i64, factor: i64) -> i64 {
-    thousandths.saturating_mul(thousandths).saturating_mul(factor) / 1000
+    thousandths
+        .saturating_mul(thousandths)
+        .saturating_mul(factor)
+        / 1000
 }
 
 /// Returns which part of a row of this `width` is empty, in thousandths, if so much is free.
@@ -160,14 +181,19 @@ fn part_free(free: Distance, width: Distance) -> i64 {
     i64::from(free.0).saturating_mul(1000) / i64::from(width.0.max(1))
 }
 
-/// Returns how far left the first units from `at` on reach: a text may begin left of the notes before
-/// it.
+/// Returns how far left the first units from `at` on reach: a text may begin left of the notes
+/// before it.
 fn left_from(units: &[Unit], at: usize) -> Distance {
     let own = units.get(at).map_or(Distance::ZERO, |unit| unit.left);
-    units.iter().skip(at).take(4).fold(own, |left, unit| left.min(unit.left))
+    units
+        .iter()
+        .skip(at)
+        .take(4)
+        .fold(own, |left, unit| left.min(unit.left))
 }
 
-/// Notes the way over `begin` to the break after the unit `to`, if it costs less than the known one.
+/// Notes the way over `begin` to the break after the unit `to`, if it costs less than the known
+/// one.
 fn note_way(ways: &mut [Option<Way>], to: usize, begin: usize, cost: i64) {
     let after = to.saturating_add(1);
     if after < ways.len() {
@@ -181,11 +207,14 @@ fn note_way(ways: &mut [Option<Way>], to: usize, begin: usize, cost: i64) {
     }
 }
 
-/// Notes the ways on from the break before the unit `at`, to which the cheapest way costs `cost`, for
-/// rows of this `width`.
+/// Notes the ways on from the break before the unit `at`, to which the cheapest way costs `cost`,
+/// for rows of this `width`.
 fn note_ways_from(units: &[Unit], at: usize, cost: i64, width: Distance, ways: &mut [Option<Way>]) {
     let start = units.get(at).map_or(Distance::ZERO, |unit| unit.start);
-    let passed = at.checked_sub(1).and_then(|it| units.get(it)).map_or(0, |unit| unit.texts);
+    let passed = at
+        .checked_sub(1)
+        .and_then(|it| units.get(it))
+        .map_or(0, |unit| unit.texts);
     let end = left_from(units, at) - start + width;
     let last = units.len().saturating_sub(1);
     for (to, unit) in units.iter().enumerate().skip(at) {
@@ -207,7 +236,11 @@ fn ways_of(alloc: Global, units: &[Unit], width: Distance) -> Result<Vec<Option<
     let mut ways = vec![in alloc; None; units.len().saturating_add(1)]?;
     for at in 0..units.len() {
         let known = ways.get(at).copied().flatten();
-        let first = if at == 0 { Some(Way { cost: 0, begin: 0 }) } else { None };
+        let first = if at == 0 {
+            Some(Way { cost: 0, begin: 0 })
+        } else {
+            None
+        };
         if let Some(way) = known.or(first) {
             note_ways_from(units, at, way.cost, width, ways.as_mut_slice());
         }
@@ -255,10 +288,20 @@ fn add_spans(
     Ok(())
 }
 
-/// Returns the clef that is in force after the parts from `begin` up to `end`, before which `clef` is.
-fn clef_after(parts: &[Measures<'_>], begin: usize, end: usize, clef: Option<Clef>) -> Option<Clef> {
+/// Returns the clef that is in force after the parts from `begin` up to `end`, before which `clef`
+/// is.
+fn clef_after(
+    parts: &[Measures<'_>],
+    begin: usize,
+    end: usize,
+    clef: Option<Clef>,
+) -> Option<Clef> {
     let count = end.saturating_sub(begin);
-    parts.iter().skip(begin).take(count).fold(clef, |clef, part| part.clef.or(clef))
+    parts
+        .iter()
+        .skip(begin)
+        .take(count)
+        .fold(clef, |clef, part| part.clef.or(clef))
 }
 
 /// Returns the rows in which `parts` stand at this `width`.
@@ -275,7 +318,13 @@ pub(crate) fn spans_of(
         let Some(end) = units.as_slice().last().map(|unit| unit.end) else {
             break;
         };
-        add_spans(alloc, units.as_slice(), width, end == parts.len(), &mut spans)?;
+        add_spans(
+            alloc,
+            units.as_slice(),
+            width,
+            end == parts.len(),
+            &mut spans,
+        )?;
         clef = clef_after(parts, begin, end, clef);
         begin = end;
     }

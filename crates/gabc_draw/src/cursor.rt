@@ -56,7 +56,11 @@ impl Cursor {
             return x;
         };
         let begins = part.begins_word();
-        let room = if begins && !self.is_first { spaces::BETWEEN_WORDS } else { Distance::ZERO };
+        let room = if begins && !self.is_first {
+            spaces::BETWEEN_WORDS
+        } else {
+            Distance::ZERO
+        };
         let left = self.text - text.left + room;
         let between = x - left;
         let is_tight = spaces::LETTERS_TOUCH < between && between < HYPHEN_ROOM;

@@ -17,8 +17,8 @@ use gabc_marks::NoteHead;
 use gabc_tree::{Kind, Node};
 use std::alloc::{AllocError, Global};
 
-/// The begin of a part: the bytes of its syllable, whose number counts from 1, and whether it is the
-/// first part of it.
+/// The begin of a part: the bytes of its syllable, whose number counts from 1, and whether it is
+/// the first part of it.
 #[derive(Clone, Copy, Debug)]
 pub(crate) struct Opening {
     pub(crate) begin: u32,
@@ -37,8 +37,8 @@ impl Opening {
     };
 }
 
-/// A desk: the heads so far, the notes of the neume that is being read, the parts that are begun, and
-/// the sheet on which all stands.
+/// A desk: the heads so far, the notes of the neume that is being read, the parts that are begun,
+/// and the sheet on which all stands.
 #[derive(Debug, Drop)]
 pub(crate) struct Desk<'a> {
     pub(crate) heads: Vec<NoteHead>,
@@ -80,10 +80,19 @@ impl<'a> Desk<'a> {
         let Some(last) = self.pending.as_slice().last().map(|note| note.pitch) else {
             return Ok(());
         };
-        let first = self.pending.as_slice().first().map_or(last, |note| note.pitch);
+        let first = self
+            .pending
+            .as_slice()
+            .first()
+            .map_or(last, |note| note.pitch);
         let following = self.pitches.other();
         self.planned.clear();
-        plan(self.kind, self.pending.as_slice(), following, &mut self.planned)?;
+        plan(
+            self.kind,
+            self.pending.as_slice(),
+            following,
+            &mut self.planned,
+        )?;
         self.sheet.begin_block();
         let planned = self.planned.as_slice();
         write_neume(self.kind, planned, &mut self.sheet.pen, &mut self.heads)?;
@@ -113,10 +122,13 @@ impl<'a> Desk<'a> {
             ≡ pitches_drawn self.old.heads.items self.old.pending.items) }
         ensures bytes { OnOk result (bytes_of_openings self.new.openings.items
             ≡ bytes_of_openings self.old.openings.items
-                ++ record { begin = node.begin; end = node.end } ∷ []) }
+            ++ record { begin = node.begin; end = node.end } ∷ []) }
     {
         self.end_part(alloc)?;
-        let number = self.openings.last().map_or(1, |it| it.number.saturating_add(1));
+        let number = self
+            .openings
+            .last()
+            .map_or(1, |it| it.number.saturating_add(1));
         self.sheet.begin(alloc, Place::of(node.a, node.b));
         self.openings.push(Opening {
             begin: node.begin,
@@ -154,7 +166,7 @@ impl<'a> Desk<'a> {
     fn add_note(&mut self, alloc: Global, node: Node) -> Result<(), AllocError>
         ensures heads { OnOk result (pitches_drawn self.new.heads.items self.new.pending.items
             ≡ pitches_drawn self.old.heads.items self.old.pending.items
-                ++ pitches_of_kind Kind.Note node.a node.b) }
+            ++ pitches_of_kind Kind.Note node.a node.b) }
         ensures bytes { self.new.openings ≡ self.old.openings }
     {
         self.pending.push(Note::of(node))?;
@@ -192,7 +204,10 @@ impl<'a> Desk<'a> {
         if !self.pending.is_empty() {
             return self.sheet.add_inside(node);
         }
-        if matches!(node.kind, Kind::Clef | Kind::Alteration | Kind::Bar | Kind::Custos) {
+        if matches!(
+            node.kind,
+            Kind::Clef | Kind::Alteration | Kind::Bar | Kind::Custos
+        ) {
             self.turn(alloc)?;
         }
         let next = self.pitches.next();
@@ -203,10 +218,10 @@ impl<'a> Desk<'a> {
     pub(crate) fn add(&mut self, alloc: Global, node: Node) -> Result<(), AllocError>
         ensures heads { OnOk result (pitches_drawn self.new.heads.items self.new.pending.items
             ≡ pitches_drawn self.old.heads.items self.old.pending.items
-                ++ pitches_of_kind node.kind node.a node.b) }
+            ++ pitches_of_kind node.kind node.a node.b) }
         ensures bytes { OnOk result (bytes_of_openings self.new.openings.items
             ≡ bytes_of_openings self.old.openings.items
-                ++ bytes_of_kind node.kind node.begin node.end) }
+            ++ bytes_of_kind node.kind node.begin node.end) }
     {
         match node.kind {
             Kind::Note => self.add_note(alloc, node),
@@ -221,7 +236,7 @@ impl<'a> Desk<'a> {
     fn add_all(&mut self, alloc: Global, nodes: &[Node]) -> Result<(), AllocError>
         ensures heads { OnOk result (pitches_drawn self.new.heads.items self.new.pending.items
             ≡ pitches_drawn self.old.heads.items self.old.pending.items
-                ++ pitches_of_nodes nodes.now) }
+            ++ pitches_of_nodes nodes.now) }
         ensures bytes { OnOk result (bytes_of_openings self.new.openings.items
             ≡ bytes_of_openings self.old.openings.items ++ bytes_of_nodes nodes.now) }
     {

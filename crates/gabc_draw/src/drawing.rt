@@ -1,7 +1,6 @@
 //! The drawing of a score.
 
 ghost use Rattle.std.specs.Prelude.{◌≡◌, IfOk, OnErr};
-
 ghost use Rattle.gabc_draw.specs.Drawn.{IsPictureOf, Draws};
 
 use crate::assemble::parts_of;
@@ -38,8 +37,8 @@ impl Options {
     }
 }
 
-/// Returns how many lines a staff has by the header `staff-lines`: 4, unless it is a number from 2 to
-/// 5.
+/// Returns how many lines a staff has by the header `staff-lines`: 4, unless it is a number from 2
+/// to 5.
 fn staff_lines(value: &str) -> i32 {
     match value {
         "2" => 2,
@@ -67,10 +66,20 @@ fn picture_of<'a>(
     let mut title = Vec::new(alloc);
     let y = put_title(nodes, input, width, &mut title)?;
     let sheet = Sheet::new(alloc, input, staff.lines, language);
-    let LaidOut { heads, openings, measures } = lay_out(alloc, nodes, sheet)?;
+    let LaidOut {
+        heads,
+        openings,
+        measures,
+    } = lay_out(alloc, nodes, sheet)?;
     let spans = spans_of(alloc, measures.as_slice(), staff.width - spaces::CUSTOS)?;
     let rows = rows_of(alloc, measures.as_slice(), spans.as_slice(), staff, y)?;
-    let parts = parts_of(alloc, heads.as_slice(), openings.as_slice(), measures, rows.places.as_slice())?;
+    let parts = parts_of(
+        alloc,
+        heads.as_slice(),
+        openings.as_slice(),
+        measures,
+        rows.places.as_slice(),
+    )?;
     Ok(Picture {
         width,
         height: rows.y + spaces::MARGIN,
@@ -82,9 +91,9 @@ fn picture_of<'a>(
 }
 
 /// Draws the score `input`, whose tree is `nodes`, and puts the text of the picture into `out`: the
-/// XML of a picture that shows each note of the tree once for each time that it sounds, in order, at
-/// the height of its pitch, and each syllable with its bytes. It fails only for want of memory, and
-/// nothing is put then.
+/// XML of a picture that shows each note of the tree once for each time that it sounds, in order,
+/// at the height of its pitch, and each syllable with its bytes. It fails only for want of memory,
+/// and nothing is put then.
 pub fn draw<P: Put>(
     alloc: Global,
     nodes: &[Node],

@@ -1,5 +1,5 @@
-//! Ictus and horizontal episemata of the neumes of a snippet: an episema is joined to that of the next
-//! note (GregorioRef, "Rhythmic signs").
+//! Ictus and horizontal episemata of the neumes of a snippet: an episema is joined to that of the
+//! next note (GregorioRef, "Rhythmic signs").
 
 use crate::note::{EpisemaSize, Note, Side};
 use crate::pen::{Drawn, Pen, STEP};
@@ -8,17 +8,19 @@ use std::alloc::{AllocError, Global};
 
 /// How thick an episema is, and an ictus, and how long an ictus is.
 pub(crate) const THIN: Distance = Distance(90);
+
 pub(crate) const ICTUS: Distance = Distance(440);
 
 /// How far from its head an episema stands: of a head on a line, and of one in a space.
 const FROM_LINE: Distance = Distance(500);
+
 const FROM_SPACE: Distance = Distance(700);
 
 /// No episema goes over a gap that is wider than this.
 const MOST_GAP: Distance = Distance(500);
 
-/// A note of a snippet as it was drawn: in a neume that goes from `left` to `right`. `reach` says how
-/// many notes before it an episema of it may cover, and itself.
+/// A note of a snippet as it was drawn: in a neume that goes from `left` to `right`. `reach` says
+/// how many notes before it an episema of it may cover, and itself.
 #[derive(Clone, Copy, Debug)]
 pub(crate) struct SnippetNote {
     pub(crate) drawn: Drawn,
@@ -69,8 +71,8 @@ fn covers(it: Drawn, later: SnippetNote, back: usize, side: Side) -> bool {
     back < told.min(later.reach)
 }
 
-/// Returns how many notes an episema of `later` covers that is placed automatically, if that stands on
-/// this side at `it`.
+/// Returns how many notes an episema of `later` covers that is placed automatically, if that stands
+/// on this side at `it`.
 fn covered_by_auto(it: Drawn, later: SnippetNote, side: Side) -> usize {
     if episema_side(it, Side::Auto) == side {
         covered_by(later.drawn.note, Side::Auto)
@@ -97,7 +99,12 @@ fn line_at(notes: &[SnippetNote], at: usize, side: Side) -> Option<Line> {
 }
 
 /// Draws the ictus of a note, outside an episema on the same side.
-fn put_ictus(drawn: Drawn, side: Side, beside_episema: bool, pen: &mut Pen<'_>) -> Result<(), AllocError> {
+fn put_ictus(
+    drawn: Drawn,
+    side: Side,
+    beside_episema: bool,
+    pen: &mut Pen<'_>,
+) -> Result<(), AllocError> {
     let further = if beside_episema { STEP } else { Distance::ZERO };
     let x = drawn.x + drawn.width.half() - THIN.half();
     let y = if side == Side::Over {
@@ -165,16 +172,25 @@ impl Run {
 
     /// Draws it on this side. It does not lie on a line of the staff.
     fn put(self, side: Side, pen: &mut Pen<'_>) -> Result<(), AllocError> {
-        let far = if side == Side::Over { self.highest } else { self.lowest };
+        let far = if side == Side::Over {
+            self.highest
+        } else {
+            self.lowest
+        };
         let is_on_line = far.0 / 500 % 2 == 0;
         let distance = if is_on_line { FROM_LINE } else { FROM_SPACE };
-        let y = if side == Side::Over { far - distance - THIN } else { far + distance };
+        let y = if side == Side::Over {
+            far - distance - THIN
+        } else {
+            far + distance
+        };
         let (x, width) = self.extent();
         pen.rect(x, y, width, THIN)
     }
 }
 
-/// Returns the run that goes on with the note `at` on this side, and draws the one before if it ends.
+/// Returns the run that goes on with the note `at` on this side, and draws the one before if it
+/// ends.
 fn run_with(
     run: Option<Run>,
     note: SnippetNote,

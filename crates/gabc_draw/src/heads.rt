@@ -23,8 +23,8 @@ pub(crate) fn push_head(
     Ok(())
 }
 
-/// Adds a head for each time that `note` sounds: the first at `x`, and each further one as far right
-/// of the one before as `stride` says.
+/// Adds a head for each time that `note` sounds: the first at `x`, and each further one as far
+/// right of the one before as `stride` says.
 #[tactic(auto, using(crate::proofs::HeadsJoin::joined))]
 pub(crate) fn push_note(
     single: Single,

@@ -16,8 +16,24 @@ impl Language {
     pub(crate) fn of(name: &str) -> Language {
         match name {
             "en" | "eng" | "english" | "English" => Language::English,
-            "cu" | "chu" | "slavonic" | "pl" | "pol" | "polish" | "cs" | "ces" | "cze" | "czech" | "sk"
-            | "slk" | "slo" | "slovak" | "Polish" | "Czech" | "Slovak" | "Slavonic" => Language::Slavonic,
+            "cu"
+            | "chu"
+            | "slavonic"
+            | "pl"
+            | "pol"
+            | "polish"
+            | "cs"
+            | "ces"
+            | "cze"
+            | "czech"
+            | "sk"
+            | "slk"
+            | "slo"
+            | "slovak"
+            | "Polish"
+            | "Czech"
+            | "Slovak"
+            | "Slavonic" => Language::Slavonic,
             "hu" | "hun" | "hungarian" | "Hungarian" => Language::Hungarian,
             _ => Language::Latin,
         }
@@ -57,10 +73,12 @@ pub(crate) fn base_letter(c: char) -> char {
     }
 }
 
-/// Returns whether the Latin vowel `letters[at]` is read as a consonant: the u of qu, and an i before
-/// a vowel at the beginning of a word.
+/// Returns whether the Latin vowel `letters[at]` is read as a consonant: the u of qu, and an i
+/// before a vowel at the beginning of a word.
 fn is_consonant(letters: &[char], at: usize) -> bool {
-    let next = letters.get(at.saturating_add(1)).is_some_and(|c| Language::Latin.has_vowel(*c));
+    let next = letters
+        .get(at.saturating_add(1))
+        .is_some_and(|c| Language::Latin.has_vowel(*c));
     match letters.get(at) {
         Some('u') => follows_q(letters, at),
         Some('i') => next && !letters.iter().take(at).any(|c| c.is_alphabetic()),
@@ -70,7 +88,9 @@ fn is_consonant(letters: &[char], at: usize) -> bool {
 
 /// Returns whether the letter before `letters[at]` is a q.
 fn follows_q(letters: &[char], at: usize) -> bool {
-    at.checked_sub(1).and_then(|before| letters.get(before)).is_some_and(|c| *c == 'q')
+    at.checked_sub(1)
+        .and_then(|before| letters.get(before))
+        .is_some_and(|c| *c == 'q')
 }
 
 /// Returns whether the vowel `letters[at]` counts.

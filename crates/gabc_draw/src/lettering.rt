@@ -6,7 +6,9 @@ use std::alloc::{AllocError, Global};
 
 /// The size of the sung text, of a translation, and of a text over the staff.
 pub(crate) const TEXT_SIZE: Distance = Distance(1600);
+
 const TRANSLATION_SIZE: Distance = Distance(1200);
+
 pub(crate) const ABOVE_SIZE: Distance = Distance(1100);
 
 /// A letter of the text: without its accent, and where it stands.
@@ -29,8 +31,8 @@ pub(crate) struct Lettering<'a> {
     pub(crate) above: Vec<&'a str>,
 }
 
-/// Returns the styles with this number: the sum of 1 for b, 2 for c, 4 for e, 8 for i, 16 for sc, 32
-/// for tt and 64 for ul.
+/// Returns the styles with this number: the sum of 1 for b, 2 for c, 4 for e, 8 for i, 16 for sc,
+/// 32 for tt and 64 for ul.
 fn styles_of(number: u16) -> Styles {
     Styles {
         bold: number % 2 == 1,
@@ -139,9 +141,14 @@ impl<'a> Lettering<'a> {
         Ok(())
     }
 
-    /// Adds a raw part of this kind, with its tags: 1 is a special character, 2 a text over the staff;
-    /// raw TeX is not drawn.
-    pub(crate) fn add_raw(&mut self, text: &'a str, kind: u16, styles: u16) -> Result<(), AllocError> {
+    /// Adds a raw part of this kind, with its tags: 1 is a special character, 2 a text over the
+    /// staff; raw TeX is not drawn.
+    pub(crate) fn add_raw(
+        &mut self,
+        text: &'a str,
+        kind: u16,
+        styles: u16,
+    ) -> Result<(), AllocError> {
         match kind {
             1 => self.add(special_text(inner_of(text)), styles),
             2 => {
@@ -152,8 +159,8 @@ impl<'a> Lettering<'a> {
         }
     }
 
-    /// Returns where the middle of its centre is: as braces say, else that of its first vowel in this
-    /// `language`.
+    /// Returns where the middle of its centre is: as braces say, else that of its first vowel in
+    /// this `language`.
     pub(crate) fn middle(&self, language: Language) -> Distance {
         if let Some(centre) = self.centre {
             return (centre.left + centre.right).half();
@@ -197,7 +204,11 @@ impl<'a> Lettering<'a> {
     }
 
     /// Adds its texts over the staff to `signs`, from `x` on.
-    pub(crate) fn put_above(&self, x: Distance, signs: &mut Vec<Sign<'a>>) -> Result<(), AllocError> {
+    pub(crate) fn put_above(
+        &self,
+        x: Distance,
+        signs: &mut Vec<Sign<'a>>,
+    ) -> Result<(), AllocError> {
         for text in &self.above {
             signs.push(Sign::Words(Words {
                 text,

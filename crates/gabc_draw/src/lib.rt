@@ -1,10 +1,11 @@
-//! Draws a score: from its tree (`gabc_tree`) to the display list of a picture (`gabc_marks`), and to
-//! its text (`gabc_svg`).
+//! Draws a score: from its tree (`gabc_tree`) to the display list of a picture (`gabc_marks`), and
+//! to its text (`gabc_svg`).
 //!
 //! The nodes of the tree are gone over once ([`draw`]): each note gets a head at the height of its
-//! pitch, and each syllable a part, at the desk (`desk`). A pen writes neumes (`pen`, `neume`), by the
-//! outline that shows them (`outline`), with the signs around them (`rhythm`, `episemata`, `staff`).
-//! Then the parts are broken into rows (`breaks`), in which they stand beside each other (`rows`).
+//! pitch, and each syllable a part, at the desk (`desk`). A pen writes neumes (`pen`, `neume`), by
+//! the outline that shows them (`outline`), with the signs around them (`rhythm`, `episemata`,
+//! `staff`). Then the parts are broken into rows (`breaks`), in which they stand beside each other
+//! (`rows`).
 #![tactic(auto)]
 
 mod assemble;

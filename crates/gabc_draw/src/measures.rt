@@ -49,8 +49,8 @@ impl Place {
     }
 }
 
-/// A part: its signs, the number of its heads, and its extents, from where the notes of its syllable
-/// begin.
+/// A part: its signs, the number of its heads, and its extents, from where the notes of its
+/// syllable begin.
 #[derive(Debug, Drop)]
 pub(crate) struct Measures<'a> {
     pub(crate) signs: Vec<Sign<'a>>,

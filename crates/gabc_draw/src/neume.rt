@@ -11,8 +11,8 @@ use crate::plan::{GlyphKind, Joint, Planned, fall_between};
 use gabc_marks::{Distance, Head, Joined, NoteHead, height_of};
 use std::alloc::AllocError;
 
-/// Returns by how many steps the broad stroke falls that shows just `first` and `second`, if `first`
-/// begins one.
+/// Returns by how many steps the broad stroke falls that shows just `first` and `second`, if
+/// `first` begins one.
 fn stroke_of(first: Planned, second: Planned) -> Option<u8>
     ensures { IfSome result (λ fall. pitches_of_note first.note ++ pitches_of_note second.note
         ≡ first.note.pitch ∷ (first.note.pitch - fall) ∷ []) }
@@ -22,11 +22,15 @@ fn stroke_of(first: Planned, second: Planned) -> Option<u8>
         return None;
     }
     let fall = fall_between(first.note, second.note)?;
-    if second.note.pitch == first.note.pitch.saturating_sub(fall) { Some(fall) } else { None }
+    if second.note.pitch == first.note.pitch.saturating_sub(fall) {
+        Some(fall)
+    } else {
+        None
+    }
 }
 
-/// Writes `first`, with the note after it if both are a broad stroke, and returns the notes of `more`
-/// that are left.
+/// Writes `first`, with the note after it if both are a broad stroke, and returns the notes of
+/// `more` that are left.
 #[tactic(auto, using(crate::proofs::HeadsJoin::joined))]
 fn write_next<'p>(
     first: Planned,

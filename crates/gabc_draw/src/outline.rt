@@ -100,7 +100,11 @@ pub(crate) fn whole(planned: Planned) -> Option<Single> {
         Shape::VirgaReversa => whole_reversa(note),
         Shape::Stropha | Shape::Distropha | Shape::Tristropha => {
             let is_plain = note.liquescence == Liquescence::None;
-            Some(if is_plain { Single::Stropha } else { Single::StrophaAucta })
+            Some(if is_plain {
+                Single::Stropha
+            } else {
+                Single::StrophaAucta
+            })
         }
         Shape::Quilisma => Some(Single::Quilisma),
         Shape::Lined => Some(Single::LineaPunctum),
@@ -211,7 +215,10 @@ fn shows(joined: Joined, pitch: u8, planned: &[Planned]) -> bool
             have_pitches(planned, &[p, p + a, turns, turns + c])
         }
         Family::PorrectusFlexus => {
-            have_pitches(planned, &[p, falls, falls + b, (falls + b).saturating_sub(c)])
+            have_pitches(
+                planned,
+                &[p, falls, falls + b, (falls + b).saturating_sub(c)],
+            )
         }
         Family::Pes
         | Family::PesQuadratum
@@ -223,11 +230,15 @@ fn shows(joined: Joined, pitch: u8, planned: &[Planned]) -> bool
 
 /// Returns `joined` if there is an outline of it.
 fn known(joined: Joined) -> Option<Joined> {
-    if joined.metrics().is_some() { Some(joined) } else { None }
+    if joined.metrics().is_some() {
+        Some(joined)
+    } else {
+        None
+    }
 }
 
-/// Returns the outline of the notes of `planned` that has the best name, if there is one: a pes with
-/// an ending may be one with a square first note.
+/// Returns the outline of the notes of `planned` that has the best name, if there is one: a pes
+/// with an ending may be one with a square first note.
 fn candidate(kind: GlyphKind, planned: &[Planned], first: Note, last: Note) -> Option<Joined> {
     let joined = Joined {
         family: family_of(kind, planned)?,
@@ -264,7 +275,9 @@ pub(crate) fn joined_outline(kind: GlyphKind, pitch: u8, planned: &[Planned]) ->
 /// Returns whether no note of `planned` but the last one is liquescent.
 fn liquescence_is_last(planned: &[Planned]) -> bool {
     match planned {
-        [before @ .., _] => before.iter().all(|it| it.note.liquescence == Liquescence::None),
+        [before @ .., _] => before
+            .iter()
+            .all(|it| it.note.liquescence == Liquescence::None),
         [] => true,
     }
 }

@@ -27,8 +27,8 @@ pub(crate) const PUNCTUM: Distance = Distance(526);
 /// How much lower than a head a broad stroke of no height would go at its first note.
 pub(crate) const STROKE_FOOT: Distance = Distance(120);
 
-/// A note as it was drawn: where its head stands, whether the next note stands over it or it over the
-/// one before, and how much lower than that of a head its black goes.
+/// A note as it was drawn: where its head stands, whether the next note stands over it or it over
+/// the one before, and how much lower than that of a head its black goes.
 #[derive(Clone, Copy, Debug)]
 pub(crate) struct Drawn {
     pub(crate) note: Note,
@@ -88,14 +88,24 @@ impl<'a> Pen<'a> {
         width: Distance,
         height: Distance,
     ) -> Result<(), AllocError> {
-        self.signs.push(Sign::Rect { x, y, width, height })?;
+        self.signs.push(Sign::Rect {
+            x,
+            y,
+            width,
+            height,
+        })?;
         self.top = self.top.min(y);
         self.bottom = self.bottom.max(y + height);
         Ok(())
     }
 
     /// Draws a symbol.
-    pub(crate) fn symbol(&mut self, symbol: Symbol, x: Distance, y: Distance) -> Result<(), AllocError> {
+    pub(crate) fn symbol(
+        &mut self,
+        symbol: Symbol,
+        x: Distance,
+        y: Distance,
+    ) -> Result<(), AllocError> {
         self.signs.push(Sign::Symbol { symbol, x, y })?;
         self.reach(y, symbol.metrics());
         Ok(())
@@ -151,7 +161,12 @@ impl<'a> Pen<'a> {
         let y = height_of(note.pitch);
         if note.is_lined {
             self.rect(x - Distance(160), y - Distance(460), STEM, Distance(920))?;
-            self.rect(x + width + Distance(80), y - Distance(460), STEM, Distance(920))?;
+            self.rect(
+                x + width + Distance(80),
+                y - Distance(460),
+                STEM,
+                Distance(920),
+            )?;
         }
         if note.shape.is_virga() {
             self.stem(x + width - STEM, y, Distance(1300))?;
@@ -208,7 +223,11 @@ impl<'a> Pen<'a> {
             ≡ pitches_of_heads heads.old.items ++ pitches_of_note note) }
     {
         let left = self.x;
-        let margin = if note.is_lined { Distance(160) } else { Distance::ZERO };
+        let margin = if note.is_lined {
+            Distance(160)
+        } else {
+            Distance::ZERO
+        };
         let width = single.metrics().width;
         let stride = width + margin + margin + BETWEEN;
         push_note(single, note, left + margin, stride, heads)?;
@@ -245,7 +264,11 @@ impl<'a> Pen<'a> {
         let Some(before) = self.drawn.last() else {
             return Distance::ZERO;
         };
-        let near = if before.note.shape == Shape::Inclinatum { Distance(20) } else { Distance(120) };
+        let near = if before.note.shape == Shape::Inclinatum {
+            Distance(20)
+        } else {
+            Distance(120)
+        };
         match before.note.pitch.abs_diff(note.pitch) {
             1 => near - Distance(140),
             2 => near,
@@ -267,7 +290,11 @@ impl<'a> Pen<'a> {
         let right = self.drawn.last().map_or(self.x, |below| below.right());
         let is_near = self.drawn.last().is_some_and(|below| below.y() - y == STEP);
         let width = single.metrics().width;
-        let single = if is_near && single == Single::Punctum { Single::PunctumOver } else { single };
+        let single = if is_near && single == Single::Punctum {
+            Single::PunctumOver
+        } else {
+            single
+        };
         self.join(right, y)?;
         push_note(single, note, right - width, Distance::ZERO, heads)?;
         self.tail(note, right)?;
@@ -361,7 +388,7 @@ impl<'a> Pen<'a> {
             ≡ pitches_shown (Head.Stroke fall) first.note.pitch }
         ensures { OnOk result (pitches_of_heads heads.new.items
             ≡ pitches_of_heads heads.old.items
-                ++ (pitches_of_note first.note ++ pitches_of_note second.note)) }
+            ++ (pitches_of_note first.note ++ pitches_of_note second.note)) }
     {
         let y = height_of(first.note.pitch);
         let head = Head::Stroke(fall);
@@ -375,7 +402,12 @@ impl<'a> Pen<'a> {
         self.note(first.note, self.x, PUNCTUM, head.metrics())?;
         self.mark_foot(STROKE_FOOT + Distance(100 * steps));
         self.x += head.metrics().width;
-        self.note(second.note, self.x - PUNCTUM, PUNCTUM, Single::Punctum.metrics())
+        self.note(
+            second.note,
+            self.x - PUNCTUM,
+            PUNCTUM,
+            Single::Punctum.metrics(),
+        )
     }
 
     /// Notes how much lower than that of a head the black of the last note goes.
@@ -395,14 +427,18 @@ fn as_virga(planned: Planned) -> Planned {
     virga
 }
 
-/// Returns the head of a note; a punctum under one a step higher has no top. `next` is the note after
-/// it.
+/// Returns the head of a note; a punctum under one a step higher has no top. `next` is the note
+/// after it.
 fn under(planned: Planned, next: Option<Planned>) -> Single {
     let single = plain_head(planned);
     let is_near = next.is_some_and(|next| {
         next.joint == Joint::Over && next.note.pitch.checked_sub(planned.note.pitch) == Some(1)
     });
-    if is_near && single == Single::Punctum { Single::PunctumUnder } else { single }
+    if is_near && single == Single::Punctum {
+        Single::PunctumUnder
+    } else {
+        single
+    }
 }
 
 /// Returns how far to the right a head moves, so that a broader one has room over it.

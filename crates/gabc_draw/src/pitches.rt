@@ -19,7 +19,11 @@ pub(crate) struct Pitches {
 
 /// Returns the pitch of `node`, if it is a note.
 fn pitch_of(node: Node) -> Option<u8> {
-    if node.kind == Kind::Note { Some((node.a % 16) as u8) } else { None }
+    if node.kind == Kind::Note {
+        Some((node.a % 16) as u8)
+    } else {
+        None
+    }
 }
 
 /// Adds what follows a note of this `pitch`, before which `notes` come in backward order.

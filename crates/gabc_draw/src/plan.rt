@@ -47,14 +47,23 @@ pub(crate) struct GlyphKind {
 
 /// The bases of neumes of several notes, as a tree numbers them.
 pub(crate) const PES: u16 = 0;
+
 pub(crate) const CLIVIS: u16 = 1;
+
 pub(crate) const TORCULUS: u16 = 2;
+
 pub(crate) const PORRECTUS: u16 = 3;
+
 pub(crate) const SCANDICUS: u16 = 4;
+
 pub(crate) const SCANDICUS_FLEXUS: u16 = 5;
+
 pub(crate) const TORCULUS_RESUPINUS: u16 = 6;
+
 pub(crate) const PORRECTUS_FLEXUS: u16 = 7;
+
 pub(crate) const TORCULUS_RESUPINUS_FLEXUS: u16 = 8;
+
 pub(crate) const CLIMACUS: u16 = 9;
 /// The tail of a neume that rises again after its inclinata.
 const RESUPINUS: u16 = 2;
@@ -94,7 +103,10 @@ impl GlyphKind {
 
 /// Returns how many of `notes` are inclinata.
 fn count_diamonds(notes: &[Note]) -> usize {
-    notes.iter().filter(|note| note.shape == Shape::Inclinatum).count()
+    notes
+        .iter()
+        .filter(|note| note.shape == Shape::Inclinatum)
+        .count()
 }
 
 /// Returns whether an oriscus points up: as it is told, else if the first other pitch after it is
@@ -116,16 +128,24 @@ fn rises(note: Note, later: &[Note], following: Option<u8>) -> bool {
 pub(crate) fn fall_between(note: Note, next: Note) -> Option<u8> {
     let is_plain = note.shape == Shape::Punctum && next.shape == Shape::Punctum && !note.is_debilis;
     let fall = note.pitch.saturating_sub(next.pitch);
-    if is_plain && 1 <= fall && fall <= 5 { Some(fall) } else { None }
+    if is_plain && 1 <= fall && fall <= 5 {
+        Some(fall)
+    } else {
+        None
+    }
 }
 
-/// Returns the joint that `notes[at]` has in a neume of this `kind`: no broad stroke where its notes
-/// have shapes of their own, and nothing over a quadratum.
+/// Returns the joint that `notes[at]` has in a neume of this `kind`: no broad stroke where its
+/// notes have shapes of their own, and nothing over a quadratum.
 fn joint_of(kind: GlyphKind, notes: &[Note], at: usize, front: usize) -> Joint {
     let Some(note) = notes.get(at) else {
         return Joint::Alone;
     };
-    let tail = if note.shape == Shape::Inclinatum { Joint::Diamond } else { Joint::Alone };
+    let tail = if note.shape == Shape::Inclinatum {
+        Joint::Diamond
+    } else {
+        Joint::Alone
+    };
     let joint = kind.joint_at(at, front).unwrap_or(tail);
     let before = at.checked_sub(1).and_then(|before| notes.get(before));
     let next = notes.get(at.saturating_add(1));

@@ -30,8 +30,8 @@ pub(crate) fn distance_of(kind: u16, text: &str) -> Distance {
     }
 }
 
-/// Returns the distance of a spacing `/[..]`: a large one times the number in the brackets, from -0.5
-/// to 10.
+/// Returns the distance of a spacing `/[..]`: a large one times the number in the brackets, from
+/// -0.5 to 10.
 fn factor_of(text: &str) -> Distance {
     let inner = text.strip_prefix("/[").unwrap_or("1");
     let number = inner.strip_suffix(']').unwrap_or(inner);
@@ -41,8 +41,13 @@ fn factor_of(text: &str) -> Distance {
     };
     let (whole, part) = digits.split_once('.').unwrap_or((digits, ""));
     let whole = whole.parse::<u16>().map_or(0, |n| i32::from(n.min(99)));
-    let part = part.parse::<u16>().map_or(0, |n| thousandths(i32::from(n), part.len()));
-    let factor = whole.saturating_mul(1000).saturating_add(part).saturating_mul(sign);
+    let part = part
+        .parse::<u16>()
+        .map_or(0, |n| thousandths(i32::from(n), part.len()));
+    let factor = whole
+        .saturating_mul(1000)
+        .saturating_add(part)
+        .saturating_mul(sign);
     Distance(factor.max(-500).min(10_000))
 }
 

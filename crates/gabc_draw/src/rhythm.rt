@@ -10,6 +10,7 @@ const LEDGER_OVER: Distance = Distance(200);
 
 /// How far right of a head its mora stands, and how far right of another one at the same height.
 const TO_MORA: Distance = Distance(340);
+
 const BETWEEN_MORAE: Distance = Distance(400);
 
 /// A mora: the note at which it stands, and its step over the lowest line.
@@ -76,17 +77,19 @@ fn put_over_staff(head: Drawn, lines: i32, pen: &mut Pen<'_>) -> Result<(), Allo
     Ok(())
 }
 
-/// Returns how many morae stand at the note `at`: of two at one note, one belongs to the note before
-/// it (GregorioRef, "Punctum Mora").
+/// Returns how many morae stand at the note `at`: of two at one note, one belongs to the note
+/// before it (GregorioRef, "Punctum Mora").
 fn morae_at(heads: &[Drawn], at: usize) -> u16 {
     let own = heads.get(at).map_or(0, |head| head.note.morae);
     let kept = if 1 < own && 0 < at { 1 } else { own };
-    let next = heads.get(at.saturating_add(1)).map_or(0, |head| head.note.morae);
+    let next = heads
+        .get(at.saturating_add(1))
+        .map_or(0, |head| head.note.morae);
     if 1 < next { kept.max(1) } else { kept }
 }
 
-/// Adds the morae of the note `at` to `dots`, at the step of its head. Two of the next note stand at
-/// that one.
+/// Adds the morae of the note `at` to `dots`, at the step of its head. Two of the next note stand
+/// at that one.
 fn add_dots(heads: &[Drawn], at: usize, dots: &mut Vec<Dot>) -> Result<(), AllocError> {
     let Some(head) = heads.get(at) else {
         return Ok(());
@@ -118,7 +121,11 @@ fn beside_line(dot: Dot, heads: &[Drawn], placed: &[Dot]) -> Dot {
     let covered = heads.get(dot.at).is_some_and(|head| head.covered);
     let is_taken = covered || placed.iter().any(|other| other.step == over);
     Dot {
-        step: if is_taken { dot.step.saturating_sub(1) } else { over },
+        step: if is_taken {
+            dot.step.saturating_sub(1)
+        } else {
+            over
+        },
         ..dot
     }
 }
@@ -133,7 +140,11 @@ fn place_dots(
 ) -> Result<(), AllocError> {
     for dot in dots {
         if (dot.step % 2 == 0) == on_lines {
-            let place = if on_lines { beside_line(*dot, heads, placed.as_slice()) } else { *dot };
+            let place = if on_lines {
+                beside_line(*dot, heads, placed.as_slice())
+            } else {
+                *dot
+            };
             placed.push(place)?;
         }
     }
@@ -151,7 +162,10 @@ fn right_of(head: Drawn, heads: &[Drawn]) -> Distance {
 
 /// Returns how many morae of `before` stand at the same note and the same height as `dot`.
 fn count_before(dot: Dot, before: &[Dot]) -> i32 {
-    let count = before.iter().filter(|it| it.at == dot.at && it.step == dot.step).count();
+    let count = before
+        .iter()
+        .filter(|it| it.at == dot.at && it.step == dot.step)
+        .count();
     i32::try_from(count).unwrap_or(0)
 }
 
@@ -174,8 +188,8 @@ fn draw_dots(
     Ok(reach)
 }
 
-/// Draws the morae of the neume whose heads are `heads`, and returns how far right it goes then: up to
-/// `right` without them. None stands on a line, and no two at one place.
+/// Draws the morae of the neume whose heads are `heads`, and returns how far right it goes then: up
+/// to `right` without them. None stands on a line, and no two at one place.
 fn put_morae(
     alloc: Global,
     heads: &[Drawn],

@@ -13,6 +13,7 @@ use std::alloc::{AllocError, Global};
 
 /// How high and how deep a line of NABC goes.
 const NABC_UP: Distance = Distance(700);
+
 const NABC_DOWN: Distance = Distance(250);
 
 /// The size of a row: its width, and how many lines its staff has.
@@ -23,7 +24,11 @@ pub(crate) struct Staff {
 }
 
 /// Returns where the parts of a row stand that begins at `start`.
-fn places_from(alloc: Global, parts: &[Measures<'_>], start: Distance) -> Result<Vec<Distance>, AllocError> {
+fn places_from(
+    alloc: Global,
+    parts: &[Measures<'_>],
+    start: Distance,
+) -> Result<Vec<Distance>, AllocError> {
     let mut cursor = Cursor::new(start);
     let mut places = Vec::new(alloc);
     for part in parts {
@@ -53,7 +58,11 @@ fn is_open(part: &Measures<'_>, x: Distance, text: Option<Distance>) -> bool {
 }
 
 /// Returns of each part whether the gap before it is open.
-fn open_gaps(alloc: Global, parts: &[Measures<'_>], places: &[Distance]) -> Result<Vec<bool>, AllocError> {
+fn open_gaps(
+    alloc: Global,
+    parts: &[Measures<'_>],
+    places: &[Distance],
+) -> Result<Vec<bool>, AllocError> {
     let mut gaps = Vec::new(alloc);
     let mut text = None;
     for (part, x) in parts.iter().zip(places) {
@@ -110,7 +119,9 @@ fn spread(
     free: Distance,
     width: Distance,
 ) -> Result<(), AllocError> {
-    let all = i32::try_from(parts.len()).unwrap_or(i32::MAX).saturating_sub(1);
+    let all = i32::try_from(parts.len())
+        .unwrap_or(i32::MAX)
+        .saturating_sub(1);
     let mut gaps = open_gaps(alloc, parts, places.as_slice())?;
     if HYPHEN_ROOM <= free.share(all) {
         open_all(&mut gaps);
@@ -140,8 +151,8 @@ fn hyphen<'a>(x: Distance) -> Sign<'a> {
     })
 }
 
-/// Adds a hyphen between the texts of one word, if these do not touch, and after a word that goes on
-/// in the next row.
+/// Adds a hyphen between the texts of one word, if these do not touch, and after a word that goes
+/// on in the next row.
 fn put_hyphens<'a>(
     parts: &[Measures<'a>],
     places: &[Distance],
@@ -158,7 +169,11 @@ fn put_hyphens<'a>(
                 signs.push(hyphen(end + (between - HYPHEN).half()))?;
             }
         }
-        end = if part.place.goes_on { Some(*x + text.right) } else { None };
+        end = if part.place.goes_on {
+            Some(*x + text.right)
+        } else {
+            None
+        };
     }
     if let Some(end) = end {
         signs.push(hyphen(end))?;
@@ -198,15 +213,17 @@ fn put_custos(staff: Staff, pitch: u8, pen: &mut Pen<'_>) -> Result<(), AllocErr
 /// Returns how high and how deep the signs of a row go, and those of its parts.
 fn bounds(parts: &[Measures<'_>], pen: &Pen<'_>) -> Extent {
     let top = parts.iter().fold(pen.top, |top, part| top.min(part.top));
-    let bottom = parts.iter().fold(pen.bottom, |bottom, part| bottom.max(part.bottom));
+    let bottom = parts
+        .iter()
+        .fold(pen.bottom, |bottom, part| bottom.max(part.bottom));
     Extent {
         left: top,
         right: bottom,
     }
 }
 
-/// Returns the height of the next line of NABC over `top`, and how high that goes, if there are that
-/// many lines.
+/// Returns the height of the next line of NABC over `top`, and how high that goes, if there are
+/// that many lines.
 fn nabc_over(top: Distance, number: u16, count: u16) -> (Distance, Distance) {
     if count < number {
         return (top, top);
@@ -275,8 +292,8 @@ impl<'a> Rows<'a> {
         }
     }
 
-    /// Draws what stands in a row beside its parts: the clef in force, and the custos at its end, for
-    /// the pitch that follows.
+    /// Draws what stands in a row beside its parts: the clef in force, and the custos at its end,
+    /// for the pitch that follows.
     fn draw_ends(
         &self,
         alloc: Global,
@@ -291,7 +308,8 @@ impl<'a> Rows<'a> {
                 clef.put(Distance::ZERO, &mut pen)?;
             }
         }
-        let has_custos = span.asked.map_or(true, |asked| asked.has_custos) && !wants_no_custos(parts);
+        let has_custos = span.asked.map_or(true, |asked| asked.has_custos)
+            && !wants_no_custos(parts);
         if let Some(pitch) = following {
             if has_custos {
                 put_custos(staff, pitch, &mut pen)?;
@@ -300,8 +318,8 @@ impl<'a> Rows<'a> {
         Ok(pen)
     }
 
-    /// Adds a row with these `parts`, which ends as `span` says. `following` is the pitch of the first
-    /// note in the next row.
+    /// Adds a row with these `parts`, which ends as `span` says. `following` is the pitch of the
+    /// first note in the next row.
     pub(crate) fn add(
         &mut self,
         alloc: Global,
@@ -310,7 +328,9 @@ impl<'a> Rows<'a> {
         following: Option<u8>,
         staff: Staff,
     ) -> Result<(), AllocError> {
-        let start = parts.first().map_or(Distance::ZERO, |part| start_of(part, self.clef));
+        let start = parts
+            .first()
+            .map_or(Distance::ZERO, |part| start_of(part, self.clef));
         let mut places = places_from(alloc, parts, start)?;
         let free = staff.width - spaces::CUSTOS - right_of(parts, places.as_slice());
         let is_spread = span.asked.map_or(!span.is_last, |asked| asked.is_justified);
@@ -321,7 +341,9 @@ impl<'a> Rows<'a> {
         put_staff(staff, &mut pen.signs)?;
         put_hyphens(parts, places.as_slice(), &mut pen.signs)?;
         let (levels, size) = levels_of(parts, staff, &pen);
-        self.clef = parts.iter().fold(self.clef, |clef, part| part.clef.or(clef));
+        self.clef = parts
+            .iter()
+            .fold(self.clef, |clef, part| part.clef.or(clef));
         self.places.extend_from_slice(places.as_slice())?;
         self.y -= size.top;
         self.rows.push(Row {
@@ -339,7 +361,11 @@ impl<'a> Rows<'a> {
 /// Returns the pitch of the first note of the parts from `begin` up to `end`.
 fn first_pitch(parts: &[Measures<'_>], begin: usize, end: usize) -> Option<u8> {
     let count = end.saturating_sub(begin);
-    parts.iter().skip(begin).take(count).find_map(|part| part.first)
+    parts
+        .iter()
+        .skip(begin)
+        .take(count)
+        .find_map(|part| part.first)
 }
 
 /// Returns the rows in which `parts` stand, as `spans` say, from `y` on downwards.

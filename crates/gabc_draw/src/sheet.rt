@@ -91,7 +91,9 @@ impl<'a> Sheet<'a> {
 
     /// Returns where the next block begins.
     fn next_x(&self) -> Distance {
-        self.part.notes.map_or(self.pen.x, |notes| notes.right + self.after)
+        self.part
+            .notes
+            .map_or(self.pen.x, |notes| notes.right + self.after)
     }
 
     /// Begins a snippet of notes.
@@ -110,7 +112,9 @@ impl<'a> Sheet<'a> {
 
     /// Takes the signs that the pen has drawn into the part.
     fn take_signs(&mut self) -> Result<(), AllocError> {
-        self.part.signs.extend_from_slice(self.pen.signs.as_slice())?;
+        self.part
+            .signs
+            .extend_from_slice(self.pen.signs.as_slice())?;
         self.pen.signs.clear();
         self.part.top = self.part.top.min(self.pen.top);
         self.part.bottom = self.part.bottom.max(self.pen.bottom);
@@ -157,31 +161,48 @@ impl<'a> Sheet<'a> {
         }
     }
 
-    /// Ends the neume that the pen has drawn from `left` on, and draws what stands around it. `first`
-    /// and `last` are the pitches of its first and its last note.
-    pub(crate) fn end_neume(&mut self, alloc: Global, first: u8, last: u8) -> Result<(), AllocError> {
+    /// Ends the neume that the pen has drawn from `left` on, and draws what stands around it.
+    /// `first` and `last` are the pitches of its first and its last note.
+    pub(crate) fn end_neume(
+        &mut self,
+        alloc: Global,
+        first: u8,
+        last: u8,
+    ) -> Result<(), AllocError> {
         let left = self.next_x();
         self.join_fused(left, first)?;
-        let end = self.pen.drawn.iter().fold(self.pen.x, |right, it| right.max(it.right()));
+        let end = self
+            .pen
+            .drawn
+            .iter()
+            .fold(self.pen.x, |right, it| right.max(it.right()));
         let drawn = self.pen.drawn.clone()?;
         let right = put_around(alloc, drawn.as_slice(), self.lines, end, &mut self.pen)?;
         self.note_drawn(left, right)?;
         let anchor = drawn.first().map_or(left, |it| it.x + it.width.half());
-        let kind = BlockKind::Neume { pitch: first, anchor };
+        let kind = BlockKind::Neume {
+            pitch: first,
+            anchor,
+        };
         self.end_block(kind, right, spaces::AFTER_NEUME)?;
         self.last = Some(last);
         Ok(())
     }
 
-    /// Draws the line from the last note to a neume that begins at `left` with this `pitch`, if both
-    /// are fused.
+    /// Draws the line from the last note to a neume that begins at `left` with this `pitch`, if
+    /// both are fused.
     fn join_fused(&mut self, left: Distance, pitch: u8) -> Result<(), AllocError> {
         let Some(before) = self.fused else {
             return Ok(());
         };
         self.fused = None;
         let (from, to) = (height_of(before), height_of(pitch));
-        self.pen.rect(left - Distance(40), from.min(to), Distance(80), (from - to).size())
+        self.pen.rect(
+            left - Distance(40),
+            from.min(to),
+            Distance(80),
+            (from - to).size(),
+        )
     }
 
     /// Notes the notes of a neume from `left` to `right`, for what depends on several neumes.
@@ -206,7 +227,11 @@ impl<'a> Sheet<'a> {
     /// Makes room of this `distance` after the last block.
     pub(crate) fn add_space(&mut self, distance: Distance) {
         if self.part.notes.is_some() {
-            let before = if self.has_space { self.after } else { Distance::ZERO };
+            let before = if self.has_space {
+                self.after
+            } else {
+                Distance::ZERO
+            };
             self.after = before + distance;
             self.has_space = true;
         }
@@ -249,8 +274,13 @@ impl<'a> Sheet<'a> {
         self.begin_block();
         let symbol = custos(pitch, self.lines);
         let x = self.pen.x;
-        self.pen.symbol(symbol, x, height_of_step(i32::from(pitch) - 3))?;
-        self.end_block(BlockKind::Custos, x + symbol.metrics().width, spaces::AFTER_CUSTOS)
+        self.pen
+            .symbol(symbol, x, height_of_step(i32::from(pitch) - 3))?;
+        self.end_block(
+            BlockKind::Custos,
+            x + symbol.metrics().width,
+            spaces::AFTER_CUSTOS,
+        )
     }
 
     /// Notes that the line ends after what stands there.
@@ -341,7 +371,9 @@ impl<'a> Sheet<'a> {
                 });
                 Ok(())
             }
-            Kind::Escape => self.lettering.add(text.strip_prefix('$').unwrap_or(text), node.a),
+            Kind::Escape => self
+                .lettering
+                .add(text.strip_prefix('$').unwrap_or(text), node.a),
             Kind::TextBlank if node.b == 1 => self.lettering.add(" ", node.a),
             Kind::Raw => self.lettering.add_raw(text, node.b, node.a),
             Kind::Translation if node.b == 1 && text != "[/]" => {
@@ -362,18 +394,25 @@ impl<'a> Sheet<'a> {
             return Ok(());
         }
         let text = text_of(self.input, node.begin, node.end);
-        if text.is_empty() { Ok(()) } else { self.add_nabc(node.a, text) }
+        if text.is_empty() {
+            Ok(())
+        } else {
+            self.add_nabc(node.a, text)
+        }
     }
 
     /// Adds `node`, which stands within a neume.
     pub(crate) fn add_inside(&mut self, node: Node) -> Result<(), AllocError> {
-        if node.kind == Kind::Attribute && text_of(self.input, node.begin, node.end) == "[nocustos]" {
+        if node.kind == Kind::Attribute
+            && text_of(self.input, node.begin, node.end) == "[nocustos]"
+        {
             self.forbid_custos();
         }
         Ok(())
     }
 
-    /// Adds `node`, which is no note, no neume and no syllable. `next` is the pitch of the next note.
+    /// Adds `node`, which is no note, no neume and no syllable. `next` is the pitch of the next
+    /// note.
     pub(crate) fn add(&mut self, node: Node, next: Option<u8>) -> Result<(), AllocError> {
         match node.kind {
             Kind::Characters
@@ -385,7 +424,9 @@ impl<'a> Sheet<'a> {
             | Kind::StyleTag
             | Kind::Brace
             | Kind::Translation => self.add_text(node),
-            Kind::Comment | Kind::LeftOut | Kind::FurtherBlank | Kind::Silent => self.pass_gap(node),
+            Kind::Comment | Kind::LeftOut | Kind::FurtherBlank | Kind::Silent => self.pass_gap(
+                node,
+            ),
             Kind::Snippet => self.add_snippet(node),
             _ => self.add_item(node, next),
         }
@@ -425,7 +466,11 @@ impl<'a> Sheet<'a> {
 
     /// Adds the custos of `node`; one that names no pitch has that of the next note.
     fn add_custos_of(&mut self, node: Node, next: Option<u8>) -> Result<(), AllocError> {
-        let told = if node.a < 15 { Some((node.a % 16) as u8) } else { next };
+        let told = if node.a < 15 {
+            Some((node.a % 16) as u8)
+        } else {
+            next
+        };
         match told {
             Some(pitch) => self.add_custos(pitch),
             None => Ok(()),

@@ -1,5 +1,5 @@
-//! The spaces of a picture, each with its name, in thousandths of a staff space. What GregorioTeX has
-//! a dimension for stands beside it.
+//! The spaces of a picture, each with its name, in thousandths of a staff space. What GregorioTeX
+//! has a dimension for stands beside it.
 
 use gabc_marks::Distance;
 
@@ -10,45 +10,62 @@ pub(crate) const BETWEEN_WORDS: Distance = Distance(550);
 /// Between the notes of two words, and of two syllables of a word (interwordspacenotes,
 /// intersyllablespacenotes).
 pub(crate) const BETWEEN_NOTES_OF_WORDS: Distance = Distance(900);
+
 pub(crate) const BETWEEN_NOTES: Distance = Distance(600);
-/// Between the neumes of a syllable: after what no spacing follows, by `/`, `//`, `/0`, `/!`, and by
-/// a blank, which `/[..]` takes as its unit (interglyphspace, interelementspace, largerspace,
+/// Between the neumes of a syllable: after what no spacing follows, by `/`, `//`, `/0`, `/!`, and
+/// by a blank, which `/[..]` takes as its unit (interglyphspace, interelementspace, largerspace,
 /// halfspace, glyphspace).
 pub(crate) const AFTER_NEUME: Distance = Distance(220);
+
 pub(crate) const SMALL: Distance = Distance(450);
+
 pub(crate) const MEDIUM: Distance = Distance(750);
+
 pub(crate) const HALF: Distance = Distance(120);
+
 pub(crate) const TINY: Distance = Distance(60);
+
 pub(crate) const LARGE: Distance = Distance(1000);
 /// After what is no neume (spaceafterlineclef, spacearounddivisio, alterationspace).
 pub(crate) const AFTER_ALTERATION: Distance = Distance(180);
+
 pub(crate) const AFTER_CLEF: Distance = Distance(700);
+
 pub(crate) const AFTER_BAR: Distance = Distance(500);
+
 pub(crate) const AFTER_CUSTOS: Distance = Distance(400);
 /// Between the NABC of two snippets (nabcinterelementspace).
 pub(crate) const BETWEEN_NEUMES: Distance = Distance(300);
 /// Between two letters that still seem to touch, and around a hyphen.
 pub(crate) const LETTERS_TOUCH: Distance = Distance(80);
+
 pub(crate) const AROUND_HYPHEN: Distance = Distance(200);
 /// Between two translations.
 pub(crate) const BETWEEN_TRANSLATIONS: Distance = Distance(600);
 /// What a custos at a line's end takes, and how far it stands from the end of the staff.
 pub(crate) const CUSTOS: Distance = Distance(900);
+
 pub(crate) const CUSTOS_TO_END: Distance = Distance(50);
 /// After the clef at a line's begin.
 pub(crate) const AFTER_LINE_CLEF: Distance = Distance(800);
 /// From the lowest line of the staff to the text, and from what stands below the staff.
 pub(crate) const TO_TEXT: Distance = Distance(1800);
+
 pub(crate) const BELOW_SIGNS: Distance = Distance(1400);
+
 pub(crate) const BELOW_TEXT: Distance = Distance(500);
 /// From the text to a translation, and below that (translationheight).
 pub(crate) const TO_TRANSLATION: Distance = Distance(1500);
+
 pub(crate) const BELOW_TRANSLATION: Distance = Distance(500);
 /// Over the highest sign, and between rows of NABC, and between these and texts over the staff
 /// (nabcspace, abovelinestextraise).
 pub(crate) const OVER_SIGNS: Distance = Distance(300);
+
 pub(crate) const BETWEEN_ROWS: Distance = Distance(250);
+
 pub(crate) const OVER_ROWS: Distance = Distance(200);
 /// Below a title, and at each side of a picture.
 pub(crate) const BELOW_TITLE: Distance = Distance(1000);
+
 pub(crate) const MARGIN: Distance = Distance(1200);

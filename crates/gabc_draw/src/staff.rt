@@ -33,13 +33,21 @@ impl OneClef {
 
     /// Returns its symbol.
     fn symbol(self) -> Symbol {
-        if self.is_fa { Symbol::FClef } else { Symbol::CClef }
+        if self.is_fa {
+            Symbol::FClef
+        } else {
+            Symbol::CClef
+        }
     }
 
     /// Returns how wide it is, with its flat.
     fn width(self) -> Distance {
         let own = self.symbol().metrics().width;
-        if self.has_flat { own + Distance(60) + Symbol::Flat.metrics().width } else { own }
+        if self.has_flat {
+            own + Distance(60) + Symbol::Flat.metrics().width
+        } else {
+            own
+        }
     }
 
     /// Draws it at `x`.
@@ -85,7 +93,8 @@ impl Clef {
     /// Returns how wide it is.
     pub(crate) fn width(self) -> Distance {
         let own = self.first.width();
-        self.second.map_or(own, |it| own.max(self.second_x(it) + it.width()))
+        self.second
+            .map_or(own, |it| own.max(self.second_x(it) + it.width()))
     }
 
     /// Draws it at `x`.
@@ -119,7 +128,12 @@ pub(crate) fn put_alteration(node: Node, pen: &mut Pen<'_>) -> Result<Distance, 
 }
 
 /// Draws an upright line of a bar, from a height over the lowest line of the staff to another one.
-fn put_upright(x: Distance, low: Distance, high: Distance, pen: &mut Pen<'_>) -> Result<Distance, AllocError> {
+fn put_upright(
+    x: Distance,
+    low: Distance,
+    high: Distance,
+    pen: &mut Pen<'_>,
+) -> Result<Distance, AllocError> {
     pen.rect(x, -high, THIN, high - low)?;
     Ok(x + THIN - pen.x)
 }
@@ -138,15 +152,28 @@ fn put_dotted(top: i32, pen: &mut Pen<'_>) -> Result<Distance, AllocError> {
 fn put_whole_bar(top: Distance, is_final: bool, pen: &mut Pen<'_>) -> Result<Distance, AllocError> {
     let x = pen.x;
     let width = put_upright(x, Distance::ZERO, top, pen)?;
-    if is_final { put_upright(x + Distance(320), Distance::ZERO, top, pen) } else { Ok(width) }
+    if is_final {
+        put_upright(x + Distance(320), Distance::ZERO, top, pen)
+    } else {
+        Ok(width)
+    }
 }
 
-/// Draws the lines of the bar of `node` on a staff whose highest line has the step `top`, and returns
-/// how wide they are.
-fn put_bar_lines(node: Node, is_dotted: bool, top: i32, pen: &mut Pen<'_>) -> Result<Distance, AllocError> {
+/// Draws the lines of the bar of `node` on a staff whose highest line has the step `top`, and
+/// returns how wide they are.
+fn put_bar_lines(
+    node: Node,
+    is_dotted: bool,
+    top: i32,
+    pen: &mut Pen<'_>,
+) -> Result<Distance, AllocError> {
     let x = pen.x;
     let high = -height_of_step(top);
-    let over = if node.b == 1 { high + Distance(1000) } else { high };
+    let over = if node.b == 1 {
+        high + Distance(1000)
+    } else {
+        high
+    };
     match node.a {
         0 => {
             pen.symbol(Symbol::Virgula, x, -over)?;
@@ -158,7 +185,12 @@ fn put_bar_lines(node: Node, is_dotted: bool, top: i32, pen: &mut Pen<'_>) -> Re
             let low = -height_of_step(i32::from(node.b) - 3);
             put_upright(x, low, low + Distance(2000), pen)
         }
-        3 => put_upright(x, Distance(500), (high - Distance(500)).max(Distance(1000)), pen),
+        3 => put_upright(
+            x,
+            Distance(500),
+            (high - Distance(500)).max(Distance(1000)),
+            pen,
+        ),
         5 => put_whole_bar(high, true, pen),
         _ if is_dotted => put_dotted(top, pen),
         _ => put_whole_bar(high, false, pen),
@@ -167,7 +199,12 @@ fn put_bar_lines(node: Node, is_dotted: bool, top: i32, pen: &mut Pen<'_>) -> Re
 
 /// Draws the bar of `node` on a staff of `lines` lines, with its ictus and its brace over it, and
 /// returns how wide it is. `text` is how it is spelled.
-pub(crate) fn put_bar(node: Node, text: &str, lines: i32, pen: &mut Pen<'_>) -> Result<Distance, AllocError> {
+pub(crate) fn put_bar(
+    node: Node,
+    text: &str,
+    lines: i32,
+    pen: &mut Pen<'_>,
+) -> Result<Distance, AllocError> {
     let top = lines.saturating_mul(2).saturating_sub(2);
     let width = put_bar_lines(node, text.contains('?'), top, pen)?;
     let high = height_of_step(top) - OVER;
@@ -184,5 +221,9 @@ pub(crate) fn put_bar(node: Node, text: &str, lines: i32, pen: &mut Pen<'_>) -> 
 /// Returns the custos of this `pitch` on a staff of `lines` lines: its tail goes down if it stands
 /// high.
 pub(crate) fn custos(pitch: u8, lines: i32) -> Symbol {
-    if lines < i32::from(pitch) - 3 { Symbol::CustosDown } else { Symbol::CustosUp }
+    if lines < i32::from(pitch) - 3 {
+        Symbol::CustosDown
+    } else {
+        Symbol::CustosUp
+    }
 }

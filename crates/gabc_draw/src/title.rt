@@ -7,6 +7,7 @@ use gabc_tree::{Kind, Node};
 use std::alloc::AllocError;
 
 const NAME_SIZE: Distance = Distance(2000);
+
 const HEAD_SIZE: Distance = Distance(1200);
 
 /// Returns the bytes of the value of the last header `name` of the tree `nodes` of `input`.
@@ -24,8 +25,8 @@ fn header_bytes(nodes: &[Node], input: &str, name: &str) -> (u32, u32) {
     found
 }
 
-/// Returns the value of the last header `name` of the tree `nodes` of `input`, without blanks at its
-/// ends; nothing if there is none.
+/// Returns the value of the last header `name` of the tree `nodes` of `input`, without blanks at
+/// its ends; nothing if there is none.
 pub(crate) fn header<'a>(nodes: &[Node], input: &'a str, name: &str) -> &'a str {
     let (begin, end) = header_bytes(nodes, input, name);
     text_of(input, begin, end).trim()
@@ -43,8 +44,8 @@ fn words<'a>(text: &'a str, x: Distance, y: Distance, size: Distance, width: Dis
     })
 }
 
-/// Adds the name to `signs`, in the middle of a picture of this `width`, and returns how far down it
-/// goes from `y` on.
+/// Adds the name to `signs`, in the middle of a picture of this `width`, and returns how far down
+/// it goes from `y` on.
 fn put_name<'a>(
     name: &'a str,
     width: Distance,
@@ -60,8 +61,8 @@ fn put_name<'a>(
     Ok(line + Distance(400))
 }
 
-/// Adds what stands over the score to `signs`, in a picture of this `width`, and returns how far down
-/// that goes.
+/// Adds what stands over the score to `signs`, in a picture of this `width`, and returns how far
+/// down that goes.
 pub(crate) fn put_title<'a>(
     nodes: &[Node],
     input: &'a str,
@@ -82,7 +83,13 @@ pub(crate) fn put_title<'a>(
         signs.push(words(annotation, spaces::MARGIN, line, HEAD_SIZE, left))?;
     }
     if !commentary.is_empty() {
-        signs.push(words(commentary, width - spaces::MARGIN - right, line, HEAD_SIZE, right))?;
+        signs.push(words(
+            commentary,
+            width - spaces::MARGIN - right,
+            line,
+            HEAD_SIZE,
+            right,
+        ))?;
     }
     Ok(line + spaces::BELOW_TITLE)
 }

@@ -23,7 +23,11 @@ impl Distance {
 
     /// Returns what each of `count` shares of the distance has; the whole if `count` is below 1.
     pub fn share(self, count: i32) -> Distance {
-        if 1 < count { Distance(self.0 / count) } else { self }
+        if 1 < count {
+            Distance(self.0 / count)
+        } else {
+            self
+        }
     }
 
     /// Returns the distance without its direction.

@@ -97,7 +97,9 @@ impl Single {
     pub fn metrics(self) -> Metrics {
         match self {
             Single::Punctum => Metrics::new(526, 335, 335),
-            Single::PunctumOver | Single::PunctumUnder | Single::Cavum => Metrics::new(580, 340, 340),
+            Single::PunctumOver | Single::PunctumUnder | Single::Cavum => Metrics::new(
+                580, 340, 340,
+            ),
             Single::PunctumAscendens => Metrics::new(526, 478, 348),
             Single::PunctumDescendens => Metrics::new(526, 351, 430),
             Single::PunctumDeminutus => Metrics::new(263, 167, 183),

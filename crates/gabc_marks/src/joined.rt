@@ -58,8 +58,8 @@ impl Joined {
             .fold(family, |key, more| key.saturating_add(*more))
     }
 
-    /// Returns how wide its outline is and how far it goes up and down from its first note, if there
-    /// is an outline of it.
+    /// Returns how wide its outline is and how far it goes up and down from its first note, if
+    /// there is an outline of it.
     pub fn metrics(self) -> Option<Metrics> {
         if 7 < self.first || 7 < self.second || 7 < self.third {
             return None;

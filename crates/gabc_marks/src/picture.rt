@@ -33,15 +33,16 @@ pub struct Levels {
     pub fourth: Distance,
 }
 
-/// A row of the picture: the lowest line of its staff begins at `x`, `y` from above. It has the next `parts`
-/// parts of the picture; the last row has all that are left.
+/// A row of the picture: the lowest line of its staff begins at `x`, `y` from above. It has the
+/// next `parts` parts of the picture; the last row has all that are left.
 #[derive(Debug, Drop)]
 pub struct Row<'a> {
     pub x: Distance,
     pub y: Distance,
     pub levels: Levels,
     pub parts: usize,
-    /// What belongs to no syllable: the staff, the clef at its begin, the custos at its end, hyphens.
+    /// What belongs to no syllable: the staff, the clef at its begin, the custos at its end,
+    /// hyphens.
     pub signs: Vec<Sign<'a>>,
 }
 

@@ -13,8 +13,8 @@ pub enum Sign<'a> {
         x: Distance,
         y: Distance,
     },
-    /// A black rectangle, of which this place is the left end of its top: a stem, a bar, an episema,
-    /// a ledger line.
+    /// A black rectangle, of which this place is the left end of its top: a stem, a bar, an
+    /// episema, a ledger line.
     Rect {
         x: Distance,
         y: Distance,

@@ -9,6 +9,7 @@ use unicode_width::UnicodeWidthChar;
 /// The width of a character that the table lacks, and of one that takes two columns, in thousandths
 /// of the size of the type.
 const USUAL: u32 = 500;
+
 const WIDE: u32 = 1000;
 
 /// How wide each letter of a typewriter is.
@@ -21,8 +22,8 @@ fn known_width(c: char) -> Option<u32> {
     Some(u32::from(WIDTHS.get(at)?.1))
 }
 
-/// Returns how wide `c` is, in thousandths of the size of the type. A mark that stands on the letter
-/// before it takes no room.
+/// Returns how wide `c` is, in thousandths of the size of the type. A mark that stands on the
+/// letter before it takes no room.
 pub fn char_width(c: char) -> u32 {
     if let Some(width) = known_width(c) {
         return width;

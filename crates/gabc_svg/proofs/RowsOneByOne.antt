@@ -10,6 +10,6 @@ use Rattle.gabc_svg.specs.Xml.{written}
 -- a row has its parts of those after the passed ones, and the other rows have the rest
 pub one_row : (row : Row) (more : List Row) (parts : List Part) (passed : ℕ)
     → written (rows_content (row ∷ more) (drop passed parts))
-        ≡ written (row_content row (parts_here row more parts passed))
-            ++ written (rows_content more (drop (passed + parts_in row more (length parts - passed)) parts))
+    ≡ written (row_content row (parts_here row more parts passed))
+    ++ written (rows_content more (drop (passed + parts_in row more (length parts - passed)) parts))
 one_row row more parts passed = grind (arith, written-and_then, length-drop {A = Part}, drop-drop {A = Part})

@@ -116,7 +116,7 @@ parts_content ls (p ∷ parts) = and_then (part_content ls p) (parts_content ls 
 unfoldable pub row_content : Row → List Part → Content
 row_content row parts =
     Element tag.Group (valued name.Class (codes "row") ∷ moved_to row.x.0 row.y.0 ∷ [])
-        (and_then (signs_content row.levels row.signs.items) (parts_content row.levels parts)) Nothing
+    (and_then (signs_content row.levels row.signs.items) (parts_content row.levels parts)) Nothing
 
 -- how many of so many parts stand in a row before these rows: the last row has all that are left
 abbrev pub parts_in : Row → List Row → ℕ → ℕ
@@ -131,7 +131,7 @@ abbrev pub rows_content : List Row → List Part → Content
 rows_content [] parts = Nothing
 rows_content (row ∷ rows) parts =
     and_then (row_content row (parts_here row rows parts 0))
-        (rows_content rows (drop (parts_in row rows (length parts)) parts))
+    (rows_content rows (drop (parts_in row rows (length parts)) parts))
 
 -- ---- the picture
 
@@ -155,5 +155,5 @@ flat_levels =
 abbrev pub page_of : Picture → Content
 page_of p =
     Element tag.Svg (root_attributes p)
-        (and_then (title_content p.name.now)
-        (and_then (signs_content flat_levels p.title.items) (rows_content p.rows.items p.parts.items))) Nothing
+    (and_then (title_content p.name.now)
+    (and_then (signs_content flat_levels p.title.items) (rows_content p.rows.items p.parts.items))) Nothing

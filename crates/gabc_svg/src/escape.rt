@@ -30,8 +30,8 @@ fn put_char<S: Put>(c: char, out: &mut S)
     out.put(c.encode_utf8(&mut buffer).as_bytes());
 }
 
-/// Puts the picture of the control character `c`, which stands below the blank; a blank for a tab or
-/// an LF.
+/// Puts the picture of the control character `c`, which stands below the blank; a blank for a tab
+/// or an LF.
 fn put_control<S: Put>(c: u8, out: &mut S)
     requires { c < 32 }
     ensures { out.new ≡ S.taken out.old (escaped_control c) }

@@ -6,7 +6,6 @@
 #![tactic(auto)]
 
 mod escape;
-
 mod outline_names;
 mod page;
 mod signs;

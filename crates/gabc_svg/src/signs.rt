@@ -73,7 +73,7 @@ fn put_symbol<S: Put>(symbol: Symbol, x: Distance, y: Distance, out: &mut S)
 
 /// Puts the place and the size of a rectangle, and ends its tag.
 fn put_sides<S: Put>(x: Distance, y: Distance, width: Distance, height: Distance, out: &mut S)
-    ensures { out.new ≡ S.taken out.old 
+    ensures { out.new ≡ S.taken out.old
         (written_attributes (sides x.0 y.0 width.0 height.0) ++ codes "/>") }
 {
     put_distance(Name::X, x, out);
@@ -109,7 +109,12 @@ fn put_sign<S: Put>(levels: Levels, sign: Sign<'_>, out: &mut S)
 {
     match sign {
         Sign::Symbol { symbol, x, y } => put_symbol(symbol, x, y, out),
-        Sign::Rect { x, y, width, height } => put_rect(x, y, width, height, out),
+        Sign::Rect {
+            x,
+            y,
+            width,
+            height,
+        } => put_rect(x, y, width, height, out),
         Sign::StaffLine { x, y, width } => put_staff_line(x, y, width, out),
         Sign::Words(words) => put_words(levels, words, out),
     }

@@ -100,9 +100,21 @@ fn write_picture(rt: &HostRuntime, path: &str) -> io::Result<()> {
     let tree = tree_of(rt.alloc(), bytes.as_slice(), largest())?;
     let mut counter = ByteCounter::new();
     let options = Options::usual();
-    draw(rt.alloc(), tree.nodes(), bytes.as_slice(), options, &mut counter)?;
+    draw(
+        rt.alloc(),
+        tree.nodes(),
+        bytes.as_slice(),
+        options,
+        &mut counter,
+    )?;
     let mut picture = Room::with_limit(rt.alloc(), counter.count())?;
-    draw(rt.alloc(), tree.nodes(), bytes.as_slice(), options, &mut picture)?;
+    draw(
+        rt.alloc(),
+        tree.nodes(),
+        bytes.as_slice(),
+        options,
+        &mut picture,
+    )?;
     rt.stdout().write_all(picture.slice())
 }
 
