@@ -3,8 +3,9 @@
 use crate::digest::digest_of;
 use crate::trial::{Trial, try_call};
 use gabc_body::Syllables;
+use gabc_draw::{Options, draw};
 use gabc_headers::{headers_whole, headers_whole_with_hasher};
-use gabc_places::{Limits, Memory, Text, text_of};
+use gabc_places::{ByteCounter, Limits, Memory, Text, text_of};
 use gabc_score::{InputEnding, score_whole, score_whole_with_hasher};
 use gabc_tree::{tree_of, tree_of_with_hasher};
 use gregorio::{Outcome, SourceEnding};
@@ -23,6 +24,7 @@ enum Whole {
     Syllables,
     Tree,
     HashedTree,
+    Drawing,
     Outcome,
     HashedOutcome,
 }
@@ -38,6 +40,7 @@ fn named(name: &str) -> Option<Whole> {
         "gabc_body::Syllable::copy" | "gabc_body::Syllables::push" => Whole::Syllables,
         "gabc_tree::tree_of" => Whole::Tree,
         "gabc_tree::tree_of_with_hasher" => Whole::HashedTree,
+        "gabc_draw::draw" => Whole::Drawing,
         "gregorio::Outcome::of" => Whole::Outcome,
         "gregorio::Outcome::of_with_hasher" => Whole::HashedOutcome,
         _ => return None,
@@ -106,6 +109,14 @@ fn hashed_tree(alloc: Global, bytes: &[u8]) -> Result<u64, AllocError> {
     Ok(digest_of(&tree))
 }
 
+/// Returns a digest of how many bytes the picture of `bytes` has.
+fn drawing(alloc: Global, bytes: &[u8]) -> Result<u64, AllocError> {
+    let tree = tree_of(alloc, bytes, Limits::DEFAULT)?;
+    let mut picture = ByteCounter::new();
+    draw(alloc, tree.nodes(), bytes, Options::usual(), &mut picture)?;
+    Ok(digest_of(&picture.count()))
+}
+
 /// Returns a digest of an outcome, which is let go.
 fn digest_of_outcome(outcome: Outcome) -> u64 {
     let digest = digest_of(&outcome.score);
@@ -152,6 +163,7 @@ impl Trial for OfScore {
             Whole::Syllables => syllables(alloc, &self.text),
             Whole::Tree => tree(alloc, bytes),
             Whole::HashedTree => hashed_tree(alloc, bytes),
+            Whole::Drawing => drawing(alloc, bytes),
             Whole::Outcome => outcome(alloc, bytes),
             Whole::HashedOutcome => hashed_outcome(alloc, bytes),
         }
