@@ -160,6 +160,14 @@ uint32_t gregorio_messages(const uint8_t *score, size_t score_length, uint32_t f
 uint32_t gregorio_tree(const uint8_t *score, size_t score_length, const uint64_t *key, size_t key_length, struct gregorio_node *nodes,
                        size_t nodes_capacity, size_t *count);
 
+/* Reads the score, and writes its picture into `picture`, as SVG, and the number of its bytes into `count`. If `picture` is too small for it, that
+ * stays as it was. `width` is how wide the picture is, in thousandths of a staff space: at least 12,000; 0 stands for 72,000. The outlines of notes and
+ * signs are references by their names, as `#punctum`: docs/PICTURES.md says where the outlines are had.
+ *
+ * Returns GREGORIO_WHOLE for every score. At GREGORIO_NO_MEMORY both stay as they were. */
+uint32_t gregorio_draw(const uint8_t *score, size_t score_length, uint32_t width, const uint64_t *key, size_t key_length, uint8_t *picture,
+                       size_t picture_capacity, size_t *count);
+
 /* A run: a score in pieces.
  *
  * `gregorio_begin` writes its first state, `gregorio_feed` takes a piece of the input, of any length, and `gregorio_end` ends it. The outputs of

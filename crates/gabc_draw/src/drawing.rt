@@ -48,15 +48,18 @@ fn staff_lines(value: &str) -> i32 {
     }
 }
 
-/// Returns the picture of the tree `nodes` of `input`.
-fn picture_of<'a>(
+/// Returns the picture of the score `input`, whose tree is `nodes`: it shows each note of the tree
+/// once for each time that it sounds, in order, at the height of its pitch, and each syllable with
+/// its bytes. It fails only for want of memory.
+pub fn picture_of<'a>(
     alloc: Global,
     nodes: &[Node],
-    input: &'a str,
+    input: &'a [u8],
     options: Options,
 ) -> Result<Picture<'a>, AllocError>
     ensures { IfOk result (IsPictureOf nodes.now) }
 {
+    let input = valid_front(input);
     let width = options.width.max(LEAST_WIDTH);
     let staff = Staff {
         width: width - spaces::MARGIN - spaces::MARGIN,
@@ -90,10 +93,8 @@ fn picture_of<'a>(
     })
 }
 
-/// Draws the score `input`, whose tree is `nodes`, and puts the text of the picture into `out`: the
-/// XML of a picture that shows each note of the tree once for each time that it sounds, in order,
-/// at the height of its pitch, and each syllable with its bytes. It fails only for want of memory,
-/// and nothing is put then.
+/// Draws the score `input`, whose tree is `nodes`, and puts the text of its picture, which is an XML
+/// tree, into `out`. It fails only for want of memory, and nothing is put then.
 pub fn draw<P: Put>(
     alloc: Global,
     nodes: &[Node],
@@ -104,7 +105,7 @@ pub fn draw<P: Put>(
     ensures drawn { IfOk result (λ _. Draws P.taken nodes.now out.old out.new) }
     ensures unchanged { OnErr result (out.new ≡ out.old) }
 {
-    let picture = picture_of(alloc, nodes, valid_front(input), options)?;
+    let picture = picture_of(alloc, nodes, input, options)?;
     put_picture(&picture, out);
     Ok(())
 }

@@ -32,4 +32,4 @@ mod spaces;
 mod staff;
 mod title;
 
-pub use drawing::{Options, draw};
+pub use drawing::{Options, draw, picture_of};

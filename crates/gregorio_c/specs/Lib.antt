@@ -3,6 +3,7 @@ pub mod Answers
 pub mod Asked
 pub mod InPieces
 pub mod Messages
+pub mod Picture
 pub mod Request
 pub mod StepAnswers
 pub mod Steps

@@ -18,6 +18,7 @@ mod message;
 mod message_ends;
 mod messages;
 mod options;
+mod picture;
 mod pieces;
 mod request;
 mod step;
@@ -27,6 +28,7 @@ mod tree_node;
 
 ghost use Rattle.std.specs.Prelude.{◌≡◌, ◌≤◌, ◌⊎◌, None, IfSome};
 ghost use Rattle.gregorio_c.specs.Answers.{Answer, MessagesAnswer};
+ghost use Rattle.gregorio_c.specs.Picture.{PictureAnswer};
 ghost use Rattle.gregorio_c.specs.Request.{request_by, warnings_by};
 ghost use Rattle.gregorio_c.specs.Tree.{TreeAnswer};
 
@@ -35,6 +37,7 @@ pub use lengths::Lengths;
 pub use message::Message;
 use messages::tell_messages;
 pub use options::Options;
+use picture::tell_picture;
 pub use pieces::{
     gregorio_begin, gregorio_broken, gregorio_end, gregorio_feed, gregorio_state_bound,
 };
@@ -47,7 +50,7 @@ pub use tree_node::TreeNode;
 /// What is answered where a number of the format or of the flags is not known.
 const REFUSED: u32 = 3;
 
-/// What is answered where a tree is made.
+/// What is answered where a tree or a picture is made.
 const MADE: u32 = 0;
 
 /// What is answered where there is no memory.
@@ -129,6 +132,32 @@ pub extern "C" fn gregorio_tree(
     ensures unchanged { result ≡ 5 → (nodes.new ≡ nodes.old) × (count.new ≡ count.old) }
 {
     match tell_tree(alloc, key, score, nodes, count) {
+        Ok(()) => MADE,
+        Err(_) => NO_MEMORY,
+    }
+}
+
+/// Reads `score`, puts its picture into `picture`, as SVG with references to the outlines of notes by
+/// their names, and the number of its bytes into `count`. If `picture` is too small for it, that stays
+/// as it was. `width` is how wide it is, in thousandths of a staff space: at least 12,000, or 0 for
+/// 72,000. `key` as for `gregorio_compile`.
+///
+/// Returns 0 for every score, and 5 if there is no memory; `picture` and `count` stay as they were
+/// then.
+#[unsafe(no_mangle)]
+pub extern "C" fn gregorio_draw(
+    alloc: Global,
+    score: &[u8],
+    width: u32,
+    key: &[u64],
+    picture: &mut [u8],
+    count: &mut usize,
+) -> u32
+    ensures answer { (result ≡ 0) ⊎ (result ≡ 5) }
+    ensures answered { result ≡ 0 → PictureAnswer score.now picture.old picture.new count.new }
+    ensures unchanged { result ≡ 5 → (picture.new ≡ picture.old) × (count.new ≡ count.old) }
+{
+    match tell_picture(alloc, key, score, width, picture, count) {
         Ok(()) => MADE,
         Err(_) => NO_MEMORY,
     }
