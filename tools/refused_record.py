@@ -1,8 +1,9 @@
 """The record of the wrong bodies that the prover has refused: `crates/CRATE/wrong_bodies.lock`, for `tools/try_wrong_bodies`, which alone writes it.
 
-A line of the record stands for a batch of edits that were all refused: a checksum, how many edits the batch has, and the name of the first. The checksum is
-that of all on which the verdicts rest: the edits; source, specs and proofs of the crate and of each crate below it; the line of `crates.txt` of each; the
-kit. Where one of these changes, the line says nothing any more, and the batch is tried again.
+A line of the record stands for a batch of edits that were all refused: a checksum, how many edits the batch has, the name of the first, and the kits by which
+they were refused. The checksum is that of all sources on which the verdicts rest: the edits; source, specs and proofs of the crate and of each crate below it;
+the line of `crates.txt` of each. If one of these changes, or for another kit, the line says nothing, and the batch is tried again. A kit that a line names
+stays there: two machines with two kits keep one record.
 
 A record can be wrong: somebody may have written it by hand. So each run also tries one batch that the record has, and which one it is hangs on all sources
 and edits of the tree (`drawn`)."""
@@ -12,8 +13,8 @@ import os
 
 NAME = "wrong_bodies.lock"
 # The number of the way in which a verdict is found. Whoever changes what counts as refused gives it the next one.
-WAY = 1
-HEAD = "# Written by tools/try_wrong_bodies: batches of edits that were all refused, each by the checksum of what that rests on. Not to be edited.\n"
+WAY = 2
+HEAD = "# Written by tools/try_wrong_bodies: batches of edits that were all refused, each by the checksum of what that rests on, and by which kits. Not to be edited.\n"
 
 
 def files_below(folder):
@@ -45,6 +46,8 @@ class Sums:
 
     def __init__(self, root, kit):
         self.root, self.kit, self.proved = root, kit, {}
+        # The kit's name: the first word of its line.
+        self.name = kit.split()[0]
         with open(f"{root}/crates.txt", encoding="utf-8") as file:
             self.lines = {line.split(":")[0].split()[0]: line.strip() for line in file if ":" in line.partition("#")[0]}
 
@@ -59,7 +62,7 @@ class Sums:
         """Returns the checksum of all on which the verdicts on a batch of edits of the crate rest."""
         below = sorted(self.of_crate(it) for it in crate.below())
         edits = sorted(repr((it.key, it.file, it.within, it.by, it.pairs)) for it in batch)
-        return sum_of([str(WAY), self.kit, self.of_crate(crate), *below, *edits])
+        return sum_of([str(WAY), self.of_crate(crate), *below, *edits])
 
     def of_tree(self, crates):
         """Returns the checksum of these crates with their edits."""
@@ -72,22 +75,29 @@ class Record:
 
     def __init__(self, sums, crate):
         self.sums, self.crate, self.path = sums, crate, f"{crate.folder}/{NAME}"
-        self.kept = set()
+        # The kits by which each batch was refused, by its checksum.
+        self.kept = {}
         if os.path.isfile(self.path):
             with open(self.path, encoding="utf-8") as file:
-                self.kept = {line.split()[0] for line in file if line.strip() and not line.startswith("#")}
+                lines = [line.split() for line in file if line.strip() and not line.startswith("#")]
+            self.kept = {words[0]: set(words[3:]) for words in lines}
 
     def has(self, batch):
         """Returns whether the record says that the batch was refused."""
-        return self.sums.of_batch(self.crate, batch) in self.kept
+        return self.sums.name in self.kept.get(self.sums.of_batch(self.crate, batch), ())
 
     def note(self, batch, is_refused):
         """Notes whether the whole batch was refused."""
-        (self.kept.add if is_refused else self.kept.discard)(self.sums.of_batch(self.crate, batch))
+        kits = self.kept.setdefault(self.sums.of_batch(self.crate, batch), set())
+        (kits.add if is_refused else kits.discard)(self.sums.name)
 
     def write(self, batches):
         """Writes the record of these batches, all that the crate has: no line stays for what is no batch any more."""
-        lines = [f"{self.sums.of_batch(self.crate, it)} {len(it)} {it[0].key}\n" for it in batches if self.has(it)]
+        lines = []
+        for batch in batches:
+            of_batch = self.sums.of_batch(self.crate, batch)
+            if kits := sorted(self.kept.get(of_batch, ())):
+                lines.append(f"{of_batch} {len(batch)} {batch[0].key} {' '.join(kits)}\n")
         with open(self.path, "w", encoding="utf-8") as file:
             file.writelines([HEAD, *sorted(lines)])
 

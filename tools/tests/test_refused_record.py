@@ -79,6 +79,19 @@ class RecordTest(unittest.TestCase):
         self.write("crates.txt", FILES["crates.txt"].replace("high: low", "high: low memchr"))
         self.assertFalse(self.record().has(self.batch))
 
+    def test_keeps_what_another_kit_has_refused(self):
+        self.keep(self.batch)
+        other = self.record("kit-2")
+        other.note(self.batch, True)
+        other.write([self.batch])
+        self.assertTrue(self.record("kit-1").has(self.batch))
+        self.assertTrue(self.record("kit-2").has(self.batch))
+        last = self.record("kit-2")
+        last.note(self.batch, False)
+        last.write([self.batch])
+        self.assertTrue(self.record("kit-1").has(self.batch))
+        self.assertFalse(self.record("kit-2").has(self.batch))
+
     def test_is_stale_after_a_changed_edit_alone(self):
         self.keep(self.batch, [edit("other")])
         self.assertFalse(self.record().has([edit("two_is_lost", new="c"), edit("two_is_late")]))
