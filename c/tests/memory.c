@@ -68,6 +68,10 @@ static uint32_t list_nodes(const struct test_case *it, struct gregorio_lengths *
   return gregorio_tree(it->input.bytes, it->input.length, NULL, 0, nodes, sizeof nodes / sizeof *nodes, &lengths->output);
 }
 
+static uint32_t draw(const struct test_case *it, struct gregorio_lengths *lengths) {
+  return gregorio_draw(it->input.bytes, it->input.length, 0, NULL, 0, output, sizeof output, &lengths->output);
+}
+
 static uint32_t begin(const struct test_case *it, struct gregorio_lengths *lengths) {
   struct gregorio_step step = {lengths->output, 0, lengths->messages};
   uint32_t status = gregorio_begin(it->format, it->flags, NULL, 0, state, sizeof state, &step);
@@ -162,6 +166,7 @@ static void try_case(const struct test_case *it, size_t number) {
   try_call(compile, it, number);
   try_call(list_messages, it, number);
   try_call(list_nodes, it, number);
+  try_call(draw, it, number);
   try_call(begin, it, number);
   if (run_to_the_middle(it)) {
     middles++;

@@ -40,7 +40,7 @@ fn named(name: &str) -> Option<Whole> {
         "gabc_body::Syllable::copy" | "gabc_body::Syllables::push" => Whole::Syllables,
         "gabc_tree::tree_of" => Whole::Tree,
         "gabc_tree::tree_of_with_hasher" => Whole::HashedTree,
-        "gabc_draw::draw" => Whole::Drawing,
+        "gabc_draw::draw" | "gabc_draw::picture_of" => Whole::Drawing,
         "gregorio::Outcome::of" => Whole::Outcome,
         "gregorio::Outcome::of_with_hasher" => Whole::HashedOutcome,
         _ => return None,
