@@ -1,2 +1,3 @@
+pub mod EscapedTexts
 pub mod Written
 pub mod RowsOneByOne

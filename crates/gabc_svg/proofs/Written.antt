@@ -1,8 +1,7 @@
 -- The text of joined contents, and of joined attributes.
 use Rattle.std.proofs.Common.{◌≡◌, ◌++◌, ◌∷◌, [], List, refl, ap, sym, ◌∙◌, append_assoc, append-nil, ℕ, arith}
 use Rattle.std.proofs.lemmas.List.Concat.{flat_map-append}
-use Rattle.gabc_svg.specs.Escape.{escaped}
-use Rattle.gabc_svg.specs.Xml.{Attribute, Content, Nothing, Characters, Element, Empty, and_then, written, written_attribute, written_attributes, opened, closed}
+use Rattle.gabc_svg.specs.Xml.{Attribute, Content, Nothing, Characters, Element, Empty, and_then, written, written_attribute, written_attributes}
 
 -- what stands after a content stands after its text
 pub written-and_then : (a b : Content) → written (and_then a b) ≡ written a ++ written b

@@ -1,5 +1,5 @@
 -- What holds of every text of a picture.
-use Rattle.std.specs.Prelude.{ℕ, Bool, ◌≡◌, true, false, not, ◌&&◌, ◌||◌, ◌==◌, nat_lt, List, [], ◌∷◌}
+use Rattle.std.specs.Prelude.{ℕ, Bool, ◌≡◌, true, not, ◌||◌, ◌==◌, nat_lt, List}
 use Rattle.std.specs.List.{list_all}
 use Rattle.gabc_svg.specs.Escape.{escaped}
 

@@ -6,6 +6,7 @@
 #![tactic(auto)]
 
 mod escape;
+pub mod laws;
 mod outline_names;
 mod page;
 mod signs;

@@ -1,11 +1,9 @@
-use Rattle.std.proofs.Common.{◌≡◌, ◌++◌, ◌∷◌, [], List, ℕ, refl, sym, ap, ◌∙◌, append-nil, arith, rules}
+use Rattle.std.proofs.Common.{append-nil, arith}
 use Rattle.std.specs.List.{flat_map}
-use Rattle.std.specs.Str.{chars}
 use Rattle.std.specs.Str.Iter.{chars_rest}
-use Rattle.std.proofs.lemmas.Grind.{common_steps}
 use Rattle.std.proofs.lemmas.Str.{chars_past_char, IsUtf8-past_char}
 use Rattle.gabc_places.proofs.texts.CharactersOfStrings.{chars-none}
-use Rattle.gabc_svg.specs.Escape.{escaped, escaped_char}
+use Rattle.gabc_svg.specs.Escape.{escaped}
 use Rattle.gabc_svg.proofs.escape.put_escaped.Goals as goal
 
 pub loop-c-init : goal.loop-c-init

@@ -1,4 +1,4 @@
-use Rattle.std.proofs.Common.{arith, append_assoc, append-nil}
+use Rattle.std.proofs.Common.{arith}
 use Rattle.std.proofs.lemmas.Grind.{common_steps}
 use Rattle.gabc_svg.proofs.Written.{written-and_then, written-nothing}
 use Rattle.gabc_svg.proofs.signs.put_signs.Goals as goal
