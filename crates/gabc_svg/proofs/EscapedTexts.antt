@@ -46,7 +46,7 @@ one_is_data : (control and less greater quote hidden : Bool) (picture plain : Li
     → list_all is_data picture ≡ true
     → (control ≡ false → less ≡ false → greater ≡ false → quote ≡ false → list_all is_data plain ≡ true)
     → list_all is_data (cond control picture (cond and (codes "&amp;") (cond less (codes "&lt;") (cond greater (codes "&gt;")
-        (cond quote (codes "&quot;") (cond hidden (encode_utf8 65533) plain)))))) ≡ true
+    (cond quote (codes "&quot;") (cond hidden (encode_utf8 65533) plain)))))) ≡ true
 one_is_data true and less greater quote hidden picture plain p q = p
 one_is_data false true less greater quote hidden picture plain p q = refl
 one_is_data false false true greater quote hidden picture plain p q = refl

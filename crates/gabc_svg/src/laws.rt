@@ -6,5 +6,4 @@ ghost use Rattle.gabc_svg.specs.Laws.{EscapedStays};
 #[tactic(auto, using(crate::proofs::EscapedTexts::escaped_stays))]
 pub fn escaped_texts_stay()
     ensures { EscapedStays }
-{
-}
+{}
