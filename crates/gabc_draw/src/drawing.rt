@@ -93,8 +93,8 @@ pub fn picture_of<'a>(
     })
 }
 
-/// Draws the score `input`, whose tree is `nodes`, and puts the text of its picture, which is an XML
-/// tree, into `out`. It fails only for want of memory, and nothing is put then.
+/// Draws the score `input`, whose tree is `nodes`, and puts the text of its picture, which is an
+/// XML tree, into `out`. It fails only for want of memory, and nothing is put then.
 pub fn draw<P: Put>(
     alloc: Global,
     nodes: &[Node],

@@ -137,10 +137,10 @@ pub extern "C" fn gregorio_tree(
     }
 }
 
-/// Reads `score`, puts its picture into `picture`, as SVG with references to the outlines of notes by
-/// their names, and the number of its bytes into `count`. If `picture` is too small for it, that stays
-/// as it was. `width` is how wide it is, in thousandths of a staff space: at least 12,000, or 0 for
-/// 72,000. `key` as for `gregorio_compile`.
+/// Reads `score`, puts its picture into `picture`, as SVG with references to the outlines of notes
+/// by their names, and the number of its bytes into `count`. If `picture` is too small for it, that
+/// stays as it was. `width` is how wide it is, in thousandths of a staff space: at least 12,000, or
+/// 0 for 72,000. `key` as for `gregorio_compile`.
 ///
 /// Returns 0 for every score, and 5 if there is no memory; `picture` and `count` stay as they were
 /// then.

@@ -29,7 +29,8 @@ fn options_of(width: u32) -> Options {
     }
 }
 
-/// Returns how many bytes the text of `picture` has. It fails if there are more than can be counted.
+/// Returns how many bytes the text of `picture` has. It fails if there are more than can be
+/// counted.
 fn length_of(picture: &Picture<'_>) -> Result<usize, AllocError>
     ensures { IfOk result (λ count. count ≡ length (written (page_of picture.now))) }
 {
@@ -47,13 +48,7 @@ fn put_text(picture: &Picture<'_>, count: usize, buf: &mut [u8])
     ensures { IsPut (written (page_of picture.now)) buf.old buf.new }
 {
     let start = start_of(buf, count);
-    put_picture(
-        picture,
-        &mut BufferFiller {
-            buf,
-            len: start,
-        },
-    );
+    put_picture(picture, &mut BufferFiller { buf, len: start });
 }
 
 /// Reads `score`, and puts its picture of this `width` into `buf`, if there is room for it, and the
