@@ -1,0 +1,270 @@
+"""Writes the tables that are made of the outlines and the widths of letters of the Python package:
+those of the crate `gabc_marks`, and the outlines by the names that the core gives to them, for
+JavaScript. `tools/make_symbols` calls it, and `tools/tests/test_outlines.py` compares.
+
+Usage: outline_tables.py"""
+
+from __future__ import annotations
+
+import json
+import re
+import runpy
+from collections.abc import Iterable, Iterator
+from pathlib import Path
+from typing import NamedTuple
+
+ROOT = Path(__file__).resolve().parent.parent
+PICTURE = ROOT / "python" / "gregorio_chant" / "picture"
+MARKS = ROOT / "crates" / "gabc_marks" / "src"
+SCRIPT = ROOT / "js" / "src" / "outlines.js"
+# A line of a table of a crate has no more columns.
+COLUMNS = 99
+# The families of joined outlines, in the order of their numbers: the name that the core gives to
+# each, the name in the font, and how many steps it has.
+FAMILIES = (
+    ("pes", "Pes", 1),
+    ("pes-quadratum", "PesQuadratum", 1),
+    ("pes-quassus", "PesQuassus", 1),
+    ("quilisma-pes", "QuilismaPes", 1),
+    ("quilisma-pes-quadratum", "QuilismaPesQuadratum", 1),
+    ("clivis", "Flexus", 1),
+    ("clivis-oriscus", "FlexusOriscus", 1),
+    ("torculus", "Torculus", 2),
+    ("torculus-quilisma", "TorculusQuilisma", 2),
+    ("porrectus", "Porrectus", 2),
+    ("scandicus", "Scandicus", 2),
+    ("salicus", "Salicus", 2),
+    ("torculus-resupinus", "TorculusResupinus", 3),
+    ("torculus-resupinus-quilisma", "TorculusResupinusQuilisma", 3),
+    ("porrectus-flexus", "PorrectusFlexus", 3),
+)
+STEPS = ("One", "Two", "Three", "Four", "Five")
+ENDINGS = ("", "Deminutus", "Ascendens", "Descendens")
+# The outlines of one note, and the signs, by the names of the core. A name that is not here is that
+# of a shape of the project.
+OF_FONT = {
+    "punctum": "Punctum",
+    "punctum-ascendens": "PunctumAscendens",
+    "punctum-descendens": "PunctumDescendens",
+    "punctum-deminutus": "PunctumDeminutus",
+    "inclinatum": "DescendensPunctumInclinatum",
+    "inclinatum-auctus": "PunctumInclinatumAuctus",
+    "inclinatum-deminutus": "PunctumInclinatumDeminutus",
+    "stropha": "Stropha",
+    "stropha-aucta": "StrophaAucta",
+    "quilisma": "Quilisma",
+    "oriscus-up": "AscendensOriscus",
+    "oriscus-down": "DescendensOriscus",
+    "oriscus-up-scapus": "AscendensOriscusScapus",
+    "oriscus-down-scapus": "DescendensOriscusScapus",
+    "oriscus-deminutus": "OriscusDeminutus",
+    "linea": "Linea",
+    "linea-punctum": "LineaPunctum",
+    "virga": "Virga",
+    "virga-reversa": "VirgaReversa",
+    "virga-reversa-ascendens": "VirgaReversaAscendens",
+    "virga-reversa-descendens": "VirgaReversaDescendens",
+    "c-clef": "CClef",
+    "f-clef": "FClef",
+    "flat": "Flat",
+    "natural": "Natural",
+    "sharp": "Sharp",
+    "custos-up": "CustosUpMedium",
+    "custos-down": "CustosDownMedium",
+}
+STROKES = {f"stroke-{it}": f"porrectus-{it}" for it in range(1, 6)}
+OWN = (
+    *("punctum-over", "punctum-under", "cavum", "inclinatum-cavum", "mora", "tail-up", "tail-down"),
+    *("virgula", "accent", "grave", "circle", "lower-arc", "upper-arc", "brace"),
+    *("bracket-left", "bracket-right"),
+)
+
+
+class Outline(NamedTuple):
+    """An outline: its path, how wide it is, and how far it goes up and down from its origin, in
+    tenths of a staff space."""
+
+    path: str
+    width: float
+    up: float
+    down: float
+
+    @property
+    def thousandths(self) -> tuple[int, int, int]:
+        """The width, up and down in thousandths of a staff space."""
+        return round(self.width * 100), round(self.up * 100), round(self.down * 100)
+
+
+class Joined(NamedTuple):
+    """Which notes a joined outline shows: the number of its family, by how many steps each note is
+    higher or lower than the one before, whether it begins with an initio debilis, and the number of
+    its ending."""
+
+    family: int
+    steps: tuple[int, int, int]
+    is_debilis: bool
+    ending: int
+
+    @property
+    def key(self) -> int:
+        """The number by which the table of the crate has it."""
+        first, second, third = self.steps
+        number = self.family * 4096 + first * 512 + second * 64 + third * 8
+        return number + 4 * self.is_debilis + self.ending
+
+    @property
+    def name(self) -> str:
+        """The name that the core gives to it."""
+        ending = ENDINGS[self.ending].lower()
+        parts = (
+            FAMILIES[self.family][0],
+            "".join(map(str, self.steps)),
+            *(["debilis"] if self.is_debilis else []),
+            *([ending] if ending else []),
+        )
+        return "-".join(parts)
+
+
+_GLYPH = re.compile(
+    f"({'|'.join(it[1] for it in FAMILIES)})((?:{'|'.join(STEPS)})+)"
+    f"(InitioDebilis)?({'|'.join(ENDINGS[1:])}|Nothing)?"
+)
+
+
+def font_outlines() -> dict[str, Outline]:
+    """Returns the outlines of square notes by the names of the font."""
+    lines = (PICTURE / "symbols" / "square.tsv").read_text(encoding="utf-8").splitlines()
+    rows = (it.split("\t") for it in lines if not it.startswith("#"))
+    return {
+        name: Outline(path, float(width), float(up), float(down))
+        for name, width, up, down, path in rows
+    }
+
+
+def own_outlines() -> dict[str, Outline]:
+    """Returns the shapes of the project by their names."""
+    shapes = runpy.run_path(str(PICTURE / "shapes.py"))["SHAPES"]
+    return {name: Outline(*shape) for name, shape in shapes.items()}
+
+
+def joined_of(glyph: str) -> Joined | None:
+    """Returns what a glyph of the font shows, if it is a joined outline that the core draws."""
+    found = _GLYPH.fullmatch(glyph)
+    if found is None:
+        return None
+    family, words, debilis, ending = found.groups()
+    steps = [STEPS.index(it) + 1 for it in re.findall("|".join(STEPS), words)]
+    first, second, third = (*steps, 0, 0)[:3]
+    number = [it[1] for it in FAMILIES].index(family)
+    known = ENDINGS.index(ending) if ending in ENDINGS else 0
+    return Joined(number, (first, second, third), debilis is not None, known)
+
+
+def joined_outlines() -> list[tuple[Joined, Outline]]:
+    """Returns the joined outlines in the order of their numbers."""
+    found = ((joined_of(glyph), outline) for glyph, outline in font_outlines().items())
+    return sorted(((it, outline) for it, outline in found if it), key=lambda it: it[0].key)
+
+
+def named_outlines() -> dict[str, Outline]:
+    """Returns all outlines by the names that the core gives to them."""
+    font, own = font_outlines(), own_outlines()
+    return {
+        **{name: font[glyph] for name, glyph in OF_FONT.items()},
+        **{name: own[name] for name in OWN},
+        **{name: own[shape] for name, shape in STROKES.items()},
+        **{joined.name: outline for joined, outline in joined_outlines()},
+    }
+
+
+def letter_widths() -> list[tuple[int, int]]:
+    """Returns the characters in order, each with its width."""
+    widths = runpy.run_path(str(PICTURE / "widths.py"))["_BY_WIDTH"]
+    return sorted((ord(it), width) for width, letters in widths.items() for it in letters)
+
+
+# ---- the tables of the crate
+
+
+def filled(items: Iterable[str]) -> Iterator[str]:
+    """Yields lines of a table with as many items as there is room for."""
+    line = "   "
+    for item in items:
+        if len(line) + len(item) + 2 > COLUMNS:
+            yield line
+            line = "   "
+        line += f" {item},"
+    yield line
+
+
+def with_rows(path: Path, rows: Iterable[tuple[int, ...]]) -> str:
+    """Returns the text of a source of the crate with these rows in its table."""
+    items = [f"({', '.join(map(str, it))})" for it in rows]
+    text = path.read_text(encoding="utf-8")
+    text = re.sub(r"const COUNT: usize = \d+;", f"const COUNT: usize = {len(items)};", text)
+    table = "\n".join(filled(items))
+    return re.sub(r"(; COUNT\] = \[\n).*?(\n\];)", rf"\g<1>{table}\2", text, flags=re.DOTALL)
+
+
+# ---- the outlines for JavaScript
+
+_SCRIPT = """\
+// The outlines of notes and signs, by the names that a picture of the core has for them: each with \
+its width and its path, in tenths of a staff space, around its
+// origin. `tools/make_symbols` makes this file.
+
+// What a picture says of its outlines.
+export const NOTICE = {notice};
+
+// The licence of the outlines.
+export const LICENCE = {licence};
+
+export const OUTLINES = {{
+{rows}
+}};
+"""
+
+
+def notice() -> str:
+    """Returns whose the outlines are, and under which licence, as their table says it."""
+    lines = (PICTURE / "symbols" / "square.tsv").read_text(encoding="utf-8").splitlines()
+    told = [it.removeprefix("# ") for it in lines if it.startswith("#")]
+    return " ".join([*told, "Some signs are gregorio-chant's own, under its licence, MIT."])
+
+
+def licence_text() -> str:
+    """Returns the licence of the outlines that are of a font."""
+    text = (PICTURE / "symbols" / "OFL.txt").read_text(encoding="utf-8")
+    return text[text.index("SIL OPEN FONT LICENSE") :]
+
+
+def script() -> str:
+    """Returns the module of outlines."""
+    rows = [
+        f'  "{name}": {{ width: {it.width:g}, path: {json.dumps(it.path)} }},'
+        for name, it in sorted(named_outlines().items())
+    ]
+    return _SCRIPT.format(
+        notice=json.dumps(notice()), licence=json.dumps(licence_text()), rows="\n".join(rows)
+    )
+
+
+def made_files() -> dict[Path, str]:
+    """Returns the text of each file that is made."""
+    outlines, widths = MARKS / "outlines.rt", MARKS / "width_table.rt"
+    joined = ((it.key, *outline.thousandths) for it, outline in joined_outlines())
+    return {
+        outlines: with_rows(outlines, joined),
+        widths: with_rows(widths, letter_widths()),
+        SCRIPT: script(),
+    }
+
+
+def main() -> None:
+    """Writes the files."""
+    for path, text in made_files().items():
+        path.write_text(text, encoding="utf-8")
+
+
+if __name__ == "__main__":
+    main()
