@@ -23,7 +23,7 @@ let answer;
 let reader;
 let hooks = {};
 // What is shown of a score that is not compiled.
-const NOTHING = { canonical: "", messages: [], tree: new Tree(new Uint8Array(0), new Uint8Array(20)) };
+const NOTHING = { canonical: "", messages: [], picture: "", name: "", tree: new Tree(new Uint8Array(0), new Uint8Array(20)) };
 
 const source = new Source(at("source"), edited, showCursor);
 const findings = new Findings(at("messages"), at("totals"), goToMessage);
@@ -51,7 +51,7 @@ function read() {
     return;
   }
   at("read").setAttribute("aria-busy", "true");
-  reader.read(file.bytes ?? source.text, tabs.chosen === "dump-part");
+  reader.read(file.bytes ?? source.text, tabs.chosen);
 }
 
 /** Returns a text in pieces of some lines, of which the browser lays out those that are seen. */
@@ -60,7 +60,7 @@ function piecesOf(text) {
   return pieces.map((it) => Object.assign(document.createElement("div"), { textContent: it }));
 }
 
-/** Shows what came of a score. A picture of it will have its place in #picture, once the compiler draws: the hook of a server's page shows one there. */
+/** Shows what came of a score. A hook shows its picture. */
 function show(it) {
   if (it.failure) {
     say(it.failure);
@@ -75,9 +75,9 @@ function show(it) {
   findings.show(found, wasRead);
   at("canonical").replaceChildren(...piecesOf(it.canonical));
   at("dump").replaceChildren(...piecesOf(it.dump ?? ""));
+  hooks.onAnswer?.(it);
   showCursor();
   if (tabs.chosen === "tree-part") outline.show(it.tree, source.places.byteAt(source.cursor));
-  if (it !== NOTHING) hooks.onAnswer?.(it);
   at("read").setAttribute("aria-busy", String(reader.isBusy));
 }
 
@@ -87,7 +87,7 @@ function show(it) {
 function showCursor() {
   const place = source.places.placeOf(source.cursor);
   at("place").textContent = `Line ${place.line}, column ${place.column}`;
-  hooks.onCursor?.(place);
+  hooks.onCursor?.(place, source.places.byteAt(source.cursor));
   const it = findings.showAt(source.cursor);
   source.hint(it?.begin, it && `${it.code} ${it.text}${it.help ? `: ${it.help}` : ""}`);
   if (tabs.chosen === "tree-part" && !reader.isBusy) outline.showAt(source.places.byteAt(source.cursor));
@@ -100,12 +100,17 @@ function goToMessage({ begin }, number) {
   hooks.onMessage?.(number);
 }
 
-/** Goes to a line and a column of the score. */
-export function goToPlace(place) {
-  const unit = source.places.unitOf(place);
+/** Goes to a unit of the score. */
+function goToUnit(unit) {
   source.goTo({ begin: unit, end: unit });
   showCursor();
 }
+
+/** Goes to a line and a column of the score. */
+export const goToPlace = (place) => goToUnit(source.places.unitOf(place));
+
+/** Goes to a byte of the score. */
+export const goToByte = (byte) => goToUnit(source.places.unitAt(byte));
 
 /** Shows in the field where a node stands, and puts the cursor there if `isToGo`. */
 function goToNode({ begin, end }, isToGo) {
@@ -190,8 +195,8 @@ addEventListener("drop", (event) => {
 export const chooseTab = (id) => tabs.show(id);
 export const scoreText = () => source.text;
 
-/** Begins with the score that is kept. `it` has scores compiled; the hooks, if they are given, get each answer, each place of the cursor, and the number of each
- * message that is chosen. Returns what has the score compiled again. */
+/** Begins with the score that is kept. `it` has scores compiled; the hooks, if they are given, get each answer, each place of the cursor with its byte, and the
+ * number of each message that is chosen. Returns what has the score compiled again. */
 export function begin(it, given = {}) {
   [reader, hooks] = [it, given];
   reader.onAnswer = show;

@@ -21,8 +21,12 @@ export class Picture {
     });
   }
 
-  /** Shows the picture with this text. */
+  /** Shows the picture with this text; none if there is no text. */
   show(svg) {
+    if (svg === "") {
+      this.#place.replaceChildren();
+      return;
+    }
     const picture = new DOMParser().parseFromString(svg, SVG_TYPE).documentElement;
     this.#place.replaceChildren(document.importNode(picture, true));
   }

@@ -16,10 +16,13 @@ export class Reader {
   #isBusy = false;
   #isGivenUp = false;
   #next;
+  #widthOf;
   /** Gets each answer: what the worker sends, with its `tree`; or only its `failure`, a sentence. */
   onAnswer;
 
-  constructor() {
+  /** `widthOf` returns how wide a picture may be, in pixels. */
+  constructor(widthOf) {
+    this.#widthOf = widthOf;
     this.#worker.onmessage = ({ data }) => this.#take(data);
     this.#worker.onerror = (event) => {
       event.preventDefault();
@@ -27,9 +30,9 @@ export class Reader {
     };
   }
 
-  /** Has a score compiled, a text or bytes. Of those that come while another is compiled, only the last one is. */
-  read(score, wantsDump) {
-    this.#next = { score, wantsDump };
+  /** Has a score compiled, a text or bytes, for the part of the page that is seen. Of those that come while another is compiled, only the last one is. */
+  read(score, seen) {
+    this.#next = { score, seen, width: this.#widthOf() };
     this.#begin();
   }
 

@@ -6,10 +6,9 @@ import { keepInTab } from "./kept.js";
 import { begin, chooseTab, fileName, goToPlace, scoreText } from "./main.js";
 import { Picture } from "./picture.js";
 import { ServerReader, fromServer } from "./server_reader.js";
+import { onNewWidth, widthOf } from "./widths.js";
 
-const WIDEST = 720;
 const at = (id) => document.getElementById(id);
-const widthOf = () => Math.min(at("tabs").clientWidth, WIDEST);
 
 // Each server has another address, under which the browser would keep a score for ever.
 keepInTab();
@@ -17,7 +16,6 @@ const picture = new Picture(at("drawn"), goToPlace);
 // The script that sings is one of its own, which the pages of `show` have too.
 const singer = new Singer(at("sing"));
 singer.load = () => fromServer("/sounds", bytesOfScore(scoreText()));
-let drawnWidth = widthOf();
 
 for (const it of document.querySelectorAll("[data-in]")) it.hidden = it.dataset.in !== "served";
 at("save-picture").addEventListener("click", () => save(`${fileName()}.svg`, picture.file, "image/svg+xml"));
@@ -34,8 +32,4 @@ const { read } = begin(new ServerReader(widthOf), {
 chooseTab("picture");
 at("score").focus();
 
-new ResizeObserver(() => {
-  if (Math.abs(widthOf() - drawnWidth) <= 8) return;
-  drawnWidth = widthOf();
-  read();
-}).observe(at("tabs"));
+onNewWidth(read);

@@ -2,18 +2,27 @@
 
 import wasm from "gregorio-wasm";
 import { bytesOfScore } from "../src/bytes.js";
+import { draw } from "../src/draw.js";
 import { Library } from "../src/library.js";
 import { recordsOf } from "../src/tree.js";
 import { compile } from "../src/whole.js";
 
 const library = new Library(new WebAssembly.Module(wasm), crypto);
 
-/** Returns what the page shows of a score: the dump only if it `wantsDump`. */
-function answerTo({ score, wantsDump }) {
+// A longer score is not drawn: a picture of it would be slow to show.
+const MOST_DRAWN = 50_000;
+
+// What a part of the page shows of a score, beside what is shown of each.
+const MORE = {
+  "dump-part": (bytes) => ({ dump: compile(library, bytes, { format: "dump" }).dump }),
+  picture: (bytes, width) => (bytes.length > MOST_DRAWN ? { isTooLong: true } : { picture: draw(library, bytes, { width }) }),
+};
+
+/** Returns what the page shows of a score: dump and picture only if they are `seen`. */
+function answerTo({ score, seen, width }) {
   const bytes = bytesOfScore(score).slice();
   const { status, messages, canonical } = compile(library, bytes);
-  const dump = wantsDump ? compile(library, bytes, { format: "dump" }).dump : undefined;
-  return { bytes, records: recordsOf(library, bytes), status, messages, canonical, dump };
+  return { bytes, records: recordsOf(library, bytes), status, messages, canonical, ...MORE[seen]?.(bytes, width) };
 }
 
 onmessage = ({ data }) => {

@@ -6,4 +6,4 @@ export { RunOverError, StateError } from "./results.js";
 
 const response = await fetch(new URL("../gregorio.wasm", import.meta.url));
 if (!response.ok) throw new Error(`${response.url} was not read: ${response.status} ${response.statusText}`);
-export const { compile, check, tree, Run, version } = await load(await response.arrayBuffer());
+export const { compile, check, tree, draw, Run, version } = await load(await response.arrayBuffer());

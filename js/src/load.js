@@ -1,5 +1,6 @@
 // Makes the calls of this package of the bytes of gregorio.wasm.
 
+import { draw } from "./draw.js";
 import { Library } from "./library.js";
 import { Run } from "./run.js";
 import { tree } from "./tree.js";
@@ -15,6 +16,7 @@ export function callsOf(module, random) {
     compile: (score, options) => compile(library, score, options),
     check: (score, options) => check(library, score, options),
     tree: (score) => tree(library, score),
+    draw: (score, options) => draw(library, score, options),
     Run: class extends Run {
       constructor(options, state) {
         super(library, options, state);

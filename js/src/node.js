@@ -7,4 +7,4 @@ import { callsOf } from "./load.js";
 export { RunOverError, StateError } from "./results.js";
 
 const module = await WebAssembly.compile(await readFile(new URL("../gregorio.wasm", import.meta.url)));
-export const { compile, check, tree, Run, version } = callsOf(module, webcrypto);
+export const { compile, check, tree, draw, Run, version } = callsOf(module, webcrypto);

@@ -1,0 +1,70 @@
+// The picture of a score: what the library draws, with the outlines that it names.
+
+import { bytesOfScore } from "./bytes.js";
+import { withMemory } from "./library.js";
+import { NOTICE, OUTLINES } from "./outlines.js";
+
+// How wide a picture is in pixels, if nothing else is asked for, and what can be asked for.
+const USUAL = 720;
+const [LEAST, MOST] = [120, 100_000];
+// A pixel has so many units of the library.
+const UNITS = 100;
+
+// How many bytes a picture has room for at first, for each byte of the score: more than most want, since a second call draws the score again.
+const TIMES = 48;
+const LEAST_ROOM = 8192;
+const MOST_ROOM = 1 << 26;
+
+const STYLE =
+  ".chant{color:#000;fill:currentColor;font-family:'Linux Libertine O','Libertinus Serif','Times New Roman',serif}" +
+  ".chant .paper{fill:#fff}.chant .staff{fill:#a43}.chant .red{fill:#b00}";
+const SIZES = /viewBox="0 0 (\d+) (\d+)"/;
+const HEAD = /^<svg[^>]*>(<title>[^<]*<\/title>)?/;
+// No text of a score can hold this: its marks are escaped.
+const USE = /<use href="#([a-z0-9-]+)"/g;
+
+/** Returns the width that is asked for, in units of the library. Throws a `TypeError` for another option and for a width that is no number, and a `RangeError` for one that is out of range. */
+function widthOf(options = {}) {
+  if (typeof options !== "object" || options === null) throw new TypeError(`options are an object, not ${typeof options}`);
+  for (const name of Object.keys(options)) {
+    if (name !== "width") throw new TypeError(`there is no option ${name}`);
+  }
+  const { width = USUAL } = options;
+  if (typeof width !== "number") throw new TypeError(`a width is a number, not ${typeof width}`);
+  if (!(LEAST <= width && width <= MOST)) throw new RangeError(`a width is from ${LEAST} to ${MOST} pixels, not ${width}`);
+  return Math.round(UNITS * width);
+}
+
+/** Returns an outline as a path. */
+const pathOf = (name) => `<path id="${name}" transform="scale(100)" fill-rule="evenodd" d="${OUTLINES[name].path}"/>`;
+
+/** Returns what a picture of these outlines has in it before its rows. */
+function beginning(names) {
+  const parts = [`<metadata>${NOTICE.replaceAll('"', "&quot;")}</metadata>`, `<style>${STYLE}</style>`];
+  return [...parts, `<defs>${names.map(pathOf).join("")}</defs>`, '<rect class="paper" width="100%" height="100%"/>'].join("");
+}
+
+/** Returns a picture of the library with its size and the outlines that it uses. */
+function standingAlone(svg) {
+  const names = [...new Set(Array.from(svg.matchAll(USE), ([, name]) => name))].sort();
+  const [head] = HEAD.exec(svg);
+  const [, width, height] = SIZES.exec(head);
+  const sized = head.replace(/^<svg/, `<svg width="${width / UNITS}" height="${height / UNITS}"`);
+  return sized + beginning(names) + svg.slice(head.length);
+}
+
+/** Returns what the library draws of the bytes of a score, in a picture that is so many of its units wide. */
+function drawn(library, score, width) {
+  return library.within((rooms, calls) => {
+    const key = library.newKey();
+    const told = [...rooms.put(score), width, rooms.put(key)[0], BigInt(key.length / 8)];
+    const size = Math.min(TIMES * score.length + LEAST_ROOM, MOST_ROOM);
+    const [, [picture]] = rooms.fit([size], ([span], count) => withMemory(calls.gregorio_draw(...told, ...span, count)));
+    return rooms.text(...picture);
+  });
+}
+
+/** Draws `score`, a text or bytes, as SVG. */
+export function draw(library, score, options) {
+  return standingAlone(drawn(library, bytesOfScore(score), widthOf(options)));
+}

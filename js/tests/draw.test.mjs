@@ -1,0 +1,132 @@
+// Draws the scores of all tables and the examples: each picture is well-formed and stands alone, and has a head for each note of the score's tree.
+
+import assert from "node:assert/strict";
+import { readFileSync, readdirSync } from "node:fs";
+import { test } from "node:test";
+
+import { draw, tree } from "gregorio-chant";
+import { LICENCE, NOTICE, OUTLINES } from "gregorio-chant/outlines";
+import { DATA, runsOf } from "./cases.mjs";
+
+const TABLES = ["rows", "canonical", "canonical_w12", "nabc_lines", "dump2"];
+const TAG = /<(\/?)([a-z]+)((?: [A-Za-z:-]+="[^"<]*")*)(\/?)>/y;
+const TEXT = /(?:[^<>&]|&(?:amp|lt|gt|quot);)+/y;
+// What a family of joined outlines has in its name beside its steps: a stroke shows two notes.
+const JOINED = /^[a-z-]+-([0-9]{3})(?:-debilis)?(?:-deminutus|-ascendens|-descendens)?$/;
+// The names of outlines that show no note.
+const SIGNS =
+  /^(c-clef|f-clef|flat|natural|sharp|custos-up|custos-down|mora|tail-up|tail-down|virgula|accent|grave|circle|lower-arc|upper-arc|brace|bracket-left|bracket-right)$/;
+
+/** Looks whether `svg` is one element of XML, and returns the tags that begin in it. */
+function tagsOf(svg, place) {
+  const tags = [];
+  const open = [];
+  for (let at = 0; at < svg.length; ) {
+    TAG.lastIndex = TEXT.lastIndex = at;
+    const found = TAG.exec(svg);
+    const length = found ? found[0].length : (TEXT.exec(svg)?.[0].length ?? 0);
+    assert.ok(length > 0, `${place}: no XML: ${svg.slice(at, at + 60)}`);
+    if (found?.[1]) assert.equal(open.pop(), found[2], place);
+    else if (found) tags.push({ name: found[2], attributes: found[3] });
+    if (found && !found[1] && !found[4]) open.push(found[2]);
+    at += length;
+    assert.ok(open.length > 0 || at === svg.length, `${place}: more than one element`);
+  }
+  assert.deepEqual(open, [], place);
+  return tags;
+}
+
+/** Returns how many notes an outline shows. */
+function notesIn(name) {
+  if (SIGNS.test(name)) return 0;
+  if (name.startsWith("stroke-")) return 2;
+  const steps = JOINED.exec(name)?.[1];
+  return steps ? 1 + steps.replaceAll("0", "").length : 1;
+}
+
+const hrefOf = ({ attributes }) => / href="#([^"]*)"/.exec(attributes)[1];
+
+// How often a note sounds by the number of its shape, if that is not once: bivirga and distropha, trivirga and tristropha.
+const TIMES = { 3: 2, 7: 2, 4: 3, 8: 3 };
+const ofKind = (score, kind) => [...tree(score)].filter((it) => it.kind === kind);
+const soundsOf = (score) => ofKind(score, "note").reduce((sum, { values: [, b] }) => sum + (TIMES[b % 32] ?? 1), 0);
+
+/** Returns the text of each element of this name. */
+const textsOf = (svg, name) => Array.from(svg.matchAll(new RegExp(`<${name}[^>]*>([^<]*)<`, "g")), ([, text]) => text);
+
+/** Returns the bytes of the syllables that the groups of a picture name. One that goes on in another row has a group in each, and what belongs to no syllable is named 0 to 0. */
+function bytesOf(tags) {
+  const groups = tags.map(({ attributes }) => /^ class="syllable" data-begin="(\d+)" data-end="(\d+)"/.exec(attributes)).filter(Boolean);
+  return [...new Set(groups.map(([, begin, end]) => `${begin} ${end}`))].filter((it) => it !== "0 0");
+}
+
+/** Looks at the picture of a score, and returns how many heads it has. */
+function looksAt(score, place) {
+  const tags = tagsOf(draw(score), place);
+  const uses = tags.filter((it) => it.name === "use").map(hrefOf);
+  const paths = tags.filter((it) => it.name === "path").map(({ attributes }) => / id="([^"]*)"/.exec(attributes)[1]);
+  assert.deepEqual(paths, [...new Set(uses)].sort(), place);
+  const notes = uses.map(notesIn).reduce((sum, it) => sum + it, 0);
+  assert.equal(notes, soundsOf(score), place);
+  assert.deepEqual(bytesOf(tags), ofKind(score, "syllable").map(({ begin, end }) => `${begin} ${end}`), place);
+  return notes;
+}
+
+for (const table of TABLES) {
+  test(`pictures of ${table}`, () => {
+    for (const { input, place } of runsOf(table)) looksAt(input, place);
+  });
+}
+
+test("pictures of the example scores", () => {
+  const names = readdirSync(DATA).filter((name) => name.endsWith(".gabc"));
+  const notes = names.map((name) => looksAt(readFileSync(`${DATA}/${name}`), name));
+  assert.ok(notes.length > 5 && notes.every((it) => it > 0), String(notes));
+});
+
+test("hostile text stays text", () => {
+  const hostile = `</title></text><script>alert(1)</script><use href="#x"/>&amp;]]>'"`;
+  const score = `name: ${hostile};\n%%\n(c4) ${hostile}(g[alt:${hostile}]) <alt>${hostile}</alt>a\u0000\u001b\u202e\ufffe(h)`;
+  const svg = draw(score);
+  const names = new Set(tagsOf(svg, "hostile").map((it) => it.name));
+  assert.deepEqual([...names].filter((it) => !["svg", "title", "metadata", "style", "defs", "path", "rect", "g", "use", "text", "tspan"].includes(it)), []);
+  const [title] = textsOf(svg, "title");
+  assert.ok(title.includes("&lt;/title&gt;&lt;/text&gt;&lt;script&gt;"), title);
+  assert.ok(!svg.includes("#x\"/>") && !/[\u0000-\u0008\u001b\u202e\ufffe]/.test(svg));
+  assert.ok(svg.includes("script"));
+});
+
+test("a picture stands alone, with its size", () => {
+  const svg = draw("name: Kyrie;\n%%\n(c4) Ky(f)ri(gfg)e(e.) (::)", { width: 400 });
+  assert.match(svg, /^<svg width="400" height="[0-9.]+" xmlns="http:\/\/www.w3.org\/2000\/svg" [^>]*viewBox="0 0 40000 \d+" class="chant"><title>Kyrie<\/title>/);
+  assert.deepEqual([textsOf(svg, "metadata"), /SIL Open Font License/.test(NOTICE), svg.match(/<style>/g).length], [[NOTICE.replaceAll('"', "&quot;")], true, 1]);
+  assert.match(draw("%%\n(f)"), /^<svg width="720" /);
+});
+
+test("each outline has a path and a width, and their licence is told", () => {
+  const outlines = Object.entries(OUTLINES);
+  assert.ok(outlines.length > 500);
+  for (const [name, { width, path }] of outlines) {
+    assert.match(name, /^[a-z]+(-[a-z0-9]+)*$/);
+    assert.match(path, /^[Mm][-+0-9., a-zA-Z]+$/, name);
+    assert.ok(width > 0, name);
+  }
+  assert.match(LICENCE, /^SIL OPEN FONT LICENSE/);
+});
+
+test("scores and options of other kinds", () => {
+  for (const it of [undefined, null, 7, [37, 37], {}, new String("%%")]) assert.throws(() => draw(it), TypeError);
+  for (const it of [null, "720", 720, { wide: 720 }, { width: "720" }, { width: null }]) assert.throws(() => draw("%%", it), TypeError);
+  for (const width of [0, 119, -1, NaN, Infinity, 100_001]) assert.throws(() => draw("%%", { width }), RangeError);
+  looksAt(new Uint8Array(0), "no bytes");
+  looksAt(Uint8Array.of(0x25, 0x25, 0x0a, 0x28, 0x66, 0x29, 0xff), "no UTF-8");
+});
+
+test("want of memory is a RangeError, and a later call succeeds", () => {
+  assert.throws(() => draw(new Uint8Array(2 ** 32 - 1)), RangeError);
+  assert.equal(looksAt("%%\n(f)", "later"), 1);
+});
+
+test("a picture that its room is too small for is drawn again", () => {
+  assert.ok(looksAt(`%%\n(c4) ${"(fvv)".repeat(2000)}`, "many notes") === 4000);
+});
