@@ -4,7 +4,9 @@ import { save } from "./files.js";
 
 const SVG_TYPE = "image/svg+xml";
 // What a picture has to stand alone, and the page has by itself.
-const NOT_SHOWN = "metadata, style, .paper";
+const NOT_SHOWN = "metadata, .paper";
+// The policy of the page refuses a style even before it is taken out.
+const STYLE = /<style>[^<]*<\/style>/;
 // What belongs to no syllable, as what ends a score, is named by no bytes.
 const SYLLABLE = '.syllable:not([data-end="0"])';
 
@@ -28,7 +30,7 @@ export class Drawn {
       this.#place.replaceChildren();
       return;
     }
-    const picture = new DOMParser().parseFromString(svg, SVG_TYPE).documentElement;
+    const picture = new DOMParser().parseFromString(svg.replace(STYLE, ""), SVG_TYPE).documentElement;
     for (const it of picture.querySelectorAll(NOT_SHOWN)) it.remove();
     this.#place.replaceChildren(document.importNode(picture, true));
   }

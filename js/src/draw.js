@@ -11,7 +11,7 @@ const [LEAST, MOST] = [120, 100_000];
 const UNITS = 100;
 
 // How many bytes a picture has room for at first, for each byte of the score: more than most want, since a second call draws the score again.
-const TIMES = 48;
+const TIMES = 36;
 const LEAST_ROOM = 8192;
 const MOST_ROOM = 1 << 26;
 

@@ -184,6 +184,32 @@ for (const kind of BROWSERS) {
       await page.assertQuiet();
     });
 
+    test("the picture", async () => {
+      await page.written(SCORE);
+      await page.click("#picture-tab");
+      const drawnText = () => page.run(() => [...document.querySelectorAll("#own-picture .syllable text")].map((it) => it.textContent).join(" "));
+      assert.equal((await drawnText()).replace(/[\s-]/g, ""), "Kyrie");
+      assert.equal(await page.run(() => document.querySelectorAll("#own-picture use").length), 5);
+      await page.focus("#score");
+      await page.press(KEYS.Home);
+      await page.text("#own-picture .here");
+      const here = () => page.textOf("#own-picture .here text");
+      await page.run(() => document.querySelector("#score").setSelectionRange(27, 27));
+      await page.text("#own-picture .here[data-begin='26']");
+      assert.match(await here(), /^ri/);
+      await page.run(() => document.querySelectorAll("#own-picture .syllable text")[0].dispatchEvent(new MouseEvent("click", { bubbles: true })));
+      assert.deepEqual(await page.run(() => [document.activeElement.id, document.querySelector("#score").selectionStart]), ["score", 20]);
+      await page.click("#save-drawn");
+      const svg = await page.saved("kyrie.svg", 1000);
+      assert.match(svg, /^<svg width="\d+(\.\d+)?" .*<title>Kyrie<\/title><metadata>.*<style>/);
+      await page.written(HOSTILE);
+      assert.deepEqual(await page.run(() => [document.querySelectorAll("#own-picture :is(script, img, iframe, b, i, style, a)").length, document.title]), [0, "Chant scores in GABC"]);
+      await page.written(`%%\n${"Ky(f)".repeat(12_000)}`);
+      assert.equal(await page.textOf("#too-long:not([hidden])"), "A score of more than 50,000 bytes is not drawn here.");
+      assert.equal(await page.run(() => document.querySelectorAll("#own-picture *").length), 0);
+      await page.assertQuiet();
+    });
+
     test("files are opened", async () => {
       const text = "name: a;\r\n%%\r\n\ufeffKy(f&g)\r\n";
       const shown = await page.opened("a b.gabc", text);
