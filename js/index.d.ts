@@ -177,6 +177,20 @@ export interface Tree extends Iterable<Node> {
  */
 export declare function tree(score: string | Bytes): Tree;
 
+export interface DrawOptions {
+  /** How wide the picture is at most, in pixels: 120 to 100,000, and 720 if it is left out. */
+  readonly width?: number;
+}
+
+/**
+ * Draws `score` under the usual limits, and returns its picture: a text of SVG that stands alone, with the outlines that it uses. Each syllable is a group of the
+ * class `syllable`, whose `data-begin` and `data-end` are its bytes in the score.
+ *
+ * Throws a `TypeError` for a score that is neither a text nor bytes, and for options that are not known; a `RangeError` for a width that is out of range, if there
+ * is not enough memory, or if the picture is longer than a text can be.
+ */
+export declare function draw(score: string | Bytes, options?: DrawOptions): string;
+
 /** The version of the compiler. */
 export declare const version: string;
 
@@ -191,6 +205,7 @@ export interface Calls {
   readonly compile: typeof compile;
   readonly check: typeof check;
   readonly tree: typeof tree;
+  readonly draw: typeof draw;
   readonly Run: typeof Run;
   readonly version: string;
 }
