@@ -42,6 +42,10 @@ LAYOUTS: dict[str, tuple[str, str | None]] = {
     "blanks at the end": ("name:a;\n%%\n(c4) a(f)  ", "name: a;\n%%\n(c4) a(f)"),
     "a last comment": ("name:a;\n%%\n(c4) a(f)\n\n\n% c  ", "name: a;\n%%\n(c4) a(f)\n\n% c"),
     "a mark": ("\ufeffname:a;\n%%\n(c4)  a(f)\n", "\ufeffname: a;\n%%\n(c4) a(f)\n"),
+    "a mark and blanks before a header that stays": (
+        "\ufeff\n n\ufeffame :  Ky  rie;;\n%%\n",
+        "\ufeff n\ufeffame :  Ky  rie;;\n%%\n",
+    ),
     "marks inside": (
         "\ufeff\ufeffname:a\ufeff;\nmode:1;\n\ufeff\n%%\n(c4)  $\ufeff$a(f)  b(g)\ufeff  \n",
         "\ufeff\ufeffname:a\ufeff;\nmode: 1;\n\ufeff\n%%\n(c4) $\ufeff$a(f) b(g)\ufeff\n",

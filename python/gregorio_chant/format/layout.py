@@ -10,12 +10,11 @@ import re
 from collections.abc import Iterator
 from dataclasses import dataclass
 
-from gregorio_chant.format.parts import parts_of
+from gregorio_chant.format.parts import marks_end, parts_of
 from gregorio_chant.objects.compiled import Compiled
 
 _MARK = "\ufeff"
 _BLANKS = " \t"
-_MARKS = re.compile(rb"(?:\xef\xbb\xbf)*")
 _LINE_END = re.compile(rb"\r\n|\n|\r")
 
 
@@ -64,8 +63,7 @@ def _words(score: Compiled) -> Iterator[_Word]:
     """Yields the words of a score whose lines end with LF, one by one, since a large score has
     millions."""
     data, at = score.data, 0
-    found = _MARKS.match(data)
-    marks = found.end() if found else 0
+    marks = marks_end(data)
     word: _Word | None = None
     for part in parts_of(score):
         lead = data[max(at, marks) : part.begin].decode("utf-8")

@@ -32,6 +32,13 @@ class Part:
     spelling: bytes | None = None
 
 
+def marks_end(source: bytes, at: int = 0) -> int:
+    """Returns where the marks U+FEFF from `at` on end, in bytes of the score."""
+    while source.startswith(_MARK, at):
+        at += len(_MARK)
+    return at
+
+
 def _letters(syllable: Node, begin: int) -> bytes:
     """Returns the bytes of a syllable from `begin` on, without blanks, line ends and tags of
     styles: what another spelling of it may not change."""
@@ -124,10 +131,7 @@ class _Parts:
 
     def _with_marks(self, part: Part) -> Part:
         """Returns a part with the marks U+FEFF directly after it, and passes it."""
-        end = part.end
-        while self._source.startswith(_MARK, end):
-            end += len(_MARK)
-        self._end = end
+        self._end = end = marks_end(self._source, part.end)
         return part if end == part.end else Part(part.begin, end)
 
     def _score_line(self, node: Node) -> Part:
@@ -136,7 +140,7 @@ class _Parts:
         return Part(node.begin, node.begin + len(line))
 
     def _header(self, node: Node, written: Node | None) -> Part:
-        line = self._source.rfind(b"\n", 0, node.begin) + 1
+        line = max(self._source.rfind(b"\n", 0, node.begin) + 1, marks_end(self._source))
         begin = node.begin if self._source[line : node.begin].strip(b" \t") else line
         if written is None or self._stays(begin, node.end):
             return Part(begin, node.end)
