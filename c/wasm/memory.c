@@ -12,6 +12,9 @@ static const size_t MOST = (size_t)1 << 32;
 /* Where the row begins, and its end. Both are null before the first block is taken. */
 static unsigned char *first, *end;
 
+/* The block at which the next search begins, or the end of the row: the one that was taken last, so that few blocks are passed again. */
+static unsigned char *latest;
+
 static unsigned char *bytes_of(struct block *it) { return (unsigned char *)it + HEAD; }
 static struct block *block_of(void *bytes) { return (struct block *)((unsigned char *)bytes - HEAD); }
 static struct block *block_after(struct block *it) { return (struct block *)(bytes_of(it) + it->size); }
@@ -23,6 +26,7 @@ static size_t rounded(size_t size) { return size ? (size + 15) & ~(size_t)15 : 1
 /* Makes one block of this one and of the free ones that follow. */
 static void join(struct block *it) {
   while (!is_last(it) && !block_after(it)->is_taken) it->size += HEAD + block_after(it)->size;
+  if ((unsigned char *)it < latest && latest < bytes_of(it) + it->size) latest = (unsigned char *)it;
 }
 
 /* Leaves the block this size, and makes a free block of the rest if that has room for one. */
@@ -52,26 +56,34 @@ static struct block *add(size_t size) {
   return it;
 }
 
-/* Returns a free block of at least this size, of which the row may grow. */
-static struct block *found(size_t size) {
-  struct block *last = 0;
-  for (unsigned char *at = first; at < end; at = bytes_of(last) + last->size) {
-    last = (struct block *)at;
-    if (last->is_taken) continue;
-    join(last);
-    if (last->size >= size) return last;
+/* Returns the first free block of at least this size from `at` on, or null. `last` is then the last block of the row. */
+static struct block *found_from(unsigned char *at, size_t size, struct block **last) {
+  for (; at < end; at = bytes_of(*last) + (*last)->size) {
+    *last = (struct block *)at;
+    if ((*last)->is_taken) continue;
+    join(*last);
+    if ((*last)->size >= size) return *last;
   }
+  return 0;
+}
+
+/* Returns a free block of at least this size: one of the row, of which the last may be lengthened, or a new one. */
+static struct block *found(size_t size) {
+  struct block *last = 0, *it = found_from(latest, size, &last);
+  if (!it) it = found_from(first, size, &last);
+  if (it) return it;
   if (last && !last->is_taken) return lengthen_last(last, size) ? last : 0;
   return add(size);
 }
 
 void *take(size_t size) {
   if (size > MOST) return 0;
-  if (!first) first = end = beginning();
+  if (!first) first = latest = end = beginning();
   struct block *it = found(rounded(size));
   if (!it) return 0;
   split(it, rounded(size));
   it->is_taken = 1;
+  latest = (unsigned char *)it;
   return bytes_of(it);
 }
 

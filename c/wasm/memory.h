@@ -1,5 +1,6 @@
 /* Memory for the library as WebAssembly. The whole of it is one row of blocks, each with a head of 16 bytes before its bytes; the row grows at its
- * end alone. Neighbours that are free become one block when a block is looked for. */
+ * end alone. Neighbours that are free become one block when a block is looked for,
+ * and a search begins where the one before it ended. */
 #ifndef MEMORY_H
 #define MEMORY_H
 
