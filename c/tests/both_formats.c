@@ -1,8 +1,9 @@
 /* Writes a table of what the library answers for the inputs of tables, in both formats, with warnings and without: for each as it is, and with some bytes
- * changed at random. It has the columns of the tables that it reads, and beside canonical GABC the tree: the numbers of each node. For a trial of the
- * library as another compiler makes it.
+ * changed at random. It has the columns of the tables that it reads, and beside canonical GABC the tree: the numbers of each node, and of the picture
+ * the number of its bytes and their sum by FNV-1a, of 32 bits. For a trial of the library as another compiler makes it.
  *
  * Usage: both_formats TABLE.. */
+#include <inttypes.h>
 #include <stdlib.h>
 #include <string.h>
 
@@ -53,6 +54,17 @@ static void write_tree(const struct text *input) {
   free(nodes);
 }
 
+static void write_picture(const struct text *input) {
+  size_t count = 0;
+  if (gregorio_draw(input->bytes, input->length, 0, NULL, 0, NULL, 0, &count) != GREGORIO_WHOLE) exit(2);
+  uint8_t *picture = malloc(count);
+  if (!picture || gregorio_draw(input->bytes, input->length, 0, NULL, 0, picture, count, &count) != GREGORIO_WHOLE) exit(2);
+  uint32_t sum = 2166136261;
+  for (size_t i = 0; i < count; i++) sum = (sum ^ picture[i]) * 16777619;
+  printf("\t%zu %" PRIu32, count, sum);
+  free(picture);
+}
+
 static void write_row(const struct text *input, uint32_t format, uint32_t flags) {
   size_t room = 200 * input->length + 4096;
   uint8_t *output = malloc(room), *messages = malloc(room);
@@ -66,7 +78,10 @@ static void write_row(const struct text *input, uint32_t format, uint32_t flags)
   putchar('\t');
   write_column(messages, lengths.messages);
   printf("\t%u", (unsigned)status);
-  if (format == GREGORIO_GABC) write_tree(input);
+  if (format == GREGORIO_GABC) {
+    write_tree(input);
+    write_picture(input);
+  }
   putchar('\n');
   free(output);
   free(messages);

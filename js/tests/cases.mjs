@@ -42,15 +42,16 @@ const answerOf = (output, messages, status) => ({
   status: STATUSES[status],
 });
 
-/** Returns the runs of a table. `tree` is there if the table has the records of the score's tree. */
+/** Returns the runs of a table. `tree` and `picture` are there if the table has the records of the score's tree, and the length and the sum of its picture. */
 export function runsOf(table) {
-  return linesOf(table).map(({ columns: [words, numbers, ending, input, output, messages, status, tree], place }) => ({
+  return linesOf(table).map(({ columns: [words, numbers, ending, input, output, messages, status, tree, picture], place }) => ({
     place,
     ...optionsOf(words, numbers),
     isBroken: ending === "broken",
     input: bytesOf(input),
     ...answerOf(output, messages, status),
     tree,
+    picture,
   }));
 }
 

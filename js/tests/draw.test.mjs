@@ -78,6 +78,18 @@ for (const table of TABLES) {
   });
 }
 
+/** Returns the length of what the library draws, in bytes, and its sum by FNV-1a, of 32 bits: of a picture without its size and its outlines. */
+function sumOf(svg) {
+  const drawn = Buffer.from(svg.replace(/^<svg width="[^"]*" height="[^"]*"/, "<svg").replace(/<metadata>.*?<rect class="paper"[^>]*>/s, ""));
+  return `${drawn.length} ${drawn.reduce((sum, byte) => Math.imul(sum ^ byte, 16777619) >>> 0, 2166136261)}`;
+}
+
+test("the pictures of the library for C", { skip: !process.env.GREGORIO_TABLE && "there is no table of it" }, () => {
+  const runs = runsOf(process.env.GREGORIO_TABLE).filter((it) => it.picture);
+  assert.ok(runs.length > 1000);
+  for (const { input, picture, place } of runs) assert.equal(sumOf(draw(input)), picture, place);
+});
+
 test("pictures of the example scores", () => {
   const names = readdirSync(DATA).filter((name) => name.endsWith(".gabc"));
   const notes = names.map((name) => looksAt(readFileSync(`${DATA}/${name}`), name));
