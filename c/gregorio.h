@@ -153,6 +153,12 @@ uint32_t gregorio_compile(const uint8_t *score, size_t score_length, uint32_t fo
 uint32_t gregorio_messages(const uint8_t *score, size_t score_length, uint32_t flags, const uint64_t *key, size_t key_length,
                            struct gregorio_message *messages, size_t messages_capacity, size_t *count);
 
+/* Writes the byte of the score, from 0, at which each of the messages stands into `bytes`, if that has room for all; else `bytes` stays as it was. It is
+ * the byte where the character begins at the line and the column of the message, or the end of what was read of the score. Messages in the order in which
+ * `gregorio_messages` writes them take one way through the score. It needs no memory. */
+void gregorio_message_bytes(const uint8_t *score, size_t score_length, const struct gregorio_message *messages, size_t messages_length, uint32_t *bytes,
+                            size_t bytes_capacity);
+
 /* Reads the score, and writes the nodes of its tree into `nodes`, in the order of the score and each before those that lie in it, and their number into
  * `count`. The first is the file, in which all others lie. If `nodes` is too small for them, it stays as it was.
  *

@@ -46,12 +46,56 @@ static size_t with_code(const struct gregorio_node *list, size_t count, uint16_t
   return found;
 }
 
+/* The place of the character that begins at a byte of a score: its line and its column. */
+static struct gregorio_message place_of(const struct test_case *it, size_t at) {
+  struct gregorio_message place = {.line = 1, .column = 1};
+  const uint8_t *bytes = it->input.bytes;
+  for (size_t i = 0; i < at; i++) {
+    bool is_part = (bytes[i] & 0xC0) == 0x80, is_mark = at - i >= 3 && !memcmp(bytes + i, "\xEF\xBB\xBF", 3);
+    if (is_mark) {
+      i += 2;
+    } else if (bytes[i] == '\r' || (bytes[i] == '\n' && !(i && bytes[i - 1] == '\r'))) {
+      place.line++;
+      place.column = 1;
+    } else if (!is_part && bytes[i] != '\n') {
+      place.column++;
+    }
+  }
+  return place;
+}
+
+/* Looks at the bytes of messages: each is the byte of a character at the place of its message, and what was left out there is a node that begins there. */
+static void try_bytes(const struct test_case *it, const struct gregorio_node *list, size_t count, struct gregorio_message *found, size_t messages, size_t number) {
+  uint32_t bytes[4096], last = UNTOUCHED;
+  gregorio_message_bytes(it->input.bytes, it->input.length, found, messages, bytes, messages);
+  for (size_t i = 0; i < messages; i++) {
+    struct gregorio_message place = place_of(it, bytes[i]);
+    check(bytes[i] <= it->input.length && place.line == found[i].line && place.column == found[i].column, "the byte of a message", number);
+    if (found[i].code > 103) continue;
+    bool has_node = false;
+    for (size_t node = 0; node < count; node++) {
+      has_node = has_node || (list[node].begin == bytes[i] && list[node].kind == GREGORIO_KIND_LEFT_OUT && list[node].a == found[i].code) ||
+                 (list[node].kind == GREGORIO_KIND_UNREAD && list[node].begin <= bytes[i]);
+    }
+    check(has_node, "the node of a message", number);
+  }
+  if (!messages) return;
+  uint32_t one = UNTOUCHED;
+  gregorio_message_bytes(it->input.bytes, it->input.length, found, messages, &last, messages - 1);
+  check(last == UNTOUCHED, "bytes that do not fit", number);
+  gregorio_message_bytes(it->input.bytes, it->input.length, found + messages - 1, 1, &one, 1);
+  struct gregorio_message turned[] = {found[messages - 1], found[0]};
+  gregorio_message_bytes(it->input.bytes, it->input.length, turned, 2, bytes + 2048, 2);
+  check(one == bytes[messages - 1] && bytes[2048] == one && bytes[2049] == bytes[0], "messages in another order", number);
+}
+
 /* Compares what was left out of a score with its messages. A score that was stopped ends in a node that says why. */
 static void try_findings(const struct test_case *it, const struct gregorio_node *list, size_t count, size_t number) {
   struct gregorio_message found[4096];
   size_t messages = 0, by_code[400] = {0};
   uint32_t status = gregorio_messages(it->input.bytes, it->input.length, 0, NULL, 0, found, sizeof found / sizeof *found, &messages);
   if (messages > sizeof found / sizeof *found) return;
+  try_bytes(it, list, count, found, messages, number);
   for (size_t i = 0; i < messages; i++) by_code[found[i].code]++;
   for (uint16_t code = 101; code <= 103; code++) {
     size_t left_out = with_code(list, count, GREGORIO_KIND_LEFT_OUT, code);

@@ -18,4 +18,5 @@ pub mod TextNodesByTokens
 pub mod WholeTree
 pub mod not_kept_nodes
 pub mod placed_nodes
+pub mod places
 pub mod syllables

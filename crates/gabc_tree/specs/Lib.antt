@@ -2,6 +2,7 @@ pub mod CodeNumber
 pub mod Fates
 pub mod HeaderLines
 pub mod HeaderNodes
+pub mod InputPlaces
 pub mod Kind
 pub mod NabcNodes
 pub mod Nested

@@ -4,3 +4,4 @@ pub mod NoteNodes
 pub mod Placing
 pub mod Signs
 pub mod TextNodes
+pub mod Walk

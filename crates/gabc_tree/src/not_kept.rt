@@ -18,14 +18,14 @@ use std::alloc::{AllocError, Global};
 use std::marker::Model;
 
 /// Returns whether `c` is silent after `previous`: an LF directly after a CR, and each U+FEFF.
-fn is_silent_after(previous: char, c: char) -> bool
+pub(crate) fn is_silent_after(previous: char, c: char) -> bool
     ensures { result ≡ is_silent (previous, c) }
 {
     (previous == '\r' && c == '\n') || c == '\u{FEFF}'
 }
 
 /// Returns `c`, or an LF for a CR.
-fn read_as(c: char) -> char
+pub(crate) fn read_as(c: char) -> char
     ensures { result ≡ read c }
 {
     if c == '\r' { '\n' } else { c }
@@ -42,7 +42,7 @@ fn is_left_out(code: Code) -> bool
 }
 
 /// Returns whether `one` stands before `other`.
-fn is_earlier(one: Place, other: Place) -> bool
+pub(crate) fn is_earlier(one: Place, other: Place) -> bool
     ensures { result ≡ is_before one other }
 {
     one.line < other.line || (one.line == other.line && one.column < other.column)

@@ -74,7 +74,7 @@ fn kept_of(alloc: Global, syllables: &Syllables) -> Result<Vec<char>, AllocError
 }
 
 /// Returns the longest front of `bytes` within `limits` that is UTF-8.
-fn front_within(bytes: &[u8], limits: Limits) -> &str
+pub(crate) fn front_within(bytes: &[u8], limits: Limits) -> &str
     ensures text { chars result.now ≡ utf8_prefix_of (take limits.input bytes.now) }
     ensures short { length result.now < 2 ^ 32 }
 {

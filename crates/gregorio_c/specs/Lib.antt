@@ -2,6 +2,7 @@ pub mod machine
 pub mod Answers
 pub mod Asked
 pub mod InPieces
+pub mod MessageBytes
 pub mod Messages
 pub mod Picture
 pub mod Request

@@ -15,6 +15,7 @@ pub mod in_pieces;
 mod lengths;
 mod line_reader;
 mod message;
+mod message_bytes;
 mod message_ends;
 mod messages;
 mod options;
@@ -28,6 +29,7 @@ mod tree_node;
 
 ghost use Rattle.std.specs.Prelude.{◌≡◌, ◌≤◌, ◌⊎◌, None, IfSome};
 ghost use Rattle.gregorio_c.specs.Answers.{Answer, MessagesAnswer};
+ghost use Rattle.gregorio_c.specs.MessageBytes.{BytesAnswer};
 ghost use Rattle.gregorio_c.specs.Picture.{PictureAnswer};
 ghost use Rattle.gregorio_c.specs.Request.{request_by, warnings_by};
 ghost use Rattle.gregorio_c.specs.Tree.{TreeAnswer};
@@ -35,6 +37,7 @@ ghost use Rattle.gregorio_c.specs.Tree.{TreeAnswer};
 use compiled::compile;
 pub use lengths::Lengths;
 pub use message::Message;
+use message_bytes::put_bytes;
 use messages::tell_messages;
 pub use options::Options;
 use picture::tell_picture;
@@ -111,6 +114,17 @@ pub extern "C" fn gregorio_messages(
         return REFUSED;
     };
     tell_messages(alloc, all_warnings, key, score, messages, count).unwrap_or(NO_MEMORY)
+}
+
+/// Puts the byte of `score` at which each of `messages` stands, from 0, into `bytes`, if there is
+/// room for all; else `bytes` stays as it was. It is the byte of the first character that is shown
+/// and does not stand before the message's line and column, or the end of what is read of the
+/// score. Does not allocate.
+#[unsafe(no_mangle)]
+pub extern "C" fn gregorio_message_bytes(score: &[u8], messages: &[Message], bytes: &mut [u32])
+    ensures { BytesAnswer score.now messages.now bytes.old bytes.new }
+{
+    put_bytes(score, messages, bytes);
 }
 
 /// Reads `score`, puts the nodes of its tree into `nodes`, in the order of the score and each

@@ -20,13 +20,13 @@ use Rattle.gabc_tree.proofs.fates.Coming.{is_whole, read_to_end}
 
 -- ---- places
 
-before_trans : (p q r : Place) → is_before p q ≡ true → is_before q r ≡ true → is_before p r ≡ true
+pub before_trans : (p q r : Place) → is_before p q ≡ true → is_before q r ≡ true → is_before p r ≡ true
 before_trans p q r h i = by p.line p.column q.line q.column r.line r.column h i
   where
     by : (a b c d e f : ℕ) → (nat_lt a c || ((a == c) && nat_lt b d)) ≡ true → (nat_lt c e || ((c == e) && nat_lt d f)) ≡ true → (nat_lt a e || ((a == e) && nat_lt b f)) ≡ true
     by a b c d e f h i = grind (arith, nat_tests)
 
-not_before_itself : (p : Place) → is_before p p ≡ false
+pub not_before_itself : (p : Place) → is_before p p ≡ false
 not_before_itself p = by p.line p.column
   where
     by : (a b : ℕ) → (nat_lt a a || ((a == a) && nat_lt b b)) ≡ false
