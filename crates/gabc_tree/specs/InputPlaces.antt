@@ -13,8 +13,8 @@ use Rattle.gabc_body.specs.Score.{score_of}
 use Rattle.gabc_tree.specs.NotKept.{is_before, start}
 use Rattle.gabc_tree.specs.Tree.{ending_by}
 
--- The byte of the first of these characters that is shown and does not stand before p, or else their
--- end. They begin at that byte and at the place `here`, after the character `previous`.
+-- The byte of the first of these characters that is shown and does not stand before p, or else
+-- their end. They begin at that byte and at the place `here`, after the character `previous`.
 abbrev pub byte_from : Place → ℕ → ℕ → Place → List ℕ → ℕ
 byte_from p previous byte here [] = byte
 byte_from p previous byte here (c ∷ cs) =
@@ -44,8 +44,8 @@ abbrev pub IsThereIfSome : List ℕ → Option Fault → Type 0
 IsThereIfSome bytes None = Unit {0}
 IsThereIfSome bytes (Some fault) = IsThere bytes fault.place
 
--- Law: each finding of a score, and its fault, stands at a byte of the input that is read, or at its
--- end.
+-- Law: each finding of a score, and its fault, stands at a byte of the input that is read, or at
+-- its end.
 pub record AllAreThere (limits : Limits) (bytes : List ℕ) : Type 0 where
   pub findings :
       let decoded = decoded_of limits true bytes in
