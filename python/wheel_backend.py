@@ -54,12 +54,9 @@ def _files() -> dict[str, bytes]:
 
 
 def _for_editors() -> dict[str, bytes]:
-    """Returns the files for editors by their names: those for vim and emacs, and the packed
-    extension for VS Code."""
+    """Returns the files for editors by their names: those for vim and emacs."""
     sources = [it for it in sorted(EDITORS.rglob("*")) if it.suffix in (".vim", ".lua", ".el")]
-    files = {it.relative_to(EDITORS).as_posix(): it.read_bytes() for it in sources}
-    vsix: bytes = runpy.run_path(str(ROOT / "tools" / "pack_vsix"))["packed"]()
-    return files | {"gregorio-chant.vsix": vsix}
+    return {it.relative_to(EDITORS).as_posix(): it.read_bytes() for it in sources}
 
 
 def _metadata(project: dict[str, Any], version: str) -> str:

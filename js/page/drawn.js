@@ -1,12 +1,8 @@
 // The picture of a score, as the compiler draws it.
 
+import { SVG_TYPE, elementOf } from "../src/picture.js";
 import { save } from "./files.js";
 
-const SVG_TYPE = "image/svg+xml";
-// What a picture has to stand alone, and the page has by itself.
-const NOT_SHOWN = "metadata, .paper";
-// The policy of the page refuses a style even before it is taken out.
-const STYLE = /<style>[^<]*<\/style>/;
 // What belongs to no syllable, as what ends a score, is named by no bytes.
 const SYLLABLE = '.syllable:not([data-end="0"])';
 
@@ -26,13 +22,7 @@ export class Drawn {
   /** Shows the picture with this text; none if there is no text. */
   show(svg = "") {
     this.#svg = svg;
-    if (svg === "") {
-      this.#place.replaceChildren();
-      return;
-    }
-    const picture = new DOMParser().parseFromString(svg.replace(STYLE, ""), SVG_TYPE).documentElement;
-    for (const it of picture.querySelectorAll(NOT_SHOWN)) it.remove();
-    this.#place.replaceChildren(document.importNode(picture, true));
+    this.#place.replaceChildren(...(svg === "" ? [] : [elementOf(svg)]));
   }
 
   /** Marks the last syllable that begins at this byte or before it. */

@@ -1,43 +1,13 @@
 // The messages: as marks in the source, and as a list below it.
 
-import { helpsFor } from "./helps.js";
-import { nodesBeginningAt } from "./nodes.js";
-import { numberOf } from "./words.js";
+import { MOST } from "./found.js";
 
-// So many messages have a line in the list, and a help.
-const MOST = 500;
-// Kinds of nodes that say a code.
-const CODED = new Set(["header", "headerLeftOut", "leftOut", "unread"]);
 const TOTALS = [["fatal", "fatal fault"], ["error", "error"], ["warning", "warning"]];
 
 /** Returns how many messages of each kind there are, in words. */
 function totalsOf(messages) {
   const totals = TOTALS.map(([kind, words]) => [messages.filter((it) => it.kind === kind).length, words]).filter(([count]) => count > 0);
   return totals.map(([count, words]) => `${count} ${words}${count > 1 ? "s" : ""}`).join(", ") || "Nothing was found";
-}
-
-/** Returns the node that a message is about: the one that says its code, else one that begins at its place; `undefined` if neither is there. */
-function nodeOf(tree, byte, code) {
-  const nodes = nodesBeginningAt(tree, byte);
-  return nodes.find((it) => CODED.has(it.kind) && it.values[0] === code) ?? nodes[0];
-}
-
-/** Returns the range of the character at this unit, or of the last one if the text ends there. */
-function characterAt(text, unit) {
-  const begin = Math.max(Math.min(unit, text.length - 1), 0);
-  return { begin, end: Math.min(begin + String.fromCodePoint(text.codePointAt(begin) ?? 0).length, text.length) };
-}
-
-/** Returns the messages of an answer, each with its range in the text, and its help if it has one. */
-export function findingsOf({ messages, tree }, text, places) {
-  // A server that has tried rules tells their messages, and all helps.
-  const helps = messages.some((it) => "help" in it) ? messages.map((it) => it.help) : helpsFor(messages.slice(0, MOST), tree, text, places);
-  return messages.map((message, i) => {
-    const unit = places.unitOf(message);
-    const node = nodeOf(tree, places.byteAt(unit), numberOf(message.code));
-    const range = node ? { begin: unit, end: places.unitAt(node.end) } : characterAt(text, unit);
-    return { ...message, ...range, help: helps[i] };
-  });
 }
 
 const elementOf = (name, text, kind) => Object.assign(document.createElement(name), { textContent: text, className: kind });

@@ -1,6 +1,5 @@
-// What is said of a message beside its text: a row of the table of helps, of which the Python package has all facts, and this page those that a tree and a text say.
+// What is said of a message beside its text: a row of the table of helps, of which the Python package has all facts, and JavaScript those that a tree and a text say.
 
-import { HELPS } from "./data.js";
 import { FACTS } from "./facts.js";
 import { innermostAt } from "./nodes.js";
 
@@ -31,22 +30,22 @@ function sentenceOf(row, subject) {
 }
 
 /** Returns the help for a message about this place, and whether it is told but once. */
-function helpFor({ code }, subject) {
-  for (const row of HELPS.helps) {
+function helpFor({ code }, subject, rows) {
+  for (const row of rows) {
     const help = row.codes.includes(code) ? sentenceOf(row, subject) : undefined;
     if (help !== undefined) return { help, isOnce: row.once ?? false };
   }
   return { help: undefined, isOnce: false };
 }
 
-/** Returns the helps for messages of a text: `undefined` for one that has none. What is told but once refers to the first message with the same help. */
-export function helpsFor(messages, tree, text, places) {
+/** Returns the helps for messages of a text by the table of helps: `undefined` for one that has none. What is told but once refers to the first message with the same help. */
+export function helpsFor(messages, tree, text, places, { helps: rows, again }) {
   const first = new Map();
   return messages.map((message) => {
     const at = places.unitOf(message);
     const [node, before] = [at, at - 1].map((unit) => innermostAt(tree, places.byteAt(Math.max(unit, 0))));
-    const { help, isOnce } = helpFor(message, { text, at, places, tree, node, kind: node.kind, kindBefore: before.kind });
-    if (isOnce && first.has(help) && message.kind !== "fatal") return filled(HELPS.again, { first: first.get(help) });
+    const { help, isOnce } = helpFor(message, { text, at, places, tree, node, kind: node.kind, kindBefore: before.kind }, rows);
+    if (isOnce && first.has(help) && message.kind !== "fatal") return filled(again, { first: first.get(help) });
     if (help && !first.has(help)) first.set(help, `${message.line}:${message.column}`);
     return help;
   });

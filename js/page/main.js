@@ -1,9 +1,10 @@
 // The page: what is written is compiled, and what came of it is shown.
 
 import { Tree } from "../src/tree.js";
-import { EXAMPLES } from "./data.js";
+import { EXAMPLES, HELPS } from "./data.js";
 import { MOST_BYTES, nameFrom, opened, save } from "./files.js";
-import { Findings, findingsOf } from "./findings.js";
+import { Findings } from "./findings.js";
+import { findingsOf } from "./found.js";
 import { forget, keep, keptScore } from "./kept.js";
 import { Outline } from "./outline.js";
 import { Source } from "./source.js";
@@ -70,7 +71,7 @@ function show(it) {
   answer = it;
   // An empty field is no score that is wrong.
   const wasRead = it !== NOTHING && source.text !== "";
-  const found = wasRead ? findingsOf(it, source.text, source.places) : [];
+  const found = wasRead ? findingsOf(it, source.text, source.places, HELPS) : [];
   source.mark(found);
   findings.show(found, wasRead);
   at("canonical").replaceChildren(...piecesOf(it.canonical));

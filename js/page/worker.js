@@ -4,13 +4,11 @@ import wasm from "gregorio-wasm";
 import { bytesOfScore } from "../src/bytes.js";
 import { draw } from "../src/draw.js";
 import { Library } from "../src/library.js";
+import { MOST_DRAWN } from "../src/picture.js";
 import { recordsOf } from "../src/tree.js";
 import { compile } from "../src/whole.js";
 
 const library = new Library(new WebAssembly.Module(wasm), crypto);
-
-// A longer score is not drawn: a picture of it would be slow to show.
-const MOST_DRAWN = 50_000;
 
 // What a part of the page shows of a score, beside what is shown of each.
 const MORE = {

@@ -3,10 +3,10 @@
 import { bytesOfScore } from "./bytes.js";
 import { withMemory } from "./library.js";
 import { NOTICE, OUTLINES } from "./outlines.js";
+import { LEAST_WIDTH, MOST_WIDTH } from "./picture.js";
 
-// How wide a picture is in pixels, if nothing else is asked for, and what can be asked for.
+// How wide a picture is in pixels, if nothing else is asked for.
 const USUAL = 720;
-const [LEAST, MOST] = [120, 100_000];
 // A pixel has so many units of the library.
 const UNITS = 100;
 
@@ -31,7 +31,7 @@ function widthOf(options = {}) {
   }
   const { width = USUAL } = options;
   if (typeof width !== "number") throw new TypeError(`a width is a number, not ${typeof width}`);
-  if (!(LEAST <= width && width <= MOST)) throw new RangeError(`a width is from ${LEAST} to ${MOST} pixels, not ${width}`);
+  if (!(LEAST_WIDTH <= width && width <= MOST_WIDTH)) throw new RangeError(`a width is from ${LEAST_WIDTH} to ${MOST_WIDTH} pixels, not ${width}`);
   return Math.round(UNITS * width);
 }
 

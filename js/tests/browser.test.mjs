@@ -2,15 +2,13 @@
 
 import assert from "node:assert/strict";
 import { existsSync, readFileSync } from "node:fs";
-import { createServer } from "node:http";
 import { test } from "node:test";
 
 import { tree } from "gregorio-chant";
 import { BROWSERS, Browser } from "./browsers.mjs";
 import { numbersOf, runsOf } from "./cases.mjs";
+import { PACKAGE, POLICY, pageOf, serve } from "./server.mjs";
 
-const POLICY = "default-src 'none'; script-src 'self' 'wasm-unsafe-eval'; worker-src 'self'; connect-src 'self'";
-const PACKAGE = "/node_modules/gregorio-chant/";
 const TABLES = ["rows", "canonical", "canonical_w12", "nabc_lines", "dump", "dump2"];
 
 // What the page and the worker run: each answers which runs came out otherwise.
@@ -45,9 +43,9 @@ async function answers() {
 
 const runs = TABLES.flatMap(runsOf).filter((it) => it.hasUsualLimits && !it.isBroken);
 const TEXTS = {
-  "/": ["text/html", '<!DOCTYPE html><meta charset="utf-8"><link rel="icon" href="data:,"><title>trial</title><script type="module" src="/page.mjs"></script>'],
+  "/": [...pageOf('<title>trial</title><script type="module" src="/page.mjs"></script>'), POLICY],
   "/page.mjs": ["text/javascript", PAGE],
-  "/worker.mjs": ["text/javascript", WORKER],
+  "/worker.mjs": ["text/javascript", WORKER, POLICY],
   "/trial.mjs": ["text/javascript", TRIAL],
   "/runs.json": ["application/json", JSON.stringify(runs.map((it) => ({ ...it, input: [...it.input], numbers: numbersOf(tree(it.input)) })))],
 };
@@ -55,36 +53,18 @@ const TEXTS = {
 // The page of the README, if the trial has put it here.
 const OF_README = "page.html";
 
-/** Returns the kind and the content of what a page asks for, if it is there. */
-function contentOf(path) {
-  if (path === "/of-readme") return ["text/html", `<!DOCTYPE html><meta charset="utf-8"><link rel="icon" href="data:,"><body>${readFileSync(OF_README)}`];
-  if (path.startsWith(PACKAGE) && !path.includes("..")) return [path.endsWith(".wasm") ? "application/wasm" : "text/javascript", readFileSync(`.${path}`)];
-  return TEXTS[path];
-}
-
-/** Starts a server. */
-async function serve() {
-  const server = createServer((request, response) => {
-    const content = contentOf(request.url);
-    const policy = request.url === "/of-readme" ? {} : { "content-security-policy": POLICY };
-    response.writeHead(content ? 200 : 404, { "content-type": content?.[0] ?? "text/plain", ...policy });
-    response.end(content?.[1]);
-  });
-  await new Promise((resolve) => server.listen(0, "127.0.0.1", resolve));
-  return server;
-}
+const contentOf = (path) => (path === "/of-readme" ? pageOf(`<body>${readFileSync(OF_README)}`) : TEXTS[path]);
 
 /** Opens a page of the server in a browser, and returns what a function finds on it. */
 async function found(kind, path, look) {
-  const server = await serve();
+  const server = await serve(contentOf);
   const browser = await Browser.start(kind, process.cwd());
   try {
-    await browser.open(`http://127.0.0.1:${server.address().port}${path}`);
+    await browser.open(`${server.address}${path}`);
     return await browser.run(look);
   } finally {
     await browser.end();
-    server.closeAllConnections();
-    server.close();
+    server.end();
   }
 }
 
