@@ -1,8 +1,9 @@
 //! Whatever is drawn and is no head of a note.
 
 use crate::distance::Distance;
+use crate::hand::NabcOutline;
 use crate::symbol::Symbol;
-use crate::words::Words;
+use crate::words::{NabcLine, Words};
 
 /// Something that is drawn beside the heads.
 #[derive(Clone, Copy, Debug)]
@@ -28,4 +29,11 @@ pub enum Sign<'a> {
         width: Distance,
     },
     Words(Words<'a>),
+    /// An outline of NABC with its origin at `x`, so far below its line.
+    Nabc {
+        outline: NabcOutline,
+        line: NabcLine,
+        x: Distance,
+        y: Distance,
+    },
 }
