@@ -43,7 +43,7 @@ extern const char gregorio_version[];
 #define GREGORIO_WHOLE 0u     /* the score was read to its end, and no error was found */
 #define GREGORIO_ERRORS 1u    /* it was read to its end, and errors were found */
 #define GREGORIO_FATAL 2u     /* a fatal fault stopped the reading */
-#define GREGORIO_REFUSED 3u   /* the format or a flag is unknown, or a limit is out of range: nothing was written */
+#define GREGORIO_REFUSED 3u   /* the format, a flag or an option is unknown, or a limit is out of range: nothing was written */
 #define GREGORIO_BROKEN 4u    /* the source of the input failed (only from gregorio_broken) */
 #define GREGORIO_NO_MEMORY 5u /* there was not enough memory: nothing was written */
 
@@ -123,6 +123,14 @@ struct gregorio_node {
   uint16_t c;
 };
 
+/* How a picture looks, and which messages stand in it. */
+struct gregorio_picture_options {
+  uint32_t version;  /* 1 */
+  uint32_t width;    /* in thousandths of a staff space: at least 12000, or 0 for 72000 */
+  uint32_t messages; /* 0 for none, 1 for errors and faults, 2 for warnings too */
+  uint32_t reserved; /* 0 */
+};
+
 /* The limits of a run, in bytes, and a key for the table of the headers' names. */
 struct gregorio_options {
   uint32_t header;   /* most bytes of the headers: 64 to 16777216, default 65536 */
@@ -167,12 +175,12 @@ uint32_t gregorio_tree(const uint8_t *score, size_t score_length, const uint64_t
                        size_t nodes_capacity, size_t *count);
 
 /* Reads the score, and writes its picture into `picture`, as SVG, and the number of its bytes into `count`. If `picture` is too small for it, that
- * stays as it was. `width` is how wide the picture is, in thousandths of a staff space: at least 12,000; 0 stands for 72,000. The outlines of notes and
- * signs are references by their names, as `#punctum`: docs/PICTURES.md says where the outlines are had.
+ * stays as it was. `options` may be null, with a count of 0, for the default ones; else its count is 1. The outlines of notes and signs are references by
+ * their names, as `#punctum`: docs/PICTURES.md says where the outlines are had.
  *
- * Returns GREGORIO_WHOLE for every score. At GREGORIO_NO_MEMORY both stay as they were. */
-uint32_t gregorio_draw(const uint8_t *score, size_t score_length, uint32_t width, const uint64_t *key, size_t key_length, uint8_t *picture,
-                       size_t picture_capacity, size_t *count);
+ * Returns GREGORIO_WHOLE for every score. At GREGORIO_REFUSED and GREGORIO_NO_MEMORY both stay as they were. */
+uint32_t gregorio_draw(const uint8_t *score, size_t score_length, const struct gregorio_picture_options *options, size_t options_count,
+                       const uint64_t *key, size_t key_length, uint8_t *picture, size_t picture_capacity, size_t *count);
 
 /* A run: a score in pieces.
  *

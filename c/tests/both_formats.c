@@ -56,9 +56,9 @@ static void write_tree(const struct text *input) {
 
 static void write_picture(const struct text *input) {
   size_t count = 0;
-  if (gregorio_draw(input->bytes, input->length, 0, NULL, 0, NULL, 0, &count) != GREGORIO_WHOLE) exit(2);
+  if (gregorio_draw(input->bytes, input->length, NULL, 0, NULL, 0, NULL, 0, &count) != GREGORIO_WHOLE) exit(2);
   uint8_t *picture = malloc(count);
-  if (!picture || gregorio_draw(input->bytes, input->length, 0, NULL, 0, picture, count, &count) != GREGORIO_WHOLE) exit(2);
+  if (!picture || gregorio_draw(input->bytes, input->length, NULL, 0, NULL, 0, picture, count, &count) != GREGORIO_WHOLE) exit(2);
   uint32_t sum = 2166136261;
   for (size_t i = 0; i < count; i++) sum = (sum ^ picture[i]) * 16777619;
   printf("\t%zu %" PRIu32, count, sum);

@@ -69,7 +69,7 @@ static uint32_t list_nodes(const struct test_case *it, struct gregorio_lengths *
 }
 
 static uint32_t draw(const struct test_case *it, struct gregorio_lengths *lengths) {
-  return gregorio_draw(it->input.bytes, it->input.length, 0, NULL, 0, output, sizeof output, &lengths->output);
+  return gregorio_draw(it->input.bytes, it->input.length, &(struct gregorio_picture_options){1, 0, 2, 0}, 1, NULL, 0, output, sizeof output, &lengths->output);
 }
 
 static uint32_t begin(const struct test_case *it, struct gregorio_lengths *lengths) {

@@ -27,16 +27,28 @@ const MARKS = { "&": "&amp;", "<": "&lt;", ">": "&gt;", '"': "&quot;" };
 // What begins the names of outlines of NABC.
 const OF_NABC = /^(stgall|laon)-/;
 
-/** Returns the width that is asked for, in units of the library. Throws a `TypeError` for another option and for a width that is no number, and a `RangeError` for one that is out of range. */
-function widthOf(options = {}) {
-  if (typeof options !== "object" || options === null) throw new TypeError(`options are an object, not ${typeof options}`);
-  for (const name of Object.keys(options)) {
-    if (name !== "width") throw new TypeError(`there is no option ${name}`);
-  }
-  const { width = USUAL } = options;
+// Which messages stand in a picture, by their numbers in the library.
+const MESSAGES = ["none", "errors", "all"];
+const KNOWN = ["width", "messages"];
+// The version of the record of options.
+const VERSION = 1;
+
+/** Returns a width in units of the library. Throws a `TypeError` if it is no number, and a `RangeError` if it is out of range. */
+function unitsOf(width) {
   if (typeof width !== "number") throw new TypeError(`a width is a number, not ${typeof width}`);
   if (!(LEAST_WIDTH <= width && width <= MOST_WIDTH)) throw new RangeError(`a width is from ${LEAST_WIDTH} to ${MOST_WIDTH} pixels, not ${width}`);
   return Math.round(UNITS * width);
+}
+
+/** Returns the options as the library is told them. Throws a `TypeError` for another option or a kind of messages that is not known, and as `unitsOf`. */
+function recordOf(options = {}) {
+  if (typeof options !== "object" || options === null) throw new TypeError(`options are an object, not ${typeof options}`);
+  for (const name of Object.keys(options)) {
+    if (!KNOWN.includes(name)) throw new TypeError(`there is no option ${name}`);
+  }
+  const { width = USUAL, messages = "none" } = options;
+  if (!MESSAGES.includes(messages)) throw new TypeError(`messages are "none", "errors" or "all", not ${String(messages)}`);
+  return new Uint8Array(new Uint32Array([VERSION, unitsOf(width), MESSAGES.indexOf(messages), 0]).buffer);
 }
 
 /** Returns an outline as a path. */
@@ -61,11 +73,11 @@ function standingAlone(svg) {
   return sized + beginning(names) + svg.slice(head.length);
 }
 
-/** Returns what the library draws of the bytes of a score, in a picture that is so many of its units wide. */
-function drawn(library, score, width) {
+/** Returns what the library draws of the bytes of a score, by this record of options. */
+function drawn(library, score, record) {
   return library.within((rooms, calls) => {
     const key = library.newKey();
-    const told = [...rooms.put(score), width, rooms.put(key)[0], BigInt(key.length / 8)];
+    const told = [...rooms.put(score), rooms.put(record)[0], 1n, rooms.put(key)[0], BigInt(key.length / 8)];
     const size = Math.min(TIMES * score.length + LEAST_ROOM, MOST_ROOM);
     const [, [picture]] = rooms.fit([size], ([span], count) => withMemory(calls.gregorio_draw(...told, ...span, count)));
     return rooms.text(...picture);
@@ -74,5 +86,5 @@ function drawn(library, score, width) {
 
 /** Draws `score`, a text or bytes, as SVG. */
 export function draw(library, score, options) {
-  return standingAlone(drawn(library, bytesOfScore(score), widthOf(options)));
+  return standingAlone(drawn(library, bytesOfScore(score), recordOf(options)));
 }

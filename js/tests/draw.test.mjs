@@ -177,7 +177,7 @@ test("a picture tells whose its outlines are", () => {
 
 test("scores and options of other kinds", () => {
   for (const it of [undefined, null, 7, [37, 37], {}, new String("%%")]) assert.throws(() => draw(it), TypeError);
-  for (const it of [null, "720", 720, { wide: 720 }, { width: "720" }, { width: null }]) assert.throws(() => draw("%%", it), TypeError);
+  for (const it of [null, "720", 720, { wide: 720 }, { width: "720" }, { width: null }, { messages: true }, { messages: "some" }]) assert.throws(() => draw("%%", it), TypeError);
   for (const width of [0, 119, -1, NaN, Infinity, 100_001]) assert.throws(() => draw("%%", { width }), RangeError);
   looksAt(new Uint8Array(0), "no bytes");
   looksAt(Uint8Array.of(0x25, 0x25, 0x0a, 0x28, 0x66, 0x29, 0xff), "no UTF-8");
@@ -186,6 +186,15 @@ test("scores and options of other kinds", () => {
 test("want of memory is a RangeError, and a later call succeeds", () => {
   assert.throws(() => draw(new Uint8Array(2 ** 32 - 1)), RangeError);
   assert.equal(looksAt("%%\n(f)", "later"), 1);
+});
+
+test("messages stand in a picture if they are asked for", () => {
+  const score = "%%\n(c4) Ky(f)ri(gfg&)e(e.) (::)\n";
+  const codes = (messages) => textsOf(draw(score, { messages }), "text").filter((it) => /^[EWF]\d+$/.test(it));
+  assert.deepEqual(codes(undefined), []);
+  assert.deepEqual(codes("none"), []);
+  assert.deepEqual(codes("errors"), ["E1"]);
+  assert.deepEqual(codes("all").sort(), ["E1", "W1"]);
 });
 
 test("a picture that its room is too small for is drawn again", () => {

@@ -20,6 +20,7 @@ mod message_ends;
 mod messages;
 mod options;
 mod picture;
+mod picture_options;
 mod pieces;
 mod request;
 mod step;
@@ -27,10 +28,10 @@ mod steps;
 mod tree;
 mod tree_node;
 
-ghost use Rattle.std.specs.Prelude.{◌≡◌, ◌≤◌, ◌⊎◌, None, IfSome};
+ghost use Rattle.std.specs.Prelude.{◌≡◌, ◌≤◌, ◌⊎◌, None, IfSome, true, false};
 ghost use Rattle.gregorio_c.specs.Answers.{Answer, MessagesAnswer};
 ghost use Rattle.gregorio_c.specs.MessageBytes.{BytesAnswer};
-ghost use Rattle.gregorio_c.specs.Picture.{PictureAnswer};
+ghost use Rattle.gregorio_c.specs.Picture.{PictureAnswer, are_known};
 ghost use Rattle.gregorio_c.specs.Request.{request_by, warnings_by};
 ghost use Rattle.gregorio_c.specs.Tree.{TreeAnswer};
 
@@ -41,6 +42,8 @@ use message_bytes::put_bytes;
 use messages::tell_messages;
 pub use options::Options;
 use picture::tell_picture;
+pub use picture_options::PictureOptions;
+use picture_options::wanted_of;
 pub use pieces::{
     gregorio_begin, gregorio_broken, gregorio_end, gregorio_feed, gregorio_state_bound,
 };
@@ -50,7 +53,7 @@ pub use step::Step;
 use tree::tell_tree;
 pub use tree_node::TreeNode;
 
-/// What is answered where a number of the format or of the flags is not known.
+/// What is answered where a number of the format, of the flags or of options is not known.
 const REFUSED: u32 = 3;
 
 /// What is answered where a tree or a picture is made.
@@ -153,25 +156,29 @@ pub extern "C" fn gregorio_tree(
 
 /// Reads `score`, puts its picture into `picture`, as SVG with references to the outlines of notes
 /// by their names, and the number of its bytes into `count`. If `picture` is too small for it, that
-/// stays as it was. `width` is how wide it is, in thousandths of a staff space: at least 12,000, or
-/// 0 for 72,000. `key` as for `gregorio_compile`.
+/// stays as it was. `options` are none, for the default ones, or one. `key` as for
+/// `gregorio_compile`.
 ///
-/// Returns 0 for every score, and 5 if there is no memory; `picture` and `count` stay as they were
-/// then.
+/// Returns 0 for every score, 3 if a number of the options is not known, and 5 if there is no
+/// memory; `picture` and `count` stay as they were then.
 #[unsafe(no_mangle)]
 pub extern "C" fn gregorio_draw(
     alloc: Global,
     score: &[u8],
-    width: u32,
+    options: &[PictureOptions],
     key: &[u64],
     picture: &mut [u8],
     count: &mut usize,
 ) -> u32
-    ensures answer { (result ≡ 0) ⊎ (result ≡ 5) }
+    ensures refused { are_known options.now ≡ false → result ≡ 3 }
+    ensures taken { are_known options.now ≡ true → (result ≡ 0) ⊎ (result ≡ 5) }
     ensures answered { result ≡ 0 → PictureAnswer score.now picture.old picture.new count.new }
-    ensures unchanged { result ≡ 5 → (picture.new ≡ picture.old) × (count.new ≡ count.old) }
+    ensures unchanged { 3 ≤ result → (picture.new ≡ picture.old) × (count.new ≡ count.old) }
 {
-    match tell_picture(alloc, key, score, width, picture, count) {
+    let Some(wanted) = wanted_of(options) else {
+        return REFUSED;
+    };
+    match tell_picture(alloc, key, score, wanted, picture, count) {
         Ok(()) => MADE,
         Err(_) => NO_MEMORY,
     }

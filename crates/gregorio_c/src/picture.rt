@@ -8,24 +8,66 @@ ghost use Rattle.gregorio_c.specs.Picture.{PictureAnswer};
 
 use crate::buffers::start_of;
 use crate::engines::hasher_of;
-use gabc_draw::{Options, picture_of};
+use crate::picture_options::Wanted;
+use gabc_body::InputEnding;
+use gabc_draw::{Mark, Options, picture_of};
 use gabc_marks::{Distance, Picture};
-use gabc_places::{BufferFiller, ByteCounter, Limits};
+use gabc_places::{BufferFiller, ByteCounter, Decoded, Limits, text_of};
+use gabc_score::score_whole_with_hasher;
 use gabc_svg::put_picture;
-use gabc_tree::tree_of_with_hasher;
+use gabc_tree::{PlaceReader, tree_of_with_hasher};
+use gregorio::is_shown;
 use std::alloc::{AllocError, Global};
 
-/// Returns options for a picture of this `width`, in thousandths of a staff space; 0 is the default
-/// one.
-fn options_of(width: u32) -> Options {
-    match i32::try_from(width) {
-        Ok(0) => Options::usual(),
-        Ok(width) => Options {
-            width: Distance(width),
-        },
-        Err(_) => Options {
-            width: Distance(i32::MAX),
-        },
+/// Returns the width of a picture that this number asks for: 0 is the default one.
+fn width_of(width: u32) -> Distance {
+    if width == 0 {
+        return Options::usual().width;
+    }
+    Distance(i32::try_from(width).unwrap_or(i32::MAX))
+}
+
+/// Reads `score` for its messages, those of errors and faults, and if they are wanted those of
+/// `warnings`, and returns them as marks. It fails only for want of memory.
+fn marks_of(
+    alloc: Global,
+    key: &[u64],
+    score: &[u8],
+    warnings: bool,
+) -> Result<Vec<Mark>, AllocError> {
+    let limits = Limits::default();
+    let Decoded { text, fault } = text_of(alloc, score, true, limits)?;
+    let ending = fault.map_or(InputEnding::Whole, InputEnding::At);
+    let read = score_whole_with_hasher(alloc, &text, ending, limits, hasher_of(key))?;
+    let mut reader = PlaceReader::new(score, limits);
+    let mut marks = Vec::new(alloc);
+    for finding in read.findings.as_slice() {
+        if is_shown(warnings, *finding) {
+            marks.push(Mark {
+                at: reader.byte_of(finding.place),
+                code: finding.code,
+            })?;
+        }
+    }
+    if let Some(fault) = read.fault {
+        marks.push(Mark {
+            at: reader.byte_of(fault.place),
+            code: fault.code,
+        })?;
+    }
+    Ok(marks)
+}
+
+/// Returns the marks that are wanted in a picture of `score`. It fails only for want of memory.
+fn wanted_marks(
+    alloc: Global,
+    key: &[u64],
+    score: &[u8],
+    wanted: Wanted,
+) -> Result<Vec<Mark>, AllocError> {
+    match wanted.warnings {
+        Some(warnings) => marks_of(alloc, key, score, warnings),
+        None => Ok(Vec::new(alloc)),
     }
 }
 
@@ -51,14 +93,14 @@ fn put_text(picture: &Picture<'_>, count: usize, buf: &mut [u8])
     put_picture(picture, &mut BufferFiller { buf, len: start });
 }
 
-/// Reads `score`, and puts its picture of this `width` into `buf`, if there is room for it, and the
-/// number of its bytes into `count`. It fails only for want of memory, or if there are more bytes
+/// Reads `score`, and puts its picture, as it is `wanted`, into `buf`, if there is room for it, and
+/// the number of its bytes into `count`. It fails only for want of memory, or if there are more bytes
 /// than can be counted, and nothing is written then.
 pub(crate) fn tell_picture(
     alloc: Global,
     key: &[u64],
     score: &[u8],
-    width: u32,
+    wanted: Wanted,
     buf: &mut [u8],
     count: &mut usize,
 ) -> Result<(), AllocError>
@@ -67,7 +109,12 @@ pub(crate) fn tell_picture(
     ensures count_unchanged { OnErr result (count.new ≡ count.old) }
 {
     let tree = tree_of_with_hasher(alloc, score, Limits::default(), hasher_of(key))?;
-    let picture = picture_of(alloc, tree.nodes(), score, options_of(width))?;
+    let marks = wanted_marks(alloc, key, score, wanted)?;
+    let options = Options {
+        width: width_of(wanted.width),
+        marks: marks.as_slice(),
+    };
+    let picture = picture_of(alloc, tree.nodes(), score, options)?;
     let len = length_of(&picture)?;
     put_text(&picture, len, buf);
     *count = len;
