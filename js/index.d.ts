@@ -181,7 +181,7 @@ export interface DrawOptions {
   /** How wide the picture is at most, in pixels: 120 to 100,000, and 720 if it is left out. */
   readonly width?: number;
   /** Which messages stand in the picture, each at its place: "none" (default), "errors" with fatal faults, or "all" with warnings. */
-  messages?: "none" | "errors" | "all";
+  readonly messages?: "none" | "errors" | "all";
 }
 
 /**
