@@ -33,7 +33,7 @@ fn place_past(here: Place, c: char, is_left_out: bool) -> Place
 
 impl<'a> Walk<'a> {
     /// Returns a walk at the beginning of `text`.
-    fn new(text: &'a str) -> Walk<'a>
+    fn begun(text: &'a str) -> Walk<'a>
         ensures { IsFresh text.now result }
     {
         Walk {
@@ -111,7 +111,7 @@ impl<'a> PlaceReader<'a> {
         let text = front_within(input, limits);
         PlaceReader {
             text,
-            walk: Walk::new(text),
+            walk: Walk::begun(text),
         }
     }
 
@@ -122,7 +122,7 @@ impl<'a> PlaceReader<'a> {
         ensures same { self.new ≡ self.old }
     {
         if is_earlier(place, self.walk.here) {
-            self.walk = Walk::new(self.text);
+            self.walk = Walk::begun(self.text);
         }
         self.walk = self.walk.to(place);
         self.walk.byte

@@ -94,8 +94,8 @@ fn put_text(picture: &Picture<'_>, count: usize, buf: &mut [u8])
 }
 
 /// Reads `score`, and puts its picture, as it is `wanted`, into `buf`, if there is room for it, and
-/// the number of its bytes into `count`. It fails only for want of memory, or if there are more bytes
-/// than can be counted, and nothing is written then.
+/// the number of its bytes into `count`. It fails only for want of memory, or if there are more
+/// bytes than can be counted, and nothing is written then.
 pub(crate) fn tell_picture(
     alloc: Global,
     key: &[u64],

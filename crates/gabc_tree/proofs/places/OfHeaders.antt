@@ -1,10 +1,8 @@
 -- What is found in headers, and what stops them, stands at places of the text.
-use Rattle.std.proofs.Common.{◌≡◌, ℕ, suc, ◌+◌, ◌≤◌, ◌<◌, Bool, true, false, cond, not, ◌==◌, ◌||◌, ◌&&◌, List, [], ◌∷◌, ◌++◌, map, filter, length, take, Option, Some, None, Result, Ok, Err, nat_lt, refl, sym, ap, subst, ◌∙◌, arith, codes, if◌then◌else◌}
-use Rattle.gabc_places.specs.Findings.{Known, findings_before, Stop, earlier, or_earlier, earliest}
+use Rattle.std.proofs.Common.{ℕ, suc, ◌+◌, ◌≤◌, Bool, true, false, cond, not, ◌||◌, ◌&&◌, List, [], ◌∷◌, ◌++◌, map, filter, length, take, Option, Some, None, Result, Ok, Err, nat_lt, arith, codes, if◌then◌else◌}
+use Rattle.gabc_places.specs.Findings.{Known, findings_before, Stop, or_earlier, earliest}
 use Rattle.gabc_places.specs.Place.{place_after}
-use Rattle.gabc_places.specs.declared.code.Code.{Code}
-use Rattle.gabc_places.specs.declared.code.Code.TheVariants.{E4, E5, W1, W2, F2, F3, F4, F7}
-use Rattle.gabc_places.specs.declared.code.Finding.{Finding}
+use Rattle.gabc_places.specs.declared.code.Code.TheVariants.{E5, W1, W2, F4, F7}
 use Rattle.gabc_places.specs.declared.limits.Limits.{Limits}
 use Rattle.gabc_places.specs.declared.place.Place.{Place}
 use Rattle.gabc_headers.specs.Book.{book_of, is_kept, repeats, has_header}

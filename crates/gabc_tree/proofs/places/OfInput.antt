@@ -1,5 +1,5 @@
 -- A place of the text of an input stands at a byte of it.
-use Rattle.std.proofs.Common.{◌≡◌, ℕ, suc, ◌+◌, ◌<◌, ◌≤◌, ◌^◌, Bool, true, false, cond, List, [], ◌∷◌, ◌++◌, length, sum_by, refl, sym, ap, subst, ◌∙◌, arith}
+use Rattle.std.proofs.Common.{◌≡◌, ℕ, ◌+◌, Bool, true, false, cond, List, [], ◌∷◌, ◌++◌, refl, ap, ◌∙◌, arith}
 use Rattle.std.specs.Char.{len_utf8}
 use Rattle.gabc_places.specs.Place.{next_place, saturating_next_place, place_past}
 use Rattle.gabc_places.specs.Text.{is_left_out, read_as}

@@ -1,17 +1,16 @@
 -- What is found in a score, and its fault, stands at bytes of the input.
-use Rattle.std.proofs.Common.{◌≡◌, ℕ, ◌+◌, ◌<◌, ◌^◌, Bool, true, false, List, [], ◌∷◌, ◌++◌, length, take, nat_lt, take-append-drop, Option, Some, None, Result, Ok, Err, refl, sym, ap, subst, ◌∙◌, append_assoc, arith}
+use Rattle.std.proofs.Common.{◌≡◌, ℕ, ◌+◌, ◌<◌, ◌^◌, Bool, true, false, List, [], ◌∷◌, ◌++◌, length, take, nat_lt, take-append-drop, Option, Some, None, Result, Ok, Err, sym, ap, subst, ◌∙◌, append_assoc, arith}
 use Rattle.std.specs.List.{All}
 use Rattle.std.specs.Option.{option_map}
 use Rattle.std.proofs.lemmas.List.Elements.{All-nil, All-cons}
-use Rattle.gabc_places.specs.Place.{next_place, place_after, place_past, placed_characters_after, placed_characters_from}
-use Rattle.gabc_places.specs.Text.{decoded_of, stop_code_of, tail_of, text_of_bytes, text_of_characters, utf8_prefix_of}
+use Rattle.gabc_places.specs.Place.{place_after, placed_characters_after}
+use Rattle.gabc_places.specs.Text.{decoded_of, stop_code_of, tail_of, text_of_bytes, utf8_prefix_of}
 use Rattle.gabc_places.specs.declared.code.Code.{Code}
 use Rattle.gabc_places.specs.declared.code.Fault.{Fault}
 use Rattle.gabc_places.specs.declared.code.Finding.{Finding}
 use Rattle.gabc_places.specs.declared.limits.Limits.{Limits}
-use Rattle.gabc_places.specs.declared.place.Char.{Char}
 use Rattle.gabc_places.specs.declared.place.Place.{Place}
-use Rattle.gabc_places.proofs.PlacesOfAText.{placed_after, after_joined}
+use Rattle.gabc_places.proofs.PlacesOfAText.{after_joined}
 use Rattle.gabc_places.proofs.texts.TextsAreScalars.{text_short}
 use Rattle.gabc_headers.proofs.entries.TextsAsBytes.{length-encodes}
 use Rattle.gabc_headers.specs.Book.{nabc_lines_of, macros_of}
@@ -27,8 +26,8 @@ use Rattle.gabc_body.specs.declared.score.Score.{Score}
 use Rattle.gabc_tree.specs.InputPlaces.{IsThere, IsThereIfSome, AllAreThere}
 use Rattle.gabc_tree.specs.NotKept.{start}
 use Rattle.gabc_tree.specs.Tree.{ending_by}
-use Rattle.gabc_tree.proofs.fates.Input.{shown, shown_is}
-use Rattle.gabc_tree.proofs.fates.OfScore.{few_characters, text_is}
+use Rattle.gabc_tree.proofs.fates.Input.{shown_is}
+use Rattle.gabc_tree.proofs.fates.OfScore.{few_characters}
 use Rattle.gabc_tree.proofs.fates.Walk.{IsNear}
 use Rattle.gabc_tree.proofs.places.OfBody as body
 use Rattle.gabc_tree.proofs.places.OfHeaders.{HeadsIn, heads_in}

@@ -1,16 +1,16 @@
 -- A walk over a text goes past a character.
-use Rattle.std.proofs.Common.{◌≡◌, ℕ, ◌+◌, ◌<◌, ◌≤◌, ◌^◌, Bool, true, false, true≢false, cond, ◌||◌, ◌&&◌, ◌==◌, nat_lt, List, [], ◌∷◌, length, refl, sym, ap, subst, ◌∙◌, ◌⊎◌, inl, inr, arith, IsUtf8, if◌then◌else◌}
+use Rattle.std.proofs.Common.{◌≡◌, ℕ, ◌+◌, Bool, true, false, true≢false, cond, ◌||◌, ◌&&◌, ◌==◌, nat_lt, List, [], ◌∷◌, refl, sym, ap, ◌∙◌, ◌⊎◌, inl, inr, arith}
 use Rattle.std.specs.Char.{len_utf8}
 use Rattle.std.specs.Str.{chars}
 use Rattle.std.proofs.lemmas.Bool.Decides.{nat_tests}
-use Rattle.gabc_places.specs.Place.{is_line_feed, next_place, saturating_next_place}
+use Rattle.gabc_places.specs.Place.{saturating_next_place}
 use Rattle.gabc_places.specs.Text.{is_left_out, read_as}
 use Rattle.gabc_places.specs.declared.place.Place.{Place}
-use Rattle.gabc_tree.specs.InputPlaces.{byte_from, byte_in}
-use Rattle.gabc_tree.specs.NotKept.{is_before, start}
+use Rattle.gabc_tree.specs.InputPlaces.{byte_from}
+use Rattle.gabc_tree.specs.NotKept.{is_before}
 use Rattle.gabc_tree.specs.declared.place_reader.Walk.{Walk}
-use Rattle.gabc_tree.specs.machine.Walk.{IsFresh, IsWithin, GoesPast, IsOn, byte_by, here_past}
-use Rattle.gabc_tree.proofs.fates.FoundLater.{before_next, before_trans, not_before_itself}
+use Rattle.gabc_tree.specs.machine.Walk.{IsWithin, GoesPast, byte_by, here_past}
+use Rattle.gabc_tree.proofs.fates.FoundLater.{before_next, before_trans}
 use Rattle.gabc_tree.proofs.fates.Walk.{IsNear, next_near}
 
 -- ---- places
@@ -78,36 +78,3 @@ stays w c cs p first e f =
     ap (λ (t : List ℕ). byte_from p w.previous w.byte w.here t) first
     ∙ (ap (λ (o : Bool). cond o (byte_from p c (w.byte + len_utf8 c) w.here cs) (cond (is_before w.here p) (byte_from p c (w.byte + len_utf8 c) (saturating_next_place w.here (read_as c)) cs) w.byte)) e
     ∙ ap (λ (b : Bool). cond b (byte_from p c (w.byte + len_utf8 c) (saturating_next_place w.here (read_as c)) cs) w.byte) f)
-
--- ---- several
-
-pub here_still : (w : Walk) (p : Place) → GoesPast w w p
-here_still w p = record { later = λ q i. i; same = λ q i. refl; wanted = refl }
-
-pub both : (a b c : Walk) (p : Place) → GoesPast a b p → GoesPast b c p → GoesPast a c p
-both a b c p h i = record { later = λ q k. h.later q (i.later q k); same = λ q k. h.same q (i.later q k) ∙ i.same q k; wanted = h.wanted ∙ i.wanted }
-
--- ---- in a text
-
--- at the beginning of a text all places are found
-pub fresh_found : (text : List ℕ) (w : Walk) (q : Place) → IsFresh text w → byte_by w q ≡ byte_in (chars text) q
-fresh_found text w q f =
-    ap (λ (n : ℕ). byte_from q n w.byte w.here (chars w.rest.now)) f.previous
-    ∙ (ap (λ (n : ℕ). byte_from q 0 n w.here (chars w.rest.now)) f.byte
-    ∙ (ap (λ (p : Place). byte_from q 0 0 p (chars w.rest.now)) f.here
-    ∙ ap (λ (t : List ℕ). byte_from q 0 0 start (chars t)) f.rest))
-
-pub fresh_within : (text : List ℕ) (w : Walk) → IsFresh text w → IsUtf8 text → length text < 2 ^ 32 → IsWithin w
-fresh_within text w f u s = record {
-  utf8 = subst IsUtf8 (sym f.rest) u;
-  short = let a = f.byte in let b = ap (length {A = ℕ}) f.rest in omega (arith, a, b, s);
-  line = let a = ap (λ (p : Place). p.line) f.here in omega (arith, a);
-  column = let a = ap (λ (p : Place). p.column) f.here in omega (arith, a);
-}
-
-pub fresh_on : (text : List ℕ) (w : Walk) → IsFresh text w → IsUtf8 text → length text < 2 ^ 32 → IsOn text w
-fresh_on text w f u s = record { within = fresh_within text w f u s; short = s; found = λ q i. fresh_found text w q f }
-
--- a walk on keeps what is found
-pub goes_on : (text : List ℕ) (a b : Walk) (p : Place) → IsOn text a → GoesPast a b p → IsWithin b → IsOn text b
-goes_on text a b p i g within = record { within = within; short = i.short; found = λ q k. sym (g.same q k) ∙ i.found q (g.later q k) }

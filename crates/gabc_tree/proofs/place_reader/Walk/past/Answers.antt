@@ -1,10 +1,9 @@
-use Rattle.std.proofs.Common.{◌≡◌, ◌+◌, ◌<◌, ◌≤◌, ◌^◌, ℕ, List, [], ◌∷◌, ◌++◌, length, drop, true, false, refl, sym, ap, ◌∙◌, subst, inl, inr, arith, length-append}
-use Rattle.std.specs.Char.{len_utf8}
+use Rattle.std.proofs.Common.{◌≡◌, ◌+◌, ℕ, List, [], drop, refl, sym, ap, ◌∙◌, inl, inr, arith}
 use Rattle.std.specs.Str.{chars}
 use Rattle.std.specs.Str.Iter.{chars_rest}
 use Rattle.gabc_places.proofs.texts.CharactersOfStrings.{chars-none}
 use Rattle.gabc_text.proofs.tokens.PrefixBeforeTag.{first_boundary, first_chars}
-use Rattle.gabc_tree.specs.machine.Walk.{IsWithin, GoesPast, IsFresh, byte_by, here_past}
+use Rattle.gabc_tree.specs.machine.Walk.{here_past}
 use Rattle.gabc_tree.proofs.places.Walks.{goes, stays}
 use Rattle.std.proofs.lemmas.Str.{chars_past_char}
 use Rattle.gabc_tree.specs.InputPlaces.{byte_from}
