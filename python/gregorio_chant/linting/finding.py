@@ -1,6 +1,7 @@
 """Finds what the rules look for in a score, and leaves out what its comments silence."""
 from __future__ import annotations
 
+from bisect import bisect_right
 from collections.abc import Callable, Iterator
 
 from gregorio_chant._native.results import Kind, Message
@@ -106,11 +107,13 @@ def unsilenced(compiled: Compiled) -> tuple[Message, ...]:
 
 def _without_nabc(subject: Subject) -> tuple[Message, ...]:
     """Returns the messages without each `E1` after a `|` in its syllable."""
-    tree = subject.tree
-    after = [tuple(map(tree.place, it)) for it in nabc_after_bars(subject)]
+    place = subject.tree.place
+    after = [(place(begin)[1:], place(end)[1:]) for begin, end in nabc_after_bars(subject)]
+    begins = [begin for begin, _ in after]
 
     def is_after(message: Message) -> bool:
         at = message.line, message.column
-        return any(begin[1:] <= at < end[1:] for begin, end in after)
+        number = bisect_right(begins, at)
+        return number > 0 and at < after[number - 1][1]
 
     return tuple(it for it in subject.score.messages if it.code != "E1" or not is_after(it))
