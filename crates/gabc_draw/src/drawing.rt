@@ -7,6 +7,7 @@ use crate::assemble::parts_of;
 use crate::breaks::spans_of;
 use crate::desk::{LaidOut, lay_out};
 use crate::language::Language;
+use crate::nabc::hands_of;
 use crate::rows::{Staff, rows_of};
 use crate::sheet::Sheet;
 use crate::spaces;
@@ -68,7 +69,7 @@ pub fn picture_of<'a>(
     let language = Language::of(header(nodes, input, "language"));
     let mut title = Vec::new(alloc);
     let y = put_title(nodes, input, width, &mut title)?;
-    let sheet = Sheet::new(alloc, input, staff.lines, language);
+    let sheet = Sheet::new(alloc, input, staff.lines, language, hands_of(nodes));
     let LaidOut {
         heads,
         openings,

@@ -1,5 +1,6 @@
 //! What the layout knows of a part: how far it goes, and what stands in it.
 
+use crate::nabc_rows::{NabcRows, PerLine};
 use crate::staff::Clef;
 use gabc_marks::{Distance, Sign};
 use std::alloc::Global;
@@ -73,8 +74,7 @@ pub(crate) struct Measures<'a> {
     /// Whether the last thing in it is a custos, or wants none after it.
     pub(crate) wants_no_custos: bool,
     pub(crate) has_above: bool,
-    /// How many lines of NABC it has.
-    pub(crate) nabc: u16,
+    pub(crate) nabc: NabcRows,
     pub(crate) top: Distance,
     pub(crate) bottom: Distance,
 }
@@ -98,7 +98,7 @@ impl<'a> Measures<'a> {
             has_bar: false,
             wants_no_custos: false,
             has_above: false,
-            nabc: 0,
+            nabc: PerLine::all(None),
             top: Distance::ZERO,
             bottom: Distance::ZERO,
         }

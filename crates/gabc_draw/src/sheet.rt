@@ -4,17 +4,15 @@ use crate::episemata::{SnippetNote, put_signs};
 use crate::language::Language;
 use crate::lettering::Lettering;
 use crate::measures::{Extent, LineEnd, Measures, Place};
+use crate::nabc::{Hands, Nabc};
 use crate::pen::Pen;
 use crate::reading::{Open, distance_of, text_of};
 use crate::rhythm::{height_of_step, put_around};
 use crate::spaces;
 use crate::staff::{Clef, custos, put_alteration, put_bar};
-use gabc_marks::{Distance, Level, NabcLine, Sign, Styles, Words, height_of, text_width};
+use gabc_marks::{Distance, height_of};
 use gabc_tree::{Kind, Node};
 use std::alloc::{AllocError, Global};
-
-/// The size of NABC that is written as its text.
-const NABC_SIZE: Distance = Distance(900);
 
 /// What a block is.
 #[derive(Clone, Copy, Debug, PartialEq, Eq)]
@@ -33,6 +31,7 @@ pub(crate) struct Sheet<'a> {
     language: Language,
     pub(crate) pen: Pen<'a>,
     pub(crate) lettering: Lettering<'a>,
+    nabc: Nabc<'a>,
     pub(crate) done: Vec<Measures<'a>>,
     part: Measures<'a>,
     notes: Vec<SnippetNote>,
@@ -54,13 +53,21 @@ pub(crate) struct Sheet<'a> {
 }
 
 impl<'a> Sheet<'a> {
-    /// Returns an empty sheet for the score `input`, with staves of `lines` lines.
-    pub(crate) fn new(alloc: Global, input: &'a str, lines: i32, language: Language) -> Sheet<'a> {
+    /// Returns an empty sheet for the score `input`, with staves of `lines` lines, and NABC in these
+    /// `hands`.
+    pub(crate) fn new(
+        alloc: Global,
+        input: &'a str,
+        lines: i32,
+        language: Language,
+        hands: Hands,
+    ) -> Sheet<'a> {
         Sheet {
             lines,
             language,
             pen: Pen::new(alloc),
             lettering: Lettering::new(alloc),
+            nabc: Nabc::new(alloc, input, hands),
             done: Vec::new(alloc),
             part: Measures::new(alloc, Place::ALONE, true),
             notes: Vec::new(alloc),
@@ -298,28 +305,6 @@ impl<'a> Sheet<'a> {
         self.part.wants_no_custos = true;
     }
 
-    /// Adds a line of NABC over the notes of the last snippet.
-    pub(crate) fn add_nabc(&mut self, line: u16, text: &'a str) -> Result<(), AllocError> {
-        let x = self.snippet_left;
-        let width = text_width(text, NABC_SIZE);
-        self.part.signs.push(Sign::Words(Words {
-            text,
-            x,
-            level: Level::Nabc(nabc_line(line)),
-            width,
-            size: NABC_SIZE,
-            styles: Styles::PLAIN,
-        }))?;
-        self.part.nabc = self.part.nabc.max(line.min(4));
-        let right = x + width + spaces::BETWEEN_NEUMES;
-        let notes = self.part.notes.unwrap_or(Extent { left: x, right: x });
-        self.part.notes = Some(Extent {
-            left: notes.left,
-            right: notes.right.max(right),
-        });
-        Ok(())
-    }
-
     /// Draws what depends on several neumes.
     pub(crate) fn end_snippet(&mut self) -> Result<(), AllocError> {
         self.pen.top = Distance::ZERO;
@@ -348,6 +333,7 @@ impl<'a> Sheet<'a> {
 
     /// Passes `node`, which is not kept: the characters that are being read go on after it.
     fn pass_gap(&mut self, node: Node) -> Result<(), AllocError> {
+        self.nabc.pass_gap(node)?;
         self.add_open(node.begin)?;
         if let Some(open) = self.open {
             self.open = Some(Open {
@@ -388,17 +374,14 @@ impl<'a> Sheet<'a> {
     /// Begins a snippet: of notes, or of NABC.
     fn add_snippet(&mut self, node: Node) -> Result<(), AllocError> {
         self.close_text()?;
+        self.nabc.end(&mut self.part)?;
         if node.a == 0 {
             self.end_snippet()?;
             self.begin_snippet();
-            return Ok(());
-        }
-        let text = text_of(self.input, node.begin, node.end);
-        if text.is_empty() {
-            Ok(())
         } else {
-            self.add_nabc(node.a, text)
+            self.nabc.begin(node.a, self.snippet_left);
         }
+        Ok(())
     }
 
     /// Adds `node`, which stands within a neume.
@@ -428,6 +411,11 @@ impl<'a> Sheet<'a> {
                 node,
             ),
             Kind::Snippet => self.add_snippet(node),
+            Kind::Descriptor
+            | Kind::NabcSpace
+            | Kind::NabcGlyph
+            | Kind::NabcPoints
+            | Kind::NabcLetters => self.nabc.add(node, &mut self.part),
             _ => self.add_item(node, next),
         }
     }
@@ -481,6 +469,7 @@ impl<'a> Sheet<'a> {
     /// `heads` heads were drawn.
     pub(crate) fn end_part(&mut self, alloc: Global, heads: usize) -> Result<(), AllocError> {
         self.close_text()?;
+        self.nabc.end(&mut self.part)?;
         if self.part.is_first {
             self.put_text()?;
         }
@@ -515,15 +504,5 @@ impl<'a> Sheet<'a> {
         }
         self.part.has_above = !self.lettering.above.is_empty();
         self.lettering.put_above(left, &mut self.part.signs)
-    }
-}
-
-/// Returns the line of NABC with this number, from 1.
-fn nabc_line(number: u16) -> NabcLine {
-    match number {
-        1 => NabcLine::First,
-        2 => NabcLine::Second,
-        3 => NabcLine::Third,
-        _ => NabcLine::Fourth,
     }
 }
