@@ -9,14 +9,19 @@
 #![tactic(auto)]
 
 mod assemble;
+mod attributes;
 mod breaks;
 mod cursor;
+mod curves;
 mod desk;
 mod drawing;
 mod episemata;
+mod group;
 mod heads;
+mod initial;
 mod language;
 mod lettering;
+mod marks;
 mod measures;
 mod neume;
 mod note;
@@ -27,9 +32,12 @@ mod plan;
 mod reading;
 mod rhythm;
 mod rows;
+mod runs;
+mod setting;
 mod sheet;
 mod spaces;
 mod staff;
 mod title;
 
 pub use drawing::{Options, draw, picture_of};
+pub use marks::Mark;
