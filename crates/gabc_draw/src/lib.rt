@@ -10,16 +10,21 @@
 #![tactic(auto)]
 
 mod assemble;
+mod attributes;
 mod breaks;
 mod cluster;
 mod cursor;
+mod curves;
 mod descriptor;
 mod desk;
 mod drawing;
 mod episemata;
+mod group;
 mod heads;
+mod initial;
 mod language;
 mod lettering;
+mod marks;
 mod measures;
 mod nabc;
 mod nabc_rows;
@@ -32,9 +37,12 @@ mod plan;
 mod reading;
 mod rhythm;
 mod rows;
+mod runs;
+mod setting;
 mod sheet;
 mod spaces;
 mod staff;
 mod title;
 
 pub use drawing::{Options, draw, picture_of};
+pub use marks::Mark;

@@ -53,6 +53,10 @@ pub(crate) const CUSTOS: Distance = Distance(900);
 pub(crate) const CUSTOS_TO_END: Distance = Distance(50);
 /// After the clef at a line's begin.
 pub(crate) const AFTER_LINE_CLEF: Distance = Distance(800);
+/// After the initial, and between it and the annotations over it (initialspace, annotationraise).
+pub(crate) const AFTER_INITIAL: Distance = Distance(600);
+
+pub(crate) const OVER_INITIAL: Distance = Distance(500);
 /// From the lowest line of the staff to the text, and from what stands below the staff.
 pub(crate) const TO_TEXT: Distance = Distance(1800);
 

@@ -17,15 +17,13 @@ use std::alloc::{AllocError, Global};
 
 /// Returns options for a picture of this `width`, in thousandths of a staff space; 0 is the default
 /// one.
-fn options_of(width: u32) -> Options {
-    match i32::try_from(width) {
-        Ok(0) => Options::usual(),
-        Ok(width) => Options {
-            width: Distance(width),
-        },
-        Err(_) => Options {
-            width: Distance(i32::MAX),
-        },
+fn options_of<'a>(width: u32) -> Options<'a> {
+    if width == 0 {
+        return Options::usual();
+    }
+    Options {
+        width: Distance(i32::try_from(width).unwrap_or(i32::MAX)),
+        ..Options::usual()
     }
 }
 
