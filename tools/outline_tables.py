@@ -1,6 +1,6 @@
 """Writes the tables that are made of the outlines and the widths of letters of the Python package:
 those of the crate `gabc_marks`, and the outlines by the names that the core gives to them, for
-JavaScript. `tools/make_symbols` calls it, and `tools/tests/test_outlines.py` compares.
+JavaScript, those of NABC in a module of their own. `tools/make_symbols` calls it, and `tools/tests/test_outlines.py` compares.
 
 Usage: outline_tables.py"""
 
@@ -17,6 +17,7 @@ ROOT = Path(__file__).resolve().parent.parent
 PICTURE = ROOT / "python" / "gregorio_chant" / "picture"
 MARKS = ROOT / "crates" / "gabc_marks" / "src"
 SCRIPT = ROOT / "js" / "src" / "outlines.js"
+NEUMES = ROOT / "js" / "src" / "neumes.js"
 # A line of a table of a crate has no more columns.
 COLUMNS = 99
 # The families of joined outlines, in the order of their numbers: the name that the core gives to
@@ -73,6 +74,9 @@ OF_FONT = {
     "custos-down": "CustosDownMedium",
 }
 STROKES = {f"stroke-{it}": f"porrectus-{it}" for it in range(1, 6)}
+# The hands of NABC: the file of the table in the package and in the crate, and what begins the
+# names of their outlines in a picture.
+HANDS = (("stgall", "st_gall", "stgall-"), ("laon", "laon", "laon-"))
 OWN = (
     *("punctum-over", "punctum-under", "cavum", "inclinatum-cavum", "mora", "tail-up", "tail-down"),
     *("virgula", "accent", "grave", "circle", "lower-arc", "upper-arc", "brace"),
@@ -131,14 +135,24 @@ _GLYPH = re.compile(
 )
 
 
+def lines_of(table: str) -> list[str]:
+    """Returns the lines of a table of the package."""
+    return (PICTURE / "symbols" / f"{table}.tsv").read_text(encoding="utf-8").splitlines()
+
+
+def outlines_of(table: str) -> dict[str, Outline]:
+    """Returns the outlines of a table by their names there, also by those that share one."""
+    rows = [it.split("\t") for it in lines_of(table) if not it.startswith("#")]
+    own = {
+        name: Outline(rest[3], *map(float, rest[:3])) for name, *rest in rows if len(rest) == 4
+    }
+    shared = {name: own[rest[0]] for name, *rest in rows if len(rest) == 1}
+    return {**own, **shared}
+
+
 def font_outlines() -> dict[str, Outline]:
     """Returns the outlines of square notes by the names of the font."""
-    lines = (PICTURE / "symbols" / "square.tsv").read_text(encoding="utf-8").splitlines()
-    rows = (it.split("\t") for it in lines if not it.startswith("#"))
-    return {
-        name: Outline(path, float(width), float(up), float(down))
-        for name, width, up, down, path in rows
-    }
+    return outlines_of("square")
 
 
 def own_outlines() -> dict[str, Outline]:
@@ -197,17 +211,24 @@ def filled(items: Iterable[str]) -> Iterator[str]:
     yield line
 
 
-def with_rows(path: Path, rows: Iterable[tuple[int, ...]]) -> str:
+def with_rows(path: Path, rows: Iterable[tuple[int | str, ...]]) -> str:
     """Returns the text of a source of the crate with these rows in its table."""
-    items = [f"({', '.join(map(str, it))})" for it in rows]
+    items = [f"({', '.join(map(json.dumps, it))})" for it in rows]
     text = path.read_text(encoding="utf-8")
     text = re.sub(r"const COUNT: usize = \d+;", f"const COUNT: usize = {len(items)};", text)
     table = "\n".join(filled(items))
     return re.sub(r"(; COUNT\] = \[\n).*?(\n\];)", rf"\g<1>{table}\2", text, flags=re.DOTALL)
 
 
+def hand_table(table: str, file: str) -> str:
+    """Returns the source of the crate with the table of a hand, in the order of the names."""
+    rows = sorted(outlines_of(table).items())
+    return with_rows(MARKS / f"{file}.rt", ((name, *it.thousandths) for name, it in rows))
+
+
 # ---- the outlines for JavaScript
 
+_OWN_NOTICE = "Some signs are gregorio-chant's own, under its licence, MIT."
 _SCRIPT = """\
 // The outlines of notes and signs, by the names that a picture of the core has for them: each with \
 its width and its path, in tenths of a staff space, around its
@@ -223,13 +244,23 @@ export const OUTLINES = {{
 {rows}
 }};
 """
+_NEUMES_SCRIPT = """\
+// The outlines of NABC, by the names that a picture of the core has for them: each with its width \
+and its path, in tenths of a staff space. Its ink begins at its
+// origin. `tools/make_symbols` makes this file. The licence of the outlines is that of `outlines.js`.
+
+// What a picture says of its outlines of NABC.
+export const NEUMES_NOTICE = {notice};
+
+export const NEUMES = {{
+{rows}
+}};
+"""
 
 
-def notice() -> str:
-    """Returns whose the outlines are, and under which licence, as their table says it."""
-    lines = (PICTURE / "symbols" / "square.tsv").read_text(encoding="utf-8").splitlines()
-    told = [it.removeprefix("# ") for it in lines if it.startswith("#")]
-    return " ".join([*told, "Some signs are gregorio-chant's own, under its licence, MIT."])
+def notice(table: str) -> str:
+    """Returns whose the outlines of a table are, and under which licence, as it says it."""
+    return " ".join(it.removeprefix("# ") for it in lines_of(table) if it.startswith("#"))
 
 
 def licence_text() -> str:
@@ -238,15 +269,36 @@ def licence_text() -> str:
     return text[text.index("SIL OPEN FONT LICENSE") :]
 
 
+def script_rows(outlines: dict[str, Outline]) -> str:
+    """Returns the rows of a module with these outlines."""
+    return "\n".join(
+        f'  "{name}": {{ width: {it.width:g}, path: {json.dumps(it.path)} }},'
+        for name, it in sorted(outlines.items())
+    )
+
+
 def script() -> str:
     """Returns the module of outlines."""
-    rows = [
-        f'  "{name}": {{ width: {it.width:g}, path: {json.dumps(it.path)} }},'
-        for name, it in sorted(named_outlines().items())
-    ]
     return _SCRIPT.format(
-        notice=json.dumps(notice()), licence=json.dumps(licence_text()), rows="\n".join(rows)
+        notice=json.dumps(f"{notice('square')} {_OWN_NOTICE}"),
+        licence=json.dumps(licence_text()),
+        rows=script_rows(named_outlines()),
     )
+
+
+def neumes() -> dict[str, Outline]:
+    """Returns the outlines of NABC by the names that the core gives to them."""
+    return {
+        prefix + name: outline
+        for table, _, prefix in HANDS
+        for name, outline in outlines_of(table).items()
+    }
+
+
+def neumes_script() -> str:
+    """Returns the module of the outlines of NABC."""
+    told = " ".join(notice(table) for table, _, _ in HANDS)
+    return _NEUMES_SCRIPT.format(notice=json.dumps(told), rows=script_rows(neumes()))
 
 
 def made_files() -> dict[Path, str]:
@@ -256,7 +308,9 @@ def made_files() -> dict[Path, str]:
     return {
         outlines: with_rows(outlines, joined),
         widths: with_rows(widths, letter_widths()),
+        **{MARKS / f"{file}.rt": hand_table(table, file) for table, file, _ in HANDS},
         SCRIPT: script(),
+        NEUMES: neumes_script(),
     }
 
 

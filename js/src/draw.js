@@ -2,6 +2,7 @@
 
 import { bytesOfScore } from "./bytes.js";
 import { withMemory } from "./library.js";
+import { NEUMES, NEUMES_NOTICE } from "./neumes.js";
 import { NOTICE, OUTLINES } from "./outlines.js";
 
 // How wide a picture is in pixels, if nothing else is asked for, and what can be asked for.
@@ -21,7 +22,10 @@ const STYLE =
 const SIZES = /viewBox="0 0 (\d+) (\d+)"/;
 const HEAD = /^<svg[^>]*>(<title>[^<]*<\/title>)?/;
 // No text of a score can hold this: its marks are escaped.
-const USE = /<use href="#([a-z0-9-]+)"/g;
+const USE = /<use href="#([A-Za-z0-9-]+)"/g;
+const MARKS = { "&": "&amp;", "<": "&lt;", ">": "&gt;", '"': "&quot;" };
+// What begins the names of outlines of NABC.
+const OF_NABC = /^(stgall|laon)-/;
 
 /** Returns the width that is asked for, in units of the library. Throws a `TypeError` for another option and for a width that is no number, and a `RangeError` for one that is out of range. */
 function widthOf(options = {}) {
@@ -36,11 +40,15 @@ function widthOf(options = {}) {
 }
 
 /** Returns an outline as a path. */
-const pathOf = (name) => `<path id="${name}" transform="scale(100)" fill-rule="evenodd" d="${OUTLINES[name].path}"/>`;
+function pathOf(name) {
+  const { path } = (OF_NABC.test(name) ? NEUMES : OUTLINES)[name];
+  return `<path id="${name}" transform="scale(100)" fill-rule="evenodd" d="${path}"/>`;
+}
 
 /** Returns what a picture of these outlines has in it before its rows. */
 function beginning(names) {
-  const parts = [`<metadata>${NOTICE.replaceAll('"', "&quot;")}</metadata>`, `<style>${STYLE}</style>`];
+  const notice = names.some((it) => OF_NABC.test(it)) ? `${NOTICE} ${NEUMES_NOTICE}` : NOTICE;
+  const parts = [`<metadata>${notice.replace(/[&<>"]/g, (it) => MARKS[it])}</metadata>`, `<style>${STYLE}</style>`];
   return [...parts, `<defs>${names.map(pathOf).join("")}</defs>`, '<rect class="paper" width="100%" height="100%"/>'].join("");
 }
 

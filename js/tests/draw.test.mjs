@@ -5,6 +5,7 @@ import { readFileSync, readdirSync } from "node:fs";
 import { test } from "node:test";
 
 import { draw, tree } from "gregorio-chant";
+import { NEUMES, NEUMES_NOTICE } from "gregorio-chant/neumes";
 import { LICENCE, NOTICE, OUTLINES } from "gregorio-chant/outlines";
 import { DATA, runsOf } from "./cases.mjs";
 
@@ -16,6 +17,8 @@ const JOINED = /^[a-z-]+-([0-9]{3})(?:-debilis)?(?:-deminutus|-ascendens|-descen
 // The names of outlines that show no note.
 const SIGNS =
   /^(c-clef|f-clef|flat|natural|sharp|custos-up|custos-down|mora|tail-up|tail-down|virgula|accent|grave|circle|lower-arc|upper-arc|brace|bracket-left|bracket-right)$/;
+// What begins the names of outlines of NABC.
+const OF_NABC = /^(stgall|laon)-/;
 
 /** Looks whether `svg` is one element of XML, and returns the tags that begin in it. */
 function tagsOf(svg, place) {
@@ -38,7 +41,7 @@ function tagsOf(svg, place) {
 
 /** Returns how many notes an outline shows. */
 function notesIn(name) {
-  if (SIGNS.test(name)) return 0;
+  if (SIGNS.test(name) || OF_NABC.test(name)) return 0;
   if (name.startsWith("stroke-")) return 2;
   const steps = JOINED.exec(name)?.[1];
   return steps ? 1 + steps.replaceAll("0", "").length : 1;
@@ -115,15 +118,62 @@ test("a picture stands alone, with its size", () => {
   assert.match(draw("%%\n(f)"), /^<svg width="720" /);
 });
 
-test("each outline has a path and a width, and their licence is told", () => {
-  const outlines = Object.entries(OUTLINES);
-  assert.ok(outlines.length > 500);
-  for (const [name, { width, path }] of outlines) {
-    assert.match(name, /^[a-z]+(-[a-z0-9]+)*$/);
+/** Looks at the names and the paths of outlines. */
+function looksAtOutlines(outlines, names) {
+  for (const [name, { width, path }] of Object.entries(outlines)) {
+    assert.match(name, names);
     assert.match(path, /^[Mm][-+0-9., a-zA-Z]+$/, name);
     assert.ok(width > 0, name);
   }
+}
+
+test("each outline has a path and a width, and their licence is told", () => {
+  looksAtOutlines(OUTLINES, /^[a-z]+(-[a-z0-9]+)*$/);
+  looksAtOutlines(NEUMES, /^(stgall|laon)-[A-Za-z0-9]+$/);
+  assert.ok(Object.keys(OUTLINES).length > 500 && Object.keys(NEUMES).length > 800);
   assert.match(LICENCE, /^SIL OPEN FONT LICENSE/);
+});
+
+/** Returns a text of a picture without references. */
+const unescaped = (text) => text.replaceAll("&quot;", '"').replaceAll("&lt;", "<").replaceAll("&gt;", ">");
+
+/** Returns the outlines of NABC in the picture of a score, in order, and its texts over the staff in small type. */
+function nabcOf(score) {
+  const svg = draw(score);
+  looksAt(score, score);
+  const names = Array.from(svg.matchAll(/<use href="#((?:stgall|laon)-[^"]*)"[^>]* class="nabc"/g), ([, name]) => name);
+  const texts = Array.from(svg.matchAll(/<text [^>]*font-size="900"[^>]*>([^<]*)</g), ([, text]) => unescaped(text));
+  return [...names, ...texts];
+}
+
+test("NABC is drawn as neumes, each with what belongs to it", () => {
+  const rows = [
+    ["vi", ["stgall-vi"]],
+    ["cl>", ["stgall-clB"]],
+    ["ci~", ["stgall-ciT"]],
+    ["to!ci-", ["to!ci-"]],
+    ["ql!cl>", ["stgall-qlEclB"]],
+    ["pesu2", ["stgall-pesu2"]],
+    ["to>ppt5su5", ["stgall-ppt5", "stgall-toB", "stgall-su5"]],
+    ["cl>ppt2su1", ["stgall-clBppt2", "stgall-su1"]],
+    ["cllsc3lst2", ["stgall-cl", "stgall-lsc", "stgall-lst"]],
+    ["sa>1", ["sa>1"]],
+    ["zz", ["zz"]],
+    ["cl//pelszz3`to", ["stgall-cl", "stgall-to", "pelszz3"]],
+    ["un", ["laon-un"]],
+    ["unppn1sun2", ["laon-unppn1sun2"]],
+    ["unltdo5cl", ["laon-un", "laon-ltdo", "laon-cl"]],
+  ];
+  for (const [nabc, wanted] of rows) assert.deepEqual(nabcOf(`nabc-lines: 1;\n%%\n(c4) a(f|${nabc})`), wanted, nabc);
+  assert.deepEqual(nabcOf("nabc-lines: 1;\n%%\n(f|c% twice\nl\u0001>)"), ["stgall-clB"]);
+  assert.deepEqual(nabcOf("nabc-lines: 2;\n%%\n(f|ta-|un)(g|cl|cl)"), ["stgall-taN", "laon-un", "stgall-cl", "laon-cl"]);
+});
+
+test("a picture tells whose its outlines are", () => {
+  const told = (score) => textsOf(draw(score), "metadata").map(unescaped);
+  assert.deepEqual(told("%%\n(f)"), [NOTICE]);
+  assert.deepEqual(told("nabc-lines: 1;\n%%\n(f|vi)"), [`${NOTICE} ${NEUMES_NOTICE}`]);
+  assert.match(NEUMES_NOTICE, /St\. Gall.*Laon.*SIL Open Font License/s);
 });
 
 test("scores and options of other kinds", () => {

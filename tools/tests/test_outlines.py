@@ -50,7 +50,7 @@ class OutlinesTest(unittest.TestCase):
 
     def test_files_are_as_they_are_made(self) -> None:
         made = tables.made_files()
-        self.assertEqual(len(made), 3)
+        self.assertEqual(len(made), 6)
         for path, text in made.items():
             self.assertEqual(path.read_text(encoding="utf-8"), text, path)
 
@@ -79,6 +79,22 @@ class OutlinesTest(unittest.TestCase):
         self.assertIn(source, read("gabc_marks/src/head.rt"))
         for steps in range(1, 6):
             self.assert_close(f"stroke-{steps}", (1460 + 120 * steps, 340, 500 * steps + 340))
+
+    def test_neumes_have_names_and_sizes(self) -> None:
+        outlines = tables.neumes()
+        source = read("gabc_svg/src/outline_names.rt")
+        for table, file, prefix in tables.HANDS:
+            with self.subTest(table):
+                row = r'\("(\w+)", (-?\d+), (-?\d+), (-?\d+)\)'
+                rows = re.findall(row, read(f"gabc_marks/src/{file}.rt"))
+                names = [name for name, *_ in rows]
+                self.assertGreater(len(names), 300)
+                self.assertEqual(names, sorted(names))
+                self.assertIn(f'"{prefix}"', source)
+                for name, *numbers in rows:
+                    told = tuple(map(int, numbers))
+                    self.assertEqual(told, outlines[prefix + name].thousandths, name)
+        self.assertEqual(len(outlines), sum(len(tables.outlines_of(it[0])) for it in tables.HANDS))
 
     def test_joined_outlines_have_names(self) -> None:
         rows = re.findall(r"\((\d+), \d+, \d+, \d+\)", read("gabc_marks/src/outlines.rt"))

@@ -10,6 +10,7 @@ use crate::initial::Initial;
 use crate::language::Language;
 use crate::marks::{Mark, Marks, put_lines};
 use crate::measures::Measures;
+use crate::nabc::hands_of;
 use crate::rows::{Rows, Staff, rows_of};
 use crate::sheet::Sheet;
 use crate::spaces;
@@ -71,7 +72,15 @@ fn sheet_of<'a>(
 ) -> Sheet<'a> {
     let language = Language::of(header(nodes, input, "language"));
     let room = (staff.width - CLEF_AND_CUSTOS).max(LEAST_ROOM);
-    Sheet::new(alloc, input, staff.lines, language, room, marks)
+    Sheet::new(
+        alloc,
+        input,
+        staff.lines,
+        language,
+        hands_of(nodes),
+        room,
+        marks,
+    )
 }
 
 /// Returns the rows in which `parts` stand below `y`, with `initial` before the first ones.

@@ -2,6 +2,7 @@
 
 use crate::curves::Curve;
 use crate::marks::PartMark;
+use crate::nabc_rows::{NabcRows, PerLine};
 use crate::staff::Clef;
 use gabc_marks::{Distance, Level, Sign, Styles, Words, char_width, styled_width};
 use std::alloc::Global;
@@ -84,8 +85,7 @@ pub(crate) struct Measures<'a> {
     pub(crate) above: Option<Distance>,
     pub(crate) curves: Vec<Curve>,
     pub(crate) marks: Vec<PartMark>,
-    /// How many lines of NABC it has.
-    pub(crate) nabc: u16,
+    pub(crate) nabc: NabcRows,
     pub(crate) top: Distance,
     pub(crate) bottom: Distance,
 }
@@ -110,7 +110,7 @@ impl<'a> Measures<'a> {
             above: None,
             curves: Vec::new(alloc),
             marks: Vec::new(alloc),
-            nabc: 0,
+            nabc: PerLine::all(None),
             top: Distance::ZERO,
             bottom: Distance::ZERO,
         }

@@ -6,6 +6,7 @@ use crate::initial::Initial;
 use crate::lettering::ABOVE_SIZE;
 use crate::marks::{MarkedRow, put_marks};
 use crate::measures::{Extent, Measures};
+use crate::nabc_rows::{PerLine, join_rows, line_over};
 use crate::pen::Pen;
 use crate::rhythm::height_of_step;
 use crate::setting::{places_from, put_hyphens, right_of, spread};
@@ -13,11 +14,6 @@ use crate::spaces;
 use crate::staff::{Clef, custos};
 use gabc_marks::{Distance, Levels, Row, Sign};
 use std::alloc::{AllocError, Global};
-
-/// How high and how deep a line of NABC goes.
-const NABC_UP: Distance = Distance(700);
-
-const NABC_DOWN: Distance = Distance(250);
 
 /// The size of a row: its width, and how many lines its staff has.
 #[derive(Clone, Copy, Debug)]
@@ -67,16 +63,6 @@ fn bounds(parts: &[Measures<'_>], pen: &Pen<'_>) -> Extent {
     }
 }
 
-/// Returns the height of the next line of NABC over `top`, and how high that goes, if there are
-/// that many lines.
-fn nabc_over(top: Distance, number: u16, count: u16) -> (Distance, Distance) {
-    if count < number {
-        return (top, top);
-    }
-    let y = top - spaces::BETWEEN_ROWS - NABC_DOWN;
-    (y, y - NABC_UP)
-}
-
 /// How high a row goes over the lowest line of its staff, and how deep below it.
 #[derive(Clone, Copy, Debug)]
 struct Size {
@@ -88,11 +74,11 @@ struct Size {
 fn levels_of(parts: &[Measures<'_>], staff: Staff, pen: &Pen<'_>) -> (Levels, Size) {
     let signs = bounds(parts, pen);
     let highest = height_of_step(staff.lines.saturating_mul(2).saturating_sub(2));
-    let count = parts.iter().fold(0, |count, part| part.nabc.max(count));
-    let (first, top) = nabc_over(signs.left.min(highest) - spaces::OVER_SIGNS, 1, count);
-    let (second, top) = nabc_over(top, 2, count);
-    let (third, top) = nabc_over(top, 3, count);
-    let (fourth, top) = nabc_over(top, 4, count);
+    let nabc = parts.iter().fold(PerLine::all(None), |nabc, part| join_rows(nabc, part.nabc));
+    let (first, top) = line_over(signs.left.min(highest) - spaces::OVER_SIGNS, nabc.first);
+    let (second, top) = line_over(top, nabc.second);
+    let (third, top) = line_over(top, nabc.third);
+    let (fourth, top) = line_over(top, nabc.fourth);
     let has_above = parts.iter().any(|part| part.above.is_some());
     let above = top - spaces::OVER_ROWS;
     let text = spaces::TO_TEXT.max(signs.right + spaces::BELOW_SIGNS);

@@ -6,18 +6,16 @@ use crate::language::Language;
 use crate::lettering::Lettering;
 use crate::marks::{Mark, PartMark};
 use crate::measures::{Extent, LineEnd, Measures, Place};
+use crate::nabc::{Hands, Nabc};
 use crate::pen::{PUNCTUM, Pen};
 use crate::reading::{distance_of, text_of};
 use crate::rhythm::{height_of_step, put_around};
 use crate::runs::WordLine;
 use crate::spaces;
 use crate::staff::{Clef, custos, put_alteration, put_bar};
-use gabc_marks::{Distance, Level, NabcLine, Sign, Styles, Words, height_of, text_width};
+use gabc_marks::{Distance, Level, height_of};
 use gabc_tree::{Kind, Node};
 use std::alloc::{AllocError, Global};
-
-/// The size of NABC that is written as its text.
-const NABC_SIZE: Distance = Distance(900);
 
 /// What a block is.
 #[derive(Clone, Copy, Debug, PartialEq, Eq)]
@@ -36,6 +34,7 @@ pub(crate) struct Sheet<'a> {
     language: Language,
     pub(crate) pen: Pen<'a>,
     pub(crate) lettering: Lettering<'a>,
+    nabc: Nabc<'a>,
     pub(crate) done: Vec<Measures<'a>>,
     pub(crate) part: Measures<'a>,
     notes: Vec<SnippetNote>,
@@ -65,12 +64,13 @@ pub(crate) struct Sheet<'a> {
 
 impl<'a> Sheet<'a> {
     /// Returns an empty sheet for the score `input`, with staves of `lines` lines, of which a part
-    /// may take `room`, and with the `marks` of its syllables.
+    /// may take `room`, with NABC in these `hands`, and with the `marks` of its syllables.
     pub(crate) fn new(
         alloc: Global,
         input: &'a str,
         lines: i32,
         language: Language,
+        hands: Hands,
         room: Distance,
         marks: &'a [Mark],
     ) -> Sheet<'a> {
@@ -79,6 +79,7 @@ impl<'a> Sheet<'a> {
             language,
             pen: Pen::new(alloc),
             lettering: Lettering::new(alloc, input),
+            nabc: Nabc::new(alloc, input, hands),
             done: Vec::new(alloc),
             part: Measures::new(alloc, Place::ALONE, true),
             notes: Vec::new(alloc),
@@ -318,28 +319,6 @@ impl<'a> Sheet<'a> {
         self.part.end.is_some()
     }
 
-    /// Adds a line of NABC over the notes of the last snippet.
-    pub(crate) fn add_nabc(&mut self, line: u16, text: &'a str) -> Result<(), AllocError> {
-        let x = self.snippet_left;
-        let width = text_width(text, NABC_SIZE);
-        self.part.signs.push(Sign::Words(Words {
-            text,
-            x,
-            level: Level::Nabc(nabc_line(line)),
-            width,
-            size: NABC_SIZE,
-            styles: Styles::PLAIN,
-        }))?;
-        self.part.nabc = self.part.nabc.max(line.min(4));
-        let right = x + width + spaces::BETWEEN_NEUMES;
-        let notes = self.part.notes.unwrap_or(Extent { left: x, right: x });
-        self.part.notes = Some(Extent {
-            left: notes.left,
-            right: notes.right.max(right),
-        });
-        Ok(())
-    }
-
     /// Draws what depends on several neumes.
     pub(crate) fn end_snippet(&mut self) -> Result<(), AllocError> {
         self.pen.top = Distance::ZERO;
@@ -350,20 +329,23 @@ impl<'a> Sheet<'a> {
         self.take_signs()
     }
 
+    /// Passes `node`, which is not kept: the text or the NABC that is being read goes on after it.
+    fn pass_gap(&mut self, node: Node) -> Result<(), AllocError> {
+        self.nabc.pass_gap(node)?;
+        self.lettering.pass_gap(node)
+    }
+
     /// Begins a snippet: of notes, or of NABC.
     fn add_snippet(&mut self, node: Node) -> Result<(), AllocError> {
         self.lettering.close()?;
+        self.nabc.end(&mut self.part)?;
         if node.a == 0 {
             self.end_snippet()?;
             self.begin_snippet();
-            return Ok(());
-        }
-        let text = text_of(self.input, node.begin, node.end);
-        if text.is_empty() {
-            Ok(())
         } else {
-            self.add_nabc(node.a, text)
+            self.nabc.begin(node.a, self.snippet_left);
         }
+        Ok(())
     }
 
     /// Passes the marks before the byte `before`: they are about what was added last.
@@ -404,10 +386,15 @@ impl<'a> Sheet<'a> {
             | Kind::StyleTag
             | Kind::Brace
             | Kind::Translation => self.lettering.add_node(node),
-            Kind::Comment | Kind::LeftOut | Kind::FurtherBlank | Kind::Silent => self
-                .lettering
-                .pass_gap(node),
+            Kind::Comment | Kind::LeftOut | Kind::FurtherBlank | Kind::Silent => self.pass_gap(
+                node,
+            ),
             Kind::Snippet => self.add_snippet(node),
+            Kind::Descriptor
+            | Kind::NabcSpace
+            | Kind::NabcGlyph
+            | Kind::NabcPoints
+            | Kind::NabcLetters => self.nabc.add(node, &mut self.part),
             _ => self.add_item(node, next),
         }
     }
@@ -460,6 +447,7 @@ impl<'a> Sheet<'a> {
     /// Ends the part: with its text, if it is the first one of its syllable.
     pub(crate) fn end_part(&mut self, alloc: Global) -> Result<(), AllocError> {
         self.lettering.close()?;
+        self.nabc.end(&mut self.part)?;
         if self.part.is_first {
             self.put_text(alloc)?;
         }
@@ -523,15 +511,5 @@ impl<'a> Sheet<'a> {
             });
         }
         self.push_part(alloc)
-    }
-}
-
-/// Returns the line of NABC with this number, from 1.
-fn nabc_line(number: u16) -> NabcLine {
-    match number {
-        1 => NabcLine::First,
-        2 => NabcLine::Second,
-        3 => NabcLine::Third,
-        _ => NabcLine::Fourth,
     }
 }

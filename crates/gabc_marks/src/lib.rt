@@ -8,11 +8,14 @@
 #![tactic(auto)]
 
 mod distance;
+mod hand;
 mod head;
 mod joined;
+mod laon;
 mod outlines;
 mod picture;
 mod sign;
+mod st_gall;
 mod styles;
 mod symbol;
 mod width_table;
@@ -20,6 +23,7 @@ mod widths;
 mod words;
 
 pub use distance::Distance;
+pub use hand::{Hand, NabcOutline};
 pub use head::{Head, Metrics, NoteHead, Single, height_of};
 pub use joined::{Ending, Family, Joined};
 pub use picture::{Levels, Part, Picture, Row};

@@ -1,8 +1,9 @@
 //! Whatever is drawn and is no head of a note.
 
 use crate::distance::Distance;
+use crate::hand::NabcOutline;
 use crate::symbol::Symbol;
-use crate::words::Words;
+use crate::words::{NabcLine, Words};
 
 /// A bow that begins at this place: a quadratic curve that bends towards a point, and ends at
 /// another one, both told from where it begins.
@@ -40,6 +41,13 @@ pub enum Sign<'a> {
         width: Distance,
     },
     Words(Words<'a>),
+    /// An outline of NABC with its origin at `x`, so far below its line.
+    Nabc {
+        outline: NabcOutline,
+        line: NabcLine,
+        x: Distance,
+        y: Distance,
+    },
     /// A piece of a slur or of a brace.
     Bow(Bow),
     /// A field around what a message is about, of which this place is the left end of its top:

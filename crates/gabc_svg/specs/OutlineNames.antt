@@ -1,6 +1,9 @@
 -- The names of outlines.
 use Rattle.std.specs.Prelude.{List, [], ◌∷◌, ℕ, codes, cond}
 use Rattle.std.specs.Fmt.{decimal}
+use Rattle.gabc_marks.specs.declared.hand.Hand.{Hand}
+use Rattle.gabc_marks.specs.declared.hand.Hand.TheVariants as hand
+use Rattle.gabc_marks.specs.declared.hand.NabcOutline.{NabcOutline}
 use Rattle.gabc_marks.specs.declared.head.Head.{Head}
 use Rattle.gabc_marks.specs.declared.head.Head.TheVariants as head
 use Rattle.gabc_marks.specs.declared.head.Single.{Single}
@@ -94,3 +97,11 @@ abbrev pub name_of_head : Head → List (List ℕ)
 name_of_head (head.Stroke steps) = codes "stroke-" ∷ decimal steps ∷ []
 name_of_head (head.Joined j) = name_of_joined j
 name_of_head (head.Single s) = name_of_single s ∷ []
+
+abbrev pub name_of_hand : Hand → List ℕ
+name_of_hand hand.StGall = codes "stgall-"
+name_of_hand hand.Laon = codes "laon-"
+
+-- an outline of NABC by its hand and its name there: stgall-clB is an augmented clivis
+abbrev pub name_of_nabc : NabcOutline → List (List ℕ)
+name_of_nabc o = name_of_hand o.hand ∷ o.name.now ∷ []

@@ -1,8 +1,10 @@
 -- The XML tree of a picture.
-use Rattle.std.specs.Prelude.{ℕ, ◌-◌, ℤ, pos, List, [], ◌∷◌, ◌++◌, codes, cond, Bool, take, drop, length, min}
+use Rattle.std.specs.Prelude.{ℕ, ◌-◌, ℤ, ◌+ℤ◌, pos, List, [], ◌∷◌, ◌++◌, codes, cond, Bool, take, drop, length, min}
 use Rattle.std.specs.Fmt.{decimal, signed_decimal}
+use Rattle.std.specs.Int.{saturate_signed, w32}
 use Rattle.gabc_marks.specs.Heads.{height_at}
 use Rattle.gabc_marks.specs.declared.distance.Distance.{Distance}
+use Rattle.gabc_marks.specs.declared.hand.NabcOutline.{NabcOutline}
 use Rattle.gabc_marks.specs.declared.head.NoteHead.{NoteHead}
 use Rattle.gabc_marks.specs.declared.picture.Levels.{Levels}
 use Rattle.gabc_marks.specs.declared.picture.Part.{Part}
@@ -14,9 +16,10 @@ use Rattle.gabc_marks.specs.declared.sign.Sign.TheVariants as sign
 use Rattle.gabc_marks.specs.declared.styles.Styles.{Styles}
 use Rattle.gabc_marks.specs.declared.words.Level.{Level}
 use Rattle.gabc_marks.specs.declared.words.Level.TheVariants as level
+use Rattle.gabc_marks.specs.declared.words.NabcLine.{NabcLine}
 use Rattle.gabc_marks.specs.declared.words.NabcLine.TheVariants as line
 use Rattle.gabc_marks.specs.declared.words.Words.{Words}
-use Rattle.gabc_svg.specs.OutlineNames.{name_of_head, name_of_symbol}
+use Rattle.gabc_svg.specs.OutlineNames.{name_of_head, name_of_nabc, name_of_symbol}
 use Rattle.gabc_svg.specs.Xml.{Attribute, Content, Nothing, Characters, Element, Empty, and_then, valued}
 use Rattle.gabc_svg.specs.declared.tag.Name.TheVariants as name
 use Rattle.gabc_svg.specs.declared.tag.Tag.TheVariants as tag
@@ -74,6 +77,16 @@ unfoldable pub use_content : List (List ℕ) → ℤ → ℤ → Content
 use_content texts x y =
     Empty tag.Use (outline texts ∷ valued name.X (signed_decimal x) ∷ valued name.Y (signed_decimal y) ∷ []) Nothing
 
+-- how far below the lowest line of the staff that is which is so far below a line of NABC
+abbrev pub nabc_at : Levels → NabcLine → ℤ → ℤ
+nabc_at ls l y = saturate_signed w32 (level_at ls (level.Nabc l) +ℤ y)
+
+unfoldable pub nabc_content : Levels → NabcOutline → NabcLine → ℤ → ℤ → Content
+nabc_content ls o l x y =
+    Empty tag.Use
+    (outline (name_of_nabc o) ∷ valued name.X (signed_decimal x) ∷ valued name.Y (signed_decimal (nabc_at ls l y))
+    ∷ valued name.Class (codes "nabc") ∷ []) Nothing
+
 -- a field of a message, by its class: that of a warning has a further one
 unfoldable pub field_content : ℤ → ℤ → ℤ → ℤ → Bool → Content
 field_content x y width height is_warning =
@@ -97,6 +110,7 @@ sign_content ls (sign.Symbol s x y) = use_content (name_of_symbol s ∷ []) x.0 
 sign_content ls (sign.Rect x y width height) = rect_content x.0 y.0 width.0 height.0
 sign_content ls (sign.StaffLine x y width) = staff_line_content x.0 y.0 width.0
 sign_content ls (sign.Words w) = words_content ls w
+sign_content ls (sign.Nabc o l x y) = nabc_content ls o l x.0 y.0
 sign_content ls (sign.Bow b) = bow_content b
 sign_content ls (sign.Field x y width height is_warning) = field_content x.0 y.0 width.0 height.0 is_warning
 

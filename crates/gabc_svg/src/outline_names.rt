@@ -3,10 +3,10 @@
 ghost use Rattle.std.specs.Prelude.{◌≡◌};
 ghost use Rattle.std.specs.List.{flat_map};
 ghost use Rattle.gabc_svg.specs.Escape.{escaped};
-ghost use Rattle.gabc_svg.specs.OutlineNames.{name_of_family, name_of_ending, name_of_single, name_of_symbol as symbol_name, name_of_joined, name_of_head};
+ghost use Rattle.gabc_svg.specs.OutlineNames.{name_of_family, name_of_ending, name_of_single, name_of_symbol as symbol_name, name_of_joined, name_of_head, name_of_hand, name_of_nabc};
 
 use crate::escape::{put_decimal, put_escaped};
-use gabc_marks::{Ending, Family, Head, Joined, Single, Symbol};
+use gabc_marks::{Ending, Family, Hand, Head, Joined, NabcOutline, Single, Symbol};
 use gabc_places::Put;
 
 /// Returns the name of a family of neumes.
@@ -129,4 +129,22 @@ pub(crate) fn put_head_name<S: Put>(head: Head, out: &mut S)
         Head::Joined(joined) => put_joined_name(joined, out),
         Head::Single(single) => put_escaped(single_name(single), out),
     }
+}
+
+/// Returns what begins the names of the outlines of a hand.
+fn hand_name(hand: Hand) -> &'static str
+    ensures { result.now ≡ name_of_hand hand }
+{
+    match hand {
+        Hand::StGall => "stgall-",
+        Hand::Laon => "laon-",
+    }
+}
+
+/// Puts the name of an outline of NABC.
+pub(crate) fn put_nabc_name<S: Put>(outline: NabcOutline, out: &mut S)
+    ensures { out.new ≡ S.taken out.old (flat_map escaped (name_of_nabc outline)) }
+{
+    put_escaped(hand_name(outline.hand), out);
+    put_escaped(outline.name, out);
 }

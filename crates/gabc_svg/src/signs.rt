@@ -4,16 +4,18 @@ ghost use Rattle.std.specs.Prelude.{◌≡◌, ◌∷◌, [], ◌++◌, codes};
 ghost use Rattle.std.specs.Fmt.{signed_decimal};
 ghost use Rattle.std.specs.List.{flat_map};
 ghost use Rattle.gabc_svg.specs.Escape.{escaped};
-ghost use Rattle.gabc_svg.specs.OutlineNames.{name_of_head, name_of_symbol as symbol_name};
+ghost use Rattle.gabc_svg.specs.OutlineNames.{name_of_head, name_of_nabc, name_of_symbol as symbol_name};
 ghost use Rattle.gabc_svg.specs.Xml.{written, written_attribute, written_attributes};
-ghost use Rattle.gabc_svg.specs.Page.{outline, sides, rect_content, staff_line_content, field_content, steps_of, course, bow_content, use_content, sign_content, signs_content, head_content, heads_content};
+ghost use Rattle.gabc_svg.specs.Page.{outline, sides, rect_content, staff_line_content, field_content, steps_of, course, bow_content, use_content, nabc_at, nabc_content, sign_content, signs_content, head_content, heads_content};
 
 use crate::escape::{put_escaped, put_signed};
-use crate::outline_names::{name_of_symbol, put_head_name};
+use crate::outline_names::{name_of_symbol, put_head_name, put_nabc_name};
 use crate::tag::{Name, Tag};
-use crate::texts::put_words;
+use crate::texts::{height_of_level, put_words};
 use crate::xml::{begin_tag, begin_value, put_attribute, put_distance};
-use gabc_marks::{Bow, Distance, Head, Levels, NoteHead, Sign, Symbol, height_of};
+use gabc_marks::{
+    Bow, Distance, Head, Level, Levels, NabcLine, NabcOutline, NoteHead, Sign, Symbol, height_of,
+};
 use gabc_places::Put;
 
 /// Puts the attribute that names the outline of `head`.
@@ -71,6 +73,49 @@ fn put_symbol<S: Put>(symbol: Symbol, x: Distance, y: Distance, out: &mut S)
     put_symbol_outline(symbol, out);
     put_distance(Name::X, x, out);
     put_distance(Name::Y, y, out);
+    out.put(b"/>");
+}
+
+/// Puts the attribute that names an outline of NABC.
+#[tactic(auto, using(crate::proofs::Written::steps), unfolding(crate::specs::Xml::written_attribute))]
+fn put_nabc_outline<S: Put>(nabc: NabcOutline, out: &mut S)
+    ensures { out.new ≡ S.taken out.old (written_attribute (outline (name_of_nabc nabc))) }
+{
+    begin_value(Name::Href, out);
+    put_escaped("#", out);
+    put_nabc_name(nabc, out);
+    out.put(b"\"");
+}
+
+/// Returns how far below the lowest line of the staff that is which is `y` below `line` of NABC, in
+/// a row with these `levels`.
+fn nabc_height(levels: Levels, line: NabcLine, y: Distance) -> Distance
+    ensures { result.0 ≡ nabc_at levels line y.0 }
+{
+    Distance(
+        height_of_level(levels, Level::Nabc(line))
+            .0
+            .saturating_add(y.0),
+    )
+}
+
+/// Puts an outline of NABC, `y` below its `line` in a row with these `levels`.
+#[tactic(auto, using(crate::proofs::Written::steps), unfolding(crate::specs::Xml::written, crate::specs::Xml::opened, crate::specs::Page::nabc_content))]
+fn put_nabc<S: Put>(
+    levels: Levels,
+    nabc: NabcOutline,
+    line: NabcLine,
+    x: Distance,
+    y: Distance,
+    out: &mut S,
+)
+    ensures { out.new ≡ S.taken out.old (written (nabc_content levels nabc line x.0 y.0)) }
+{
+    begin_tag(Tag::Use, out);
+    put_nabc_outline(nabc, out);
+    put_distance(Name::X, x, out);
+    put_distance(Name::Y, nabc_height(levels, line, y), out);
+    put_attribute(Name::Class, "nabc", out);
     out.put(b"/>");
 }
 
@@ -177,6 +222,12 @@ fn put_sign<S: Put>(levels: Levels, sign: Sign<'_>, out: &mut S)
         } => put_rect(x, y, width, height, out),
         Sign::StaffLine { x, y, width } => put_staff_line(x, y, width, out),
         Sign::Words(words) => put_words(levels, words, out),
+        Sign::Nabc {
+            outline,
+            line,
+            x,
+            y,
+        } => put_nabc(levels, outline, line, x, y, out),
         Sign::Bow(bow) => put_bow(bow, out),
         Sign::Field {
             x,

@@ -2,7 +2,7 @@
 
 ghost use Rattle.std.specs.Prelude.{◌≡◌};
 ghost use Rattle.gabc_svg.specs.Xml.{written, written_attributes};
-ghost use Rattle.gabc_svg.specs.Page.{level_at as height_of_level, style_attributes, words_attributes, words_content};
+ghost use Rattle.gabc_svg.specs.Page.{level_at, style_attributes, words_attributes, words_content};
 
 use crate::escape::put_escaped;
 use crate::tag::{Name, Tag};
@@ -11,8 +11,8 @@ use gabc_marks::{Distance, Level, Levels, NabcLine, Styles, Words};
 use gabc_places::Put;
 
 /// Returns how far below the lowest line of the staff `level` stands in a row with these `levels`.
-fn height_of(levels: Levels, level: Level) -> Distance
-    ensures { result.0 ≡ height_of_level levels level }
+pub(crate) fn height_of_level(levels: Levels, level: Level) -> Distance
+    ensures { result.0 ≡ level_at levels level }
 {
     match level {
         Level::Text => levels.text,
@@ -44,7 +44,7 @@ fn put_words_attributes<S: Put>(levels: Levels, words: Words<'_>, out: &mut S)
     ensures { out.new ≡ S.taken out.old (written_attributes (words_attributes levels words.entry)) }
 {
     put_distance(Name::X, words.x, out);
-    put_distance(Name::Y, height_of(levels, words.level), out);
+    put_distance(Name::Y, height_of_level(levels, words.level), out);
     put_distance(Name::FontSize, words.size, out);
     put_distance(Name::TextLength, words.width, out);
     put_attribute(Name::LengthAdjust, "spacingAndGlyphs", out);
