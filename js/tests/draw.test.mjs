@@ -137,10 +137,10 @@ test("each outline has a path and a width, and their licence is told", () => {
 /** Returns a text of a picture without references. */
 const unescaped = (text) => text.replaceAll("&quot;", '"').replaceAll("&lt;", "<").replaceAll("&gt;", ">");
 
-/** Returns the outlines of NABC in a picture, in order, and its texts over the staff in small type. */
-function nabcOf(nabc, gabc = "f") {
-  const svg = draw(`nabc-lines: 1;\n%%\n(c4) a(${gabc}|${nabc})`);
-  looksAt(`nabc-lines: 1;\n%%\n(c4) a(${gabc}|${nabc})`, nabc);
+/** Returns the outlines of NABC in the picture of a score, in order, and its texts over the staff in small type. */
+function nabcOf(score) {
+  const svg = draw(score);
+  looksAt(score, score);
   const names = Array.from(svg.matchAll(/<use href="#((?:stgall|laon)-[^"]*)"[^>]* class="nabc"/g), ([, name]) => name);
   const texts = Array.from(svg.matchAll(/<text [^>]*font-size="900"[^>]*>([^<]*)</g), ([, text]) => unescaped(text));
   return [...names, ...texts];
@@ -164,8 +164,9 @@ test("NABC is drawn as neumes, each with what belongs to it", () => {
     ["unppn1sun2", ["laon-unppn1sun2"]],
     ["unltdo5cl", ["laon-un", "laon-ltdo", "laon-cl"]],
   ];
-  for (const [nabc, wanted] of rows) assert.deepEqual(nabcOf(nabc), wanted, nabc);
-  assert.deepEqual(nabcOf("c% twice\nl\u0001>"), ["stgall-clB"]);
+  for (const [nabc, wanted] of rows) assert.deepEqual(nabcOf(`nabc-lines: 1;\n%%\n(c4) a(f|${nabc})`), wanted, nabc);
+  assert.deepEqual(nabcOf("nabc-lines: 1;\n%%\n(f|c% twice\nl\u0001>)"), ["stgall-clB"]);
+  assert.deepEqual(nabcOf("nabc-lines: 2;\n%%\n(f|ta-|un)(g|cl|cl)"), ["stgall-taN", "laon-un", "stgall-cl", "laon-cl"]);
 });
 
 test("a picture tells whose its outlines are", () => {

@@ -1,17 +1,17 @@
 -- What a picture of a tree is, and what is put of it.
 use Rattle.std.specs.Prelude.{ℕ, ◌≡◌, List}
-use Rattle.gabc_marks.specs.Heads.{pitches_of_parts, bytes_of_parts}
+use Rattle.gabc_marks.specs.Heads.{shown_by_parts}
 use Rattle.gabc_marks.specs.declared.picture.Picture.{Picture}
 use Rattle.gabc_svg.specs.Page.{page_of}
 use Rattle.gabc_svg.specs.Xml.{written}
 use Rattle.gabc_tree.specs.declared.node.Node.{Node}
-use Rattle.gabc_draw.specs.Pitches.{pitches_of_nodes, bytes_of_nodes}
+use Rattle.gabc_draw.specs.Pitches.{shown_of_nodes}
 
--- its heads are the notes of the tree, in order, each once for each time that it sounds, at its
--- height; and its syllables are those of the tree, in order, with their bytes
+-- its groups show what the tree is to show: the syllables in their order, each with its bytes; and
+-- in each the heads of its notes in their order, each note once for each time that it sounds, at its
+-- height
 pub record IsPictureOf (nodes : List Node) (picture : Picture) : Type 0 where
-  pub notes : pitches_of_parts picture.parts.items ≡ pitches_of_nodes nodes
-  pub syllables : bytes_of_parts picture.parts.items ≡ bytes_of_nodes nodes
+  pub groups : shown_by_parts picture.parts.items ≡ shown_of_nodes nodes
 
 -- what takes bytes by `taken` has taken the text of a picture of the tree
 pub record Draws {P : Type 0} (taken : P → List ℕ → P) (nodes : List Node) (old new : P) : Type 0 where

@@ -1,7 +1,6 @@
 -- The notes and the syllables of a tree, as a picture has to show them.
-use Rattle.std.specs.Prelude.{ℕ, ◌%◌, ◌==◌, ◌||◌, List, [], ◌∷◌, cond, replicate}
-use Rattle.std.specs.List.{flat_map}
-use Rattle.gabc_marks.specs.Heads.{Bytes}
+use Rattle.std.specs.Prelude.{ℕ, ◌%◌, ◌==◌, ◌||◌, List, [], ◌∷◌, ◌++◌, cond, replicate}
+use Rattle.gabc_marks.specs.Heads.{Bytes, Shown, Syllable, notes_of}
 use Rattle.gabc_tree.specs.declared.kind.Kind.{Kind}
 use Rattle.gabc_tree.specs.declared.kind.Kind.TheVariants as kind
 use Rattle.gabc_tree.specs.declared.node.Node.{Node}
@@ -11,20 +10,32 @@ use Rattle.gabc_tree.specs.declared.node.Node.{Node}
 abbrev pub times_of_shape : ℕ → ℕ
 times_of_shape shape = cond (shape == 3 || shape == 7) 2 (cond (shape == 4 || shape == 8) 3 1)
 
--- the pitches of a node of that kind with these numbers: a note has its height once for each time
--- that it sounds
-abbrev pub pitches_of_kind : Kind → ℕ → ℕ → List ℕ
-pitches_of_kind kind.Note a b = replicate (times_of_shape (b % 32)) (a % 16)
-pitches_of_kind other a b = []
+-- the pitches of a note with these numbers: its height once for each time that it sounds
+abbrev pub pitches_of_note : ℕ → ℕ → List ℕ
+pitches_of_note a b = replicate (times_of_shape (b % 32)) (a % 16)
 
--- the pitches of the notes of a tree, in their order
-abbrev pub pitches_of_nodes : List Node → List ℕ
-pitches_of_nodes nodes = flat_map (λ (n : Node). pitches_of_kind n.kind n.a n.b) nodes
+abbrev pub bytes_of_node : Node → Bytes
+bytes_of_node n = record { begin = n.begin; end = n.end }
 
-abbrev pub bytes_of_kind : Kind → ℕ → ℕ → List Bytes
-bytes_of_kind kind.Syllable begin end = record { begin = begin; end = end } ∷ []
-bytes_of_kind other begin end = []
+-- what a node of that kind is to show after a syllable with these bytes: a syllable that it begins,
+-- or a note of the one before
+abbrev pub shown_of_kind : Kind → Node → Bytes → List Shown
+shown_of_kind kind.Syllable n bytes = Syllable (bytes_of_node n) ∷ []
+shown_of_kind kind.Note n bytes = notes_of bytes (pitches_of_note n.a n.b)
+shown_of_kind other n bytes = []
 
--- the bytes of the syllables of a tree, in their order
-abbrev pub bytes_of_nodes : List Node → List Bytes
-bytes_of_nodes nodes = flat_map (λ (n : Node). bytes_of_kind n.kind n.begin n.end) nodes
+-- the bytes of the last syllable up to a node of that kind, if it was the one with these bytes
+-- before
+abbrev pub bytes_after : Kind → Node → Bytes → Bytes
+bytes_after kind.Syllable n bytes = bytes_of_node n
+bytes_after other n bytes = bytes
+
+-- what a tree is to show after a syllable with these bytes: its syllables in their order, each with
+-- its bytes, and after each syllable its notes in their order
+abbrev pub shown_after : Bytes → List Node → List Shown
+shown_after bytes [] = []
+shown_after bytes (n ∷ nodes) = shown_of_kind n.kind n bytes ++ shown_after (bytes_after n.kind n bytes) nodes
+
+-- what a tree is to show; notes before all syllables belong to the bytes 0 to 0
+abbrev pub shown_of_nodes : List Node → List Shown
+shown_of_nodes nodes = shown_after (record { begin = 0; end = 0 }) nodes

@@ -22,6 +22,12 @@ const TOO_WIDE: i64 = 1_000_000;
 
 const FEW: usize = 3;
 
+/// A row of which more is empty, in thousandths, ends only if nothing more fits.
+const EMPTY: i64 = 450;
+
+/// So many units stand in one row at most.
+const MOST_UNITS: usize = 1000;
+
 /// What the last row before an end that is asked for costs, which may stay short: one that is not
 /// to be spread costs nothing for what is free up to this part.
 const LAST_BY_FREE: i64 = 10;
@@ -44,11 +50,44 @@ struct Unit {
     asked: Option<LineEnd>,
 }
 
-/// The cheapest way to a break: what it costs, and where its last row begins.
+/// The cheapest way to a break: what it costs, where its last row begins, and how many rows it has.
 #[derive(Clone, Copy, Debug)]
 struct Way {
     cost: i64,
     begin: usize,
+    rows: usize,
+}
+
+impl Way {
+    /// Returns the way on by a row that begins with the unit `begin`, and costs `more`.
+    fn on(self, begin: usize, more: i64) -> Way {
+        Way {
+            cost: self.cost.saturating_add(more),
+            begin,
+            rows: self.rows.saturating_add(1),
+        }
+    }
+}
+
+/// The rows for which breaks are looked for: their width, how many are made already, and by how
+/// much the first ones are shorter, since an initial stands before them.
+#[derive(Clone, Copy, Debug)]
+pub(crate) struct Room {
+    pub(crate) width: Distance,
+    pub(crate) made: usize,
+    pub(crate) indented: usize,
+    pub(crate) indent: Distance,
+}
+
+impl Room {
+    /// Returns where the staff of the row begins that comes after that many.
+    fn indent_after(self, rows: usize) -> Distance {
+        if self.made.saturating_add(rows) < self.indented {
+            self.indent
+        } else {
+            Distance::ZERO
+        }
+    }
 }
 
 /// A row: it ends before the part `end`, and so by the end that the score asks for, if it does.
@@ -99,8 +138,9 @@ fn unit_with(part: &Measures<'_>, end: usize, x: Distance, clef: Option<Clef>) -
     }
 }
 
-/// Returns the parts from `begin` on in units, up to the first end that the score asks for.
-fn units_from(
+/// Returns `parts` in units, up to the first end that the score asks for; the first part is the one
+/// with the number `begin`, from 0.
+fn units_of(
     alloc: Global,
     parts: &[Measures<'_>],
     begin: usize,
@@ -111,9 +151,10 @@ fn units_from(
     let mut clef = clef;
     let mut texts: usize = 0;
     let mut before: Option<&Measures<'_>> = None;
-    for (at, part) in parts.iter().enumerate().skip(begin) {
+    let mut end = begin;
+    for part in parts {
         let x = cursor.put(part);
-        let end = at.saturating_add(1);
+        end = end.saturating_add(1);
         if part.text.is_some() {
             texts = texts.saturating_add(1);
         }
@@ -181,68 +222,76 @@ fn part_free(free: Distance, width: Distance) -> i64 {
     i64::from(free.0).saturating_mul(1000) / i64::from(width.0.max(1))
 }
 
-/// Returns how far left the first units from `at` on reach: a text may begin left of the notes
-/// before it.
-fn left_from(units: &[Unit], at: usize) -> Distance {
-    let own = units.get(at).map_or(Distance::ZERO, |unit| unit.left);
+/// Returns how far left the first of `units` reach: a text may begin left of the notes before it.
+fn left_of_first(units: &[Unit]) -> Distance {
+    let own = units.first().map_or(Distance::ZERO, |unit| unit.left);
     units
         .iter()
-        .skip(at)
         .take(4)
         .fold(own, |left, unit| left.min(unit.left))
 }
 
-/// Notes the way over `begin` to the break after the unit `to`, if it costs less than the known
-/// one.
-fn note_way(ways: &mut [Option<Way>], to: usize, begin: usize, cost: i64) {
+/// Notes `way` to the break after the unit `to`, if it costs less than the known one.
+fn note_way(ways: &mut [Option<Way>], to: usize, way: Way) {
     let after = to.saturating_add(1);
     if after < ways.len() {
         let is_better = match ways[after] {
-            Some(known) => cost < known.cost,
+            Some(known) => way.cost < known.cost,
             None => true,
         };
         if is_better {
-            ways[after] = Some(Way { cost, begin });
+            ways[after] = Some(way);
         }
     }
 }
 
-/// Notes the ways on from the break before the unit `at`, to which the cheapest way costs `cost`,
-/// for rows of this `width`.
-fn note_ways_from(units: &[Unit], at: usize, cost: i64, width: Distance, ways: &mut [Option<Way>]) {
-    let start = units.get(at).map_or(Distance::ZERO, |unit| unit.start);
+/// Notes the ways on from the break before the unit `at`, to which `way` is the cheapest one.
+fn note_ways_from(units: &[Unit], at: usize, way: Way, room: Room, ways: &mut [Option<Way>]) {
+    let later = units.get(at..).unwrap_or(&[]);
+    let start = later.first().map_or(Distance::ZERO, |unit| unit.start);
     let passed = at
         .checked_sub(1)
         .and_then(|it| units.get(it))
         .map_or(0, |unit| unit.texts);
-    let end = left_from(units, at) - start + width;
+    let end = left_of_first(later) - start - room.indent_after(way.rows) + room.width;
     let last = units.len().saturating_sub(1);
-    for (to, unit) in units.iter().enumerate().skip(at) {
-        let free = part_free(end - unit.right, width);
+    let mut waiting = None;
+    for (number, unit) in later.iter().take(MOST_UNITS).enumerate() {
+        let to = at.saturating_add(number);
+        let free = part_free(end - unit.right, room.width);
         if free < 0 {
-            if to == at {
-                note_way(ways, to, at, cost.saturating_add(TOO_WIDE));
+            if number == 0 {
+                note_way(ways, to, way.on(at, TOO_WIDE));
             }
-            return;
+            break;
         }
         let syllables = unit.texts.saturating_sub(passed);
-        let more = price(free, *unit, syllables, to == last);
-        note_way(ways, to, at, cost.saturating_add(more));
+        let further = way.on(at, price(free, *unit, syllables, to == last));
+        waiting = if free <= EMPTY {
+            note_way(ways, to, further);
+            None
+        } else {
+            Some((to, further))
+        };
+    }
+    if let Some((to, further)) = waiting {
+        note_way(ways, to, further);
     }
 }
 
 /// Returns the cheapest way to each break between `units`.
-fn ways_of(alloc: Global, units: &[Unit], width: Distance) -> Result<Vec<Option<Way>>, AllocError> {
+fn ways_of(alloc: Global, units: &[Unit], room: Room) -> Result<Vec<Option<Way>>, AllocError> {
     let mut ways = vec![in alloc; None; units.len().saturating_add(1)]?;
+    let none = Way {
+        cost: 0,
+        begin: 0,
+        rows: 0,
+    };
     for at in 0..units.len() {
         let known = ways.get(at).copied().flatten();
-        let first = if at == 0 {
-            Some(Way { cost: 0, begin: 0 })
-        } else {
-            None
-        };
+        let first = if at == 0 { Some(none) } else { None };
         if let Some(way) = known.or(first) {
-            note_ways_from(units, at, way.cost, width, ways.as_mut_slice());
+            note_ways_from(units, at, way, room, ways.as_mut_slice());
         }
     }
     Ok(ways)
@@ -269,11 +318,11 @@ fn breaks_back(alloc: Global, ways: &[Option<Way>]) -> Result<Vec<usize>, AllocE
 fn add_spans(
     alloc: Global,
     units: &[Unit],
-    width: Distance,
+    room: Room,
     is_last: bool,
     spans: &mut Vec<Span>,
 ) -> Result<(), AllocError> {
-    let ways = ways_of(alloc, units, width)?;
+    let ways = ways_of(alloc, units, room)?;
     let breaks = breaks_back(alloc, ways.as_slice())?;
     for at in breaks.iter().rev() {
         let unit = at.checked_sub(1).and_then(|it| units.get(it));
@@ -288,44 +337,33 @@ fn add_spans(
     Ok(())
 }
 
-/// Returns the clef that is in force after the parts from `begin` up to `end`, before which `clef`
-/// is.
-fn clef_after(
-    parts: &[Measures<'_>],
-    begin: usize,
-    end: usize,
-    clef: Option<Clef>,
-) -> Option<Clef> {
-    let count = end.saturating_sub(begin);
-    parts
-        .iter()
-        .skip(begin)
-        .take(count)
-        .fold(clef, |clef, part| part.clef.or(clef))
+/// Returns the clef that is in force after `parts`, before which `clef` is.
+pub(crate) fn clef_after(parts: &[Measures<'_>], clef: Option<Clef>) -> Option<Clef> {
+    parts.iter().fold(clef, |clef, part| part.clef.or(clef))
 }
 
-/// Returns the rows in which `parts` stand at this `width`.
+/// Returns the rows in which `parts` stand in this `room`.
 pub(crate) fn spans_of(
     alloc: Global,
     parts: &[Measures<'_>],
-    width: Distance,
+    room: Room,
 ) -> Result<Vec<Span>, AllocError> {
-    let mut spans = Vec::new(alloc);
+    let mut spans: Vec<Span> = Vec::new(alloc);
     let mut begin: usize = 0;
     let mut clef = None;
     for _ in 0..parts.len() {
-        let units = units_from(alloc, parts, begin, clef)?;
+        let later = parts.get(begin..).unwrap_or(&[]);
+        let units = units_of(alloc, later, begin, clef)?;
         let Some(end) = units.as_slice().last().map(|unit| unit.end) else {
             break;
         };
-        add_spans(
-            alloc,
-            units.as_slice(),
-            width,
-            end == parts.len(),
-            &mut spans,
-        )?;
-        clef = clef_after(parts, begin, end, clef);
+        let here = Room {
+            made: spans.len(),
+            ..room
+        };
+        let is_last = end == parts.len();
+        add_spans(alloc, units.as_slice(), here, is_last, &mut spans)?;
+        clef = clef_after(parts.get(begin..end).unwrap_or(&[]), clef);
         begin = end;
     }
     Ok(spans)

@@ -1,49 +1,28 @@
 //! The desk at which a score is laid out: node by node, each note gets its head, and each syllable
 //! its parts.
 
-ghost use Rattle.std.specs.Prelude.{◌≡◌, ◌++◌, ◌∷◌, [], OnOk, IfOk};
-ghost use Rattle.gabc_marks.specs.Heads.{pitches_of_heads};
+ghost use Rattle.std.specs.Prelude.{◌≡◌, ◌++◌, [], OnOk, IfOk};
 ghost use Rattle.gabc_tree.specs.declared.kind.Kind.TheVariants as Kind;
-ghost use Rattle.gabc_draw.specs.Pitches.{pitches_of_nodes, pitches_of_kind, bytes_of_nodes, bytes_of_kind};
-ghost use Rattle.gabc_draw.specs.machine.Desk.{pitches_drawn, bytes_of_openings};
+ghost use Rattle.gabc_draw.specs.Pitches.{bytes_of_node, bytes_after, shown_of_kind, shown_after, shown_of_nodes};
+ghost use Rattle.gabc_draw.specs.machine.Desk.{bytes_of_group, shown_by_group, shown_by_groups, shown_on};
 
+use crate::group::Group;
 use crate::measures::{Measures, Place};
 use crate::neume::write_neume;
 use crate::note::Note;
 use crate::pitches::Pitches;
 use crate::plan::{GlyphKind, Planned, plan};
 use crate::sheet::Sheet;
-use gabc_marks::NoteHead;
 use gabc_tree::{Kind, Node};
 use std::alloc::{AllocError, Global};
 
-/// The begin of a part: the bytes of its syllable, whose number counts from 1, and whether it is
-/// the first part of it.
-#[derive(Clone, Copy, Debug)]
-pub(crate) struct Opening {
-    pub(crate) begin: u32,
-    pub(crate) end: u32,
-    pub(crate) number: u32,
-    pub(crate) is_first: bool,
-}
-
-impl Opening {
-    /// That of what belongs to no syllable.
-    pub(crate) const NONE: Opening = Opening {
-        begin: 0,
-        end: 0,
-        number: 0,
-        is_first: false,
-    };
-}
-
-/// A desk: the heads so far, the notes of the neume that is being read, the parts that are begun,
-/// and the sheet on which all stands.
+/// A desk: the groups that are ended and the one that is begun, the notes of the neume that is
+/// being read, and the sheet on which all stands.
 #[derive(Debug, Drop)]
 pub(crate) struct Desk<'a> {
-    pub(crate) heads: Vec<NoteHead>,
+    groups: Vec<Group>,
+    group: Group,
     pending: Vec<Note>,
-    pub(crate) openings: Vec<Opening>,
     planned: Vec<Planned>,
     pub(crate) sheet: Sheet<'a>,
     pitches: Pitches,
@@ -54,14 +33,15 @@ pub(crate) struct Desk<'a> {
 impl<'a> Desk<'a> {
     /// Returns a desk for the tree `nodes`, with nothing on it but this sheet.
     fn new(alloc: Global, nodes: &[Node], sheet: Sheet<'a>) -> Result<Desk<'a>, AllocError>
-        ensures heads { IfOk result (λ desk.
-            pitches_drawn desk.heads.items desk.pending.items ≡ []) }
-        ensures bytes { IfOk result (λ desk. bytes_of_openings desk.openings.items ≡ []) }
+        ensures shown { IfOk result (λ desk.
+            shown_on desk.groups.items desk.group desk.pending.items ≡ []) }
+        ensures bytes { IfOk result (λ desk.
+            bytes_of_group desk.group ≡ record { begin = 0; end = 0 }) }
     {
         Ok(Desk {
-            heads: Vec::new(alloc),
+            groups: Vec::new(alloc),
+            group: Group::before_all(alloc),
             pending: Vec::new(alloc),
-            openings: Vec::new(alloc),
             planned: Vec::new(alloc),
             sheet,
             pitches: Pitches::of(alloc, nodes)?,
@@ -71,10 +51,12 @@ impl<'a> Desk<'a> {
     }
 
     /// Writes the neume that is being read, if there is one.
+    #[tactic(auto, using(crate::proofs::HeadsJoin::joined))]
     fn flush(&mut self, alloc: Global) -> Result<(), AllocError>
-        ensures heads { OnOk result (pitches_drawn self.new.heads.items self.new.pending.items
-            ≡ pitches_drawn self.old.heads.items self.old.pending.items) }
-        ensures bytes { self.new.openings ≡ self.old.openings }
+        ensures shown { OnOk result (
+            shown_on self.new.groups.items self.new.group self.new.pending.items
+            ≡ shown_on self.old.groups.items self.old.group self.old.pending.items) }
+        ensures bytes { bytes_of_group self.new.group ≡ bytes_of_group self.old.group }
         ensures pending { OnOk result (self.new.pending.items ≡ []) }
     {
         let Some(last) = self.pending.as_slice().last().map(|note| note.pitch) else {
@@ -95,80 +77,99 @@ impl<'a> Desk<'a> {
         )?;
         self.sheet.begin_block();
         let planned = self.planned.as_slice();
-        write_neume(self.kind, planned, &mut self.sheet.pen, &mut self.heads)?;
+        let heads = &mut self.group.heads;
+        write_neume(self.kind, planned, &mut self.sheet.pen, heads)?;
         self.pending.clear();
         self.sheet.end_neume(alloc, first, last)
     }
 
-    /// Ends the part that is laid out, if there is one.
-    fn end_part(&mut self, alloc: Global) -> Result<(), AllocError>
-        ensures heads { OnOk result (pitches_drawn self.new.heads.items self.new.pending.items
-            ≡ pitches_drawn self.old.heads.items self.old.pending.items) }
-        ensures bytes { self.new.openings ≡ self.old.openings }
+    /// Ends the part that is laid out, if there is one, which has the marks before the byte
+    /// `before`, and begins a further one of its syllable.
+    #[tactic(auto, using(crate::proofs::HeadsJoin::joined))]
+    fn end_part(&mut self, alloc: Global, before: u32) -> Result<(), AllocError>
+        ensures shown { OnOk result (
+            shown_on self.new.groups.items self.new.group self.new.pending.items
+            ≡ shown_on self.old.groups.items self.old.group self.old.pending.items) }
+        ensures bytes { bytes_of_group self.new.group ≡ bytes_of_group self.old.group }
+        ensures ended { OnOk result (shown_by_group self.new.group ≡ []) }
+        ensures pending { OnOk result (self.new.pending.items ≡ []) }
     {
         self.flush(alloc)?;
-        if self.openings.is_empty() {
+        if self.group.is_empty() {
             return Ok(());
         }
+        self.sheet.pass_marks(before)?;
         self.sheet.end_snippet()?;
-        let heads = self.heads.len();
-        self.sheet.end_part(alloc, heads)
+        self.sheet.end_part(alloc)?;
+        let mut group = self.group.further(alloc);
+        std::mem::swap(&mut self.group, &mut group);
+        self.groups.push(group)?;
+        self.end_text(alloc)
+    }
+
+    /// Adds the further lines of a text that is wider than a row, each as a part.
+    #[tactic(auto, using(crate::proofs::HeadsJoin::joined))]
+    fn end_text(&mut self, alloc: Global) -> Result<(), AllocError>
+        ensures shown { OnOk result (shown_by_groups self.new.groups.items
+            ≡ shown_by_groups self.old.groups.items) }
+        ensures group { self.new.group ≡ self.old.group }
+        ensures pending { self.new.pending ≡ self.old.pending }
+    {
+        for number in 0..self.sheet.further.len() {
+            self.sheet.end_further(alloc, number)?;
+            self.groups.push(self.group.further(alloc))?;
+        }
+        self.sheet.further.clear();
+        Ok(())
     }
 
     /// Begins the syllable of `node`.
     #[tactic(auto, using(crate::proofs::HeadsJoin::joined))]
     fn begin_syllable(&mut self, alloc: Global, node: Node) -> Result<(), AllocError>
-        ensures heads { OnOk result (pitches_drawn self.new.heads.items self.new.pending.items
-            ≡ pitches_drawn self.old.heads.items self.old.pending.items) }
-        ensures bytes { OnOk result (bytes_of_openings self.new.openings.items
-            ≡ bytes_of_openings self.old.openings.items
-            ++ record { begin = node.begin; end = node.end } ∷ []) }
+        ensures shown { OnOk result (
+            shown_on self.new.groups.items self.new.group self.new.pending.items
+            ≡ shown_on self.old.groups.items self.old.group self.old.pending.items
+            ++ shown_of_kind Kind.Syllable node (bytes_of_group self.old.group)) }
+        ensures bytes { OnOk result (bytes_of_group self.new.group ≡ bytes_of_node node) }
     {
-        self.end_part(alloc)?;
-        let number = self
-            .openings
-            .last()
-            .map_or(1, |it| it.number.saturating_add(1));
+        self.end_part(alloc, node.begin)?;
         self.sheet.begin(alloc, Place::of(node.a, node.b));
-        self.openings.push(Opening {
+        self.group = Group {
             begin: node.begin,
             end: node.end,
-            number,
+            number: self.group.number.saturating_add(1),
             is_first: true,
-        })?;
+            heads: Vec::new(alloc),
+        };
         Ok(())
     }
 
-    /// Begins a further part of the syllable, if a line ends where the last one ends.
-    #[tactic(auto, using(crate::proofs::HeadsJoin::joined))]
-    fn turn(&mut self, alloc: Global) -> Result<(), AllocError>
-        ensures heads { OnOk result (pitches_drawn self.new.heads.items self.new.pending.items
-            ≡ pitches_drawn self.old.heads.items self.old.pending.items) }
-        ensures bytes { OnOk result (bytes_of_openings self.new.openings.items
-            ≡ bytes_of_openings self.old.openings.items) }
+    /// Begins a further part of the syllable before `node`, which has that many `notes`, if a line
+    /// ends there, or if the last one is full.
+    fn turn(&mut self, alloc: Global, node: Node, notes: i32) -> Result<(), AllocError>
+        ensures shown { OnOk result (
+            shown_on self.new.groups.items self.new.group self.new.pending.items
+            ≡ shown_on self.old.groups.items self.old.group self.old.pending.items) }
+        ensures bytes { bytes_of_group self.new.group ≡ bytes_of_group self.old.group }
     {
-        if !self.sheet.ends_line() {
-            return Ok(());
+        if self.sheet.ends_line() || self.sheet.is_full(notes) {
+            return self.end_part(alloc, node.begin);
         }
-        let Some(last) = self.openings.last().copied() else {
-            return Ok(());
-        };
-        self.end_part(alloc)?;
-        self.openings.push(Opening {
-            is_first: false,
-            ..last
-        })?;
-        Ok(())
+        self.sheet.pass_marks(node.begin)
     }
 
     /// Adds the note of `node`.
     #[tactic(auto, using(crate::proofs::HeadsJoin::joined))]
     fn add_note(&mut self, alloc: Global, node: Node) -> Result<(), AllocError>
-        ensures heads { OnOk result (pitches_drawn self.new.heads.items self.new.pending.items
-            ≡ pitches_drawn self.old.heads.items self.old.pending.items
-            ++ pitches_of_kind Kind.Note node.a node.b) }
-        ensures bytes { self.new.openings ≡ self.old.openings }
+        ensures shown { OnOk result (
+            shown_on self.new.groups.items self.new.group self.new.pending.items
+            ≡ shown_on self.old.groups.items self.old.group self.old.pending.items
+            ++ shown_of_kind Kind.Note node (bytes_of_group self.old.group)) }
+        ensures bytes { bytes_of_group self.new.group ≡ bytes_of_group self.old.group }
     {
+        if self.pending.is_empty() {
+            self.turn(alloc, node, 0)?;
+        }
         self.pending.push(Note::of(node))?;
         self.pitches.pass();
         if self.count <= self.pending.len() {
@@ -179,49 +180,51 @@ impl<'a> Desk<'a> {
 
     /// Begins the neume of `node`.
     fn begin_neume(&mut self, alloc: Global, node: Node) -> Result<(), AllocError>
-        ensures heads { OnOk result (pitches_drawn self.new.heads.items self.new.pending.items
-            ≡ pitches_drawn self.old.heads.items self.old.pending.items) }
-        ensures bytes { OnOk result (bytes_of_openings self.new.openings.items
-            ≡ bytes_of_openings self.old.openings.items) }
+        ensures shown { OnOk result (
+            shown_on self.new.groups.items self.new.group self.new.pending.items
+            ≡ shown_on self.old.groups.items self.old.group self.old.pending.items) }
+        ensures bytes { bytes_of_group self.new.group ≡ bytes_of_group self.old.group }
     {
         self.flush(alloc)?;
-        self.turn(alloc)?;
+        let count = node.c % 64;
+        self.turn(alloc, node, i32::from(count))?;
         self.kind = GlyphKind {
             base: node.a,
             tail: node.b,
         };
-        self.count = usize::from(node.c % 64);
+        self.count = usize::from(count);
         Ok(())
     }
 
     /// Adds `node`, which is no note, no neume and no syllable.
     fn add_other(&mut self, alloc: Global, node: Node) -> Result<(), AllocError>
-        ensures heads { OnOk result (pitches_drawn self.new.heads.items self.new.pending.items
-            ≡ pitches_drawn self.old.heads.items self.old.pending.items) }
-        ensures bytes { OnOk result (bytes_of_openings self.new.openings.items
-            ≡ bytes_of_openings self.old.openings.items) }
+        ensures shown { OnOk result (
+            shown_on self.new.groups.items self.new.group self.new.pending.items
+            ≡ shown_on self.old.groups.items self.old.group self.old.pending.items) }
+        ensures bytes { bytes_of_group self.new.group ≡ bytes_of_group self.old.group }
     {
         if !self.pending.is_empty() {
-            return self.sheet.add_inside(node);
+            return self.sheet.add_inside(node, self.pending.len());
         }
         if matches!(
             node.kind,
             Kind::Clef | Kind::Alteration | Kind::Bar | Kind::Custos
         ) {
-            self.turn(alloc)?;
+            self.turn(alloc, node, 0)?;
         }
         let next = self.pitches.next();
         self.sheet.add(node, next)
     }
 
     /// Adds `node`.
+    #[tactic(auto, using(crate::proofs::HeadsJoin::joined))]
     pub(crate) fn add(&mut self, alloc: Global, node: Node) -> Result<(), AllocError>
-        ensures heads { OnOk result (pitches_drawn self.new.heads.items self.new.pending.items
-            ≡ pitches_drawn self.old.heads.items self.old.pending.items
-            ++ pitches_of_kind node.kind node.a node.b) }
-        ensures bytes { OnOk result (bytes_of_openings self.new.openings.items
-            ≡ bytes_of_openings self.old.openings.items
-            ++ bytes_of_kind node.kind node.begin node.end) }
+        ensures shown { OnOk result (
+            shown_on self.new.groups.items self.new.group self.new.pending.items
+            ≡ shown_on self.old.groups.items self.old.group self.old.pending.items
+            ++ shown_of_kind node.kind node (bytes_of_group self.old.group)) }
+        ensures bytes { OnOk result (bytes_of_group self.new.group
+            ≡ bytes_after node.kind node (bytes_of_group self.old.group)) }
     {
         match node.kind {
             Kind::Note => self.add_note(alloc, node),
@@ -234,26 +237,23 @@ impl<'a> Desk<'a> {
     /// Adds `nodes`, and ends the last part.
     #[tactic(auto, using(crate::proofs::HeadsJoin::joined))]
     fn add_all(&mut self, alloc: Global, nodes: &[Node]) -> Result<(), AllocError>
-        ensures heads { OnOk result (pitches_drawn self.new.heads.items self.new.pending.items
-            ≡ pitches_drawn self.old.heads.items self.old.pending.items
-            ++ pitches_of_nodes nodes.now) }
-        ensures bytes { OnOk result (bytes_of_openings self.new.openings.items
-            ≡ bytes_of_openings self.old.openings.items ++ bytes_of_nodes nodes.now) }
+        ensures shown { OnOk result (shown_by_groups self.new.groups.items
+            ≡ shown_on self.old.groups.items self.old.group self.old.pending.items
+            ++ shown_after (bytes_of_group self.old.group) nodes.now) }
     {
         let mut rest = nodes;
         while let [node, more @ ..] = rest {
             self.add(alloc, *node)?;
             rest = more;
         }
-        self.end_part(alloc)
+        self.end_part(alloc, u32::MAX)
     }
 }
 
-/// A score as it was laid out: all its heads, and its parts, each with what the layout knows of it.
+/// A score as it was laid out: its groups, and of each what the layout knows of it.
 #[derive(Debug, Drop)]
 pub(crate) struct LaidOut<'a> {
-    pub(crate) heads: Vec<NoteHead>,
-    pub(crate) openings: Vec<Opening>,
+    pub(crate) groups: Vec<Group>,
     pub(crate) measures: Vec<Measures<'a>>,
 }
 
@@ -263,16 +263,14 @@ pub(crate) fn lay_out<'a>(
     nodes: &[Node],
     sheet: Sheet<'a>,
 ) -> Result<LaidOut<'a>, AllocError>
-    ensures heads { IfOk result (λ it. pitches_of_heads it.heads.items ≡ pitches_of_nodes nodes.now) }
-    ensures bytes { IfOk result (λ it. bytes_of_openings it.openings.items ≡ bytes_of_nodes nodes.now) }
+    ensures { IfOk result (λ it. shown_by_groups it.groups.items ≡ shown_of_nodes nodes.now) }
 {
     let mut desk = Desk::new(alloc, nodes, sheet)?;
     desk.add_all(alloc, nodes)?;
-    desk.flush(alloc)?;
     let Desk {
-        heads,
+        groups,
+        group: _,
         pending: _,
-        openings,
         planned: _,
         sheet,
         pitches: _,
@@ -280,8 +278,7 @@ pub(crate) fn lay_out<'a>(
         count: _,
     } = desk;
     Ok(LaidOut {
-        heads,
-        openings,
+        groups,
         measures: sheet.done,
     })
 }

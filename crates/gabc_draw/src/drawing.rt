@@ -4,10 +4,14 @@ ghost use Rattle.std.specs.Prelude.{◌≡◌, IfOk, OnErr};
 ghost use Rattle.gabc_draw.specs.Drawn.{IsPictureOf, Draws};
 
 use crate::assemble::parts_of;
-use crate::breaks::spans_of;
+use crate::breaks::{Room, spans_of};
 use crate::desk::{LaidOut, lay_out};
+use crate::initial::Initial;
 use crate::language::Language;
-use crate::rows::{Staff, rows_of};
+use crate::marks::{Mark, Marks, put_lines};
+use crate::measures::Measures;
+use crate::nabc::hands_of;
+use crate::rows::{Rows, Staff, rows_of};
 use crate::sheet::Sheet;
 use crate::spaces;
 use crate::title::{header, put_title};
@@ -23,17 +27,27 @@ const LEAST_WIDTH: Distance = Distance(12_000);
 /// How wide a picture is if nobody says it.
 const USUAL_WIDTH: Distance = Distance(72_000);
 
+/// What the broadest clef and a custos take of a row, and the least room of a part.
+const CLEF_AND_CUSTOS: Distance = Distance(4500);
+
+const LEAST_ROOM: Distance = Distance(2000);
+
 /// How a picture looks.
 #[derive(Clone, Copy, Debug)]
-pub struct Options {
+pub struct Options<'a> {
     /// How wide it is, in thousandths of a staff space: at least 12,000.
     pub width: Distance,
+    /// The messages that it shows, in the order of their places.
+    pub marks: &'a [Mark],
 }
 
-impl Options {
-    /// Returns the default options.
-    pub fn usual() -> Options {
-        Options { width: USUAL_WIDTH }
+impl<'a> Options<'a> {
+    /// Returns the default options: the usual width, and no messages.
+    pub fn usual() -> Options<'a> {
+        Options {
+            width: USUAL_WIDTH,
+            marks: &[],
+        }
     }
 }
 
@@ -48,14 +62,57 @@ fn staff_lines(value: &str) -> i32 {
     }
 }
 
-/// Returns the picture of the score `input`, whose tree is `nodes`: it shows each note of the tree
-/// once for each time that it sounds, in order, at the height of its pitch, and each syllable with
-/// its bytes. It fails only for want of memory.
+/// Returns the sheet for the score `input`, whose tree is `nodes`.
+fn sheet_of<'a>(
+    alloc: Global,
+    nodes: &[Node],
+    input: &'a str,
+    staff: Staff,
+    marks: &'a [Mark],
+) -> Sheet<'a> {
+    let language = Language::of(header(nodes, input, "language"));
+    let room = (staff.width - CLEF_AND_CUSTOS).max(LEAST_ROOM);
+    Sheet::new(
+        alloc,
+        input,
+        staff.lines,
+        language,
+        hands_of(nodes),
+        room,
+        marks,
+    )
+}
+
+/// Returns the rows in which `parts` stand below `y`, with `initial` before the first ones.
+fn set_rows<'a>(
+    alloc: Global,
+    parts: &[Measures<'a>],
+    initial: Option<Initial<'a>>,
+    staff: Staff,
+    y: Distance,
+) -> Result<Rows<'a>, AllocError> {
+    let (indented, indent) = match &initial {
+        Some(initial) => (initial.rows, initial.room),
+        None => (0, Distance::ZERO),
+    };
+    let room = Room {
+        width: staff.width - spaces::CUSTOS,
+        made: 0,
+        indented,
+        indent,
+    };
+    let spans = spans_of(alloc, parts, room)?;
+    rows_of(alloc, parts, spans.as_slice(), initial, staff, y)
+}
+
+/// Returns the picture of the score `input`, whose tree is `nodes`, with the messages of `options`:
+/// it shows each syllable with its bytes, and in it each of its notes once for each time that it
+/// sounds, in order, at the height of its pitch. It fails only for want of memory.
 pub fn picture_of<'a>(
     alloc: Global,
     nodes: &[Node],
     input: &'a [u8],
-    options: Options,
+    options: Options<'a>,
 ) -> Result<Picture<'a>, AllocError>
     ensures { IfOk result (IsPictureOf nodes.now) }
 {
@@ -65,27 +122,22 @@ pub fn picture_of<'a>(
         width: width - spaces::MARGIN - spaces::MARGIN,
         lines: staff_lines(header(nodes, input, "staff-lines")),
     };
-    let language = Language::of(header(nodes, input, "language"));
-    let mut title = Vec::new(alloc);
-    let y = put_title(nodes, input, width, &mut title)?;
-    let sheet = Sheet::new(alloc, input, staff.lines, language);
+    let marks = Marks::of(options.marks, nodes);
+    let sheet = sheet_of(alloc, nodes, input, staff, marks.within);
     let LaidOut {
-        heads,
-        openings,
-        measures,
+        groups,
+        mut measures,
     } = lay_out(alloc, nodes, sheet)?;
-    let spans = spans_of(alloc, measures.as_slice(), staff.width - spaces::CUSTOS)?;
-    let rows = rows_of(alloc, measures.as_slice(), spans.as_slice(), staff, y)?;
-    let parts = parts_of(
-        alloc,
-        heads.as_slice(),
-        openings.as_slice(),
-        measures,
-        rows.places.as_slice(),
-    )?;
+    let initial = Initial::take(alloc, nodes, input, &mut measures)?;
+    let mut title = Vec::new(alloc);
+    let y = put_lines(marks.before, spaces::MARGIN, &mut title)?;
+    let y = put_title(alloc, nodes, input, width, initial.is_some(), y, &mut title)?;
+    let rows = set_rows(alloc, measures.as_slice(), initial, staff, y)?;
+    let end = put_lines(marks.after, rows.y, &mut title)?;
+    let parts = parts_of(alloc, groups, measures, rows.places.as_slice())?;
     Ok(Picture {
         width,
-        height: rows.y + spaces::MARGIN,
+        height: end + spaces::MARGIN,
         name: header(nodes, input, "name"),
         title,
         rows: rows.rows,
@@ -99,7 +151,7 @@ pub fn draw<P: Put>(
     alloc: Global,
     nodes: &[Node],
     input: &[u8],
-    options: Options,
+    options: Options<'_>,
     out: &mut P,
 ) -> Result<(), AllocError>
     ensures drawn { IfOk result (λ _. Draws P.taken nodes.now out.old out.new) }

@@ -1,7 +1,10 @@
 //! The text of a syllable, as words beside each other.
 
 use crate::language::{Language, base_letter, first_vowel};
+use crate::reading::{Open, text_of};
+use crate::runs::{Run, WordLine, front_within, lines_of};
 use gabc_marks::{Distance, Level, Sign, Styles, Words, styled_width, text_width};
+use gabc_tree::{Kind, Node};
 use std::alloc::{AllocError, Global};
 
 /// The size of the sung text, of a translation, and of a text over the staff.
@@ -10,6 +13,9 @@ pub(crate) const TEXT_SIZE: Distance = Distance(1600);
 const TRANSLATION_SIZE: Distance = Distance(1200);
 
 pub(crate) const ABOVE_SIZE: Distance = Distance(1100);
+
+/// What stands at the end of a text that is cut.
+const DOTS: &str = "…";
 
 /// A letter of the text: without its accent, and where it stands.
 #[derive(Clone, Copy, Debug)]
@@ -25,15 +31,55 @@ pub(crate) struct Lettering<'a> {
     words: Vec<Words<'a>>,
     letters: Vec<char>,
     places: Vec<Letter>,
+    /// Where its centre begins, if a brace says so, and the centre.
+    opened: Option<Distance>,
     centre: Option<Letter>,
     pub(crate) width: Distance,
     pub(crate) translation: Option<&'a str>,
     pub(crate) above: Vec<&'a str>,
+    input: &'a str,
+    /// The characters that are being read.
+    open: Option<Open>,
+}
+
+/// Adds `text` to `signs`, cut to `room`, as a text beside the sung one is, and returns how wide it
+/// is.
+fn put_beside<'a>(
+    text: &'a str,
+    x: Distance,
+    level: Level,
+    size: Distance,
+    room: Distance,
+    signs: &mut Vec<Sign<'a>>,
+) -> Result<Distance, AllocError> {
+    let mut words = Words {
+        text,
+        x,
+        level,
+        width: text_width(text, size),
+        size,
+        styles: Styles::ITALIC,
+    };
+    if words.width <= room {
+        signs.push(Sign::Words(words))?;
+        return Ok(words.width);
+    }
+    let dots = text_width(DOTS, size);
+    words.text = front_within(text, size, Styles::ITALIC, room - dots);
+    words.width = text_width(words.text, size);
+    signs.push(Sign::Words(words))?;
+    signs.push(Sign::Words(Words {
+        text: DOTS,
+        x: x + words.width,
+        width: dots,
+        ..words
+    }))?;
+    Ok(words.width + dots)
 }
 
 /// Returns the styles with this number: the sum of 1 for b, 2 for c, 4 for e, 8 for i, 16 for sc,
 /// 32 for tt and 64 for ul.
-fn styles_of(number: u16) -> Styles {
+pub(crate) fn styles_of(number: u16) -> Styles {
     Styles {
         bold: number % 2 == 1,
         red: number / 2 % 2 == 1,
@@ -68,12 +114,15 @@ fn inner_of(text: &str) -> &str {
 }
 
 impl<'a> Lettering<'a> {
-    /// Returns a text of no words.
-    pub(crate) fn new(alloc: Global) -> Lettering<'a> {
+    /// Returns a text of no words, for the score `input`.
+    pub(crate) fn new(alloc: Global, input: &'a str) -> Lettering<'a> {
         Lettering {
+            input,
+            open: None,
             words: Vec::new(alloc),
             letters: Vec::new(alloc),
             places: Vec::new(alloc),
+            opened: None,
             centre: None,
             width: Distance::ZERO,
             translation: None,
@@ -87,9 +136,11 @@ impl<'a> Lettering<'a> {
         self.letters.clear();
         self.places.clear();
         self.above.clear();
+        self.opened = None;
         self.centre = None;
         self.width = Distance::ZERO;
         self.translation = None;
+        self.open = None;
     }
 
     /// Returns whether there is no text.
@@ -131,13 +182,6 @@ impl<'a> Lettering<'a> {
         })?;
         self.add_letters(text, x, styles)?;
         self.width += width;
-        if 128 <= number % 256 {
-            let left = self.centre.map_or(x, |centre| centre.left);
-            self.centre = Some(Letter {
-                left,
-                right: self.width,
-            });
-        }
         Ok(())
     }
 
@@ -182,43 +226,131 @@ impl<'a> Lettering<'a> {
         Ok(())
     }
 
-    /// Adds its translation to `signs`, from `x` on, and returns where it ends, if it has one.
+    /// Adds its translation to `signs`, from `x` on, cut to `room`, and returns where it ends, if
+    /// it has one.
     pub(crate) fn put_translation(
         &self,
         x: Distance,
+        room: Distance,
         signs: &mut Vec<Sign<'a>>,
     ) -> Result<Option<Distance>, AllocError> {
         let Some(text) = self.translation else {
             return Ok(None);
         };
-        let width = text_width(text, TRANSLATION_SIZE);
-        signs.push(Sign::Words(Words {
-            text,
-            x,
-            level: Level::Translation,
-            width,
-            size: TRANSLATION_SIZE,
-            styles: Styles::ITALIC,
-        }))?;
+        let width = put_beside(text, x, Level::Translation, TRANSLATION_SIZE, room, signs)?;
         Ok(Some(x + width))
     }
 
-    /// Adds its texts over the staff to `signs`, from `x` on.
+    /// Adds its texts over the staff to `signs`, from `x` on, each cut to `room`, and returns where
+    /// they end, if it has any.
     pub(crate) fn put_above(
         &self,
         x: Distance,
+        room: Distance,
         signs: &mut Vec<Sign<'a>>,
-    ) -> Result<(), AllocError> {
+    ) -> Result<Option<Distance>, AllocError> {
+        let mut end: Option<Distance> = None;
         for text in &self.above {
-            signs.push(Sign::Words(Words {
-                text,
-                x,
-                level: Level::Above,
-                width: text_width(text, ABOVE_SIZE),
-                size: ABOVE_SIZE,
-                styles: Styles::ITALIC,
-            }))?;
+            let right = x + put_beside(*text, x, Level::Above, ABOVE_SIZE, room, signs)?;
+            end = Some(end.map_or(right, |end| end.max(right)));
+        }
+        Ok(end)
+    }
+
+    /// Adds what is left of the characters that are being read, up to the byte `end`.
+    fn add_open(&mut self, end: u32) -> Result<(), AllocError> {
+        let Some(open) = self.open else {
+            return Ok(());
+        };
+        let text = text_of(self.input, open.at, end.min(open.end));
+        self.add(text, open.styles)
+    }
+
+    /// Ends the characters that are being read.
+    pub(crate) fn close(&mut self) -> Result<(), AllocError> {
+        self.add_open(u32::MAX)?;
+        self.open = None;
+        Ok(())
+    }
+
+    /// Passes `node`, which is not kept: the characters that are being read go on after it.
+    pub(crate) fn pass_gap(&mut self, node: Node) -> Result<(), AllocError> {
+        self.add_open(node.begin)?;
+        if let Some(open) = self.open {
+            self.open = Some(Open {
+                at: node.end,
+                ..open
+            });
         }
         Ok(())
+    }
+
+    /// Adds a node of the text.
+    pub(crate) fn add_node(&mut self, node: Node) -> Result<(), AllocError> {
+        self.close()?;
+        let text = text_of(self.input, node.begin, node.end);
+        match node.kind {
+            Kind::Characters => {
+                self.open = Some(Open {
+                    at: node.begin,
+                    end: node.end,
+                    styles: node.a,
+                });
+                Ok(())
+            }
+            Kind::Escape => self.add(text.strip_prefix('$').unwrap_or(text), node.a),
+            Kind::TextBlank if node.b == 1 => self.add(" ", node.a),
+            Kind::Raw => self.add_raw(text, node.b, node.a),
+            Kind::Brace => {
+                self.add_brace(node.b == 0);
+                Ok(())
+            }
+            Kind::Translation if node.b == 1 && text != "[/]" => {
+                let inner = text.strip_prefix('[').unwrap_or(text);
+                self.translation = Some(inner.strip_suffix(']').unwrap_or(inner));
+                Ok(())
+            }
+            _ => Ok(()),
+        }
+    }
+
+    /// Adds a brace of the centre: the first one, if it `opens`, or else the second one.
+    fn add_brace(&mut self, opens: bool) {
+        let right = self.width;
+        if opens {
+            self.opened = self.opened.or(Some(right));
+        } else {
+            let centre = self.opened.map(|left| Letter { left, right });
+            self.centre = self.centre.or(centre);
+        }
+    }
+
+    /// Parts its words into lines no wider than `room`, and returns those after the first one.
+    pub(crate) fn cut(
+        &mut self,
+        alloc: Global,
+        room: Distance,
+    ) -> Result<Vec<WordLine<'a>>, AllocError> {
+        let mut further = Vec::new(alloc);
+        if self.width <= room {
+            return Ok(further);
+        }
+        let mut runs = Vec::new(alloc);
+        for words in &self.words {
+            runs.push(Run {
+                text: words.text,
+                styles: words.styles,
+            })?;
+        }
+        self.words.clear();
+        for line in lines_of(alloc, runs.as_slice(), TEXT_SIZE, room)? {
+            if self.words.is_empty() {
+                self.width = line.width;
+                self.words.extend_from_slice(line.words.as_slice())?;
+            } else {
+                further.push(line)?;
+            }
+        }
+        Ok(further)
     }
 }

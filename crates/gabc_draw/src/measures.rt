@@ -1,7 +1,10 @@
 //! What the layout knows of a part: how far it goes, and what stands in it.
 
+use crate::curves::Curve;
+use crate::marks::PartMark;
+use crate::nabc_rows::{NabcRows, PerLine};
 use crate::staff::Clef;
-use gabc_marks::{Distance, Sign};
+use gabc_marks::{Distance, Level, Sign, Styles, Words, char_width, styled_width};
 use std::alloc::Global;
 
 /// How a score wants a line to end.
@@ -17,6 +20,14 @@ pub(crate) struct LineEnd {
 pub(crate) struct Extent {
     pub(crate) left: Distance,
     pub(crate) right: Distance,
+}
+
+impl Extent {
+    /// That of nothing.
+    pub(crate) const NONE: Extent = Extent {
+        left: Distance::ZERO,
+        right: Distance::ZERO,
+    };
 }
 
 /// Where a syllable stands in its word, and in which spans.
@@ -49,12 +60,10 @@ impl Place {
     }
 }
 
-/// A part: its signs, the number of its heads, and its extents, from where the notes of its
-/// syllable begin.
+/// A part: its signs, and its extents, from where the notes of its syllable begin.
 #[derive(Debug, Drop)]
 pub(crate) struct Measures<'a> {
     pub(crate) signs: Vec<Sign<'a>>,
-    pub(crate) heads: usize,
     pub(crate) place: Place,
     /// Whether it is the first part of its syllable.
     pub(crate) is_first: bool,
@@ -72,9 +81,11 @@ pub(crate) struct Measures<'a> {
     pub(crate) has_bar: bool,
     /// Whether the last thing in it is a custos, or wants none after it.
     pub(crate) wants_no_custos: bool,
-    pub(crate) has_above: bool,
-    /// How many lines of NABC it has.
-    pub(crate) nabc: u16,
+    /// Where its texts over the staff end.
+    pub(crate) above: Option<Distance>,
+    pub(crate) curves: Vec<Curve>,
+    pub(crate) marks: Vec<PartMark>,
+    pub(crate) nabc: NabcRows,
     pub(crate) top: Distance,
     pub(crate) bottom: Distance,
 }
@@ -84,7 +95,6 @@ impl<'a> Measures<'a> {
     pub(crate) fn new(alloc: Global, place: Place, is_first: bool) -> Measures<'a> {
         Measures {
             signs: Vec::new(alloc),
-            heads: 0,
             place,
             is_first,
             notes: None,
@@ -97,8 +107,10 @@ impl<'a> Measures<'a> {
             end: None,
             has_bar: false,
             wants_no_custos: false,
-            has_above: false,
-            nabc: 0,
+            above: None,
+            curves: Vec::new(alloc),
+            marks: Vec::new(alloc),
+            nabc: PerLine::all(None),
             top: Distance::ZERO,
             bottom: Distance::ZERO,
         }
@@ -109,8 +121,85 @@ impl<'a> Measures<'a> {
         self.has_bar && self.first.is_none()
     }
 
+    /// Returns whether anything stands in it.
+    pub(crate) fn is_seen(&self) -> bool {
+        self.notes.is_some() || self.text.is_some() || self.translation.is_some()
+    }
+
     /// Returns whether it begins a word.
     pub(crate) fn begins_word(&self) -> bool {
         self.is_first && self.place.begins_word
+    }
+
+    /// Takes the first letter of its text away, and returns it, if it begins with one.
+    pub(crate) fn take_letter(&mut self) -> Option<&'a str> {
+        for at in 0..self.signs.len() {
+            if let Some(Sign::Words(words)) = self.signs.get(at).copied() {
+                if words.level == Level::Text {
+                    let letter = first_letter(words.text)?;
+                    self.cut_words(at, words, letter);
+                    return Some(letter);
+                }
+            }
+        }
+        None
+    }
+
+    /// Takes `letter` away from `words`, which are the sign `at`, the first ones of the text.
+    fn cut_words(&mut self, at: usize, words: Words<'a>, letter: &str) {
+        let taken = styled_width(letter, words.size, Styles::PLAIN);
+        let rest = words.text.get(letter.len()..).unwrap_or("");
+        if at < self.signs.len() {
+            self.signs[at] = Sign::Words(Words {
+                text: rest,
+                x: words.x + taken,
+                width: words.width - taken,
+                ..words
+            });
+        }
+        self.text = self.text.map(|text| Extent {
+            left: (text.left + taken).min(text.right),
+            ..text
+        });
+        if rest.is_empty() {
+            self.drop_words(at);
+        }
+    }
+
+    /// Takes the sign `at` away, which are words of the text; without others there is no text then.
+    fn drop_words(&mut self, at: usize) {
+        if at < self.signs.len() {
+            let _gone = self.signs.remove(at);
+        }
+        let has_text = self.signs.iter().any(|sign| is_text(*sign));
+        if !has_text {
+            self.text = None;
+        }
+    }
+}
+
+/// Returns whether `sign` is words of the sung text.
+fn is_text(sign: Sign<'_>) -> bool {
+    matches!(sign, Sign::Words(words) if words.level == Level::Text)
+}
+
+/// Returns the letter with which `text` begins, with the marks that stand on it.
+fn first_letter(text: &str) -> Option<&str> {
+    let mut length: usize = 0;
+    for c in text.chars() {
+        let is_more = if length == 0 {
+            c.is_alphabetic()
+        } else {
+            char_width(c) == 0
+        };
+        if !is_more {
+            break;
+        }
+        length = length.saturating_add(c.len_utf8());
+    }
+    if length == 0 {
+        None
+    } else {
+        text.get(..length)
     }
 }

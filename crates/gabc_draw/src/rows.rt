@@ -1,20 +1,19 @@
 //! The rows of a picture: where each part stands in its row, and what else does.
 
-use crate::breaks::{Span, start_of};
-use crate::cursor::{Cursor, HYPHEN, HYPHEN_ROOM};
-use crate::lettering::{ABOVE_SIZE, TEXT_SIZE};
+use crate::breaks::{Span, clef_after, start_of};
+use crate::curves::Curves;
+use crate::initial::Initial;
+use crate::lettering::ABOVE_SIZE;
+use crate::marks::{MarkedRow, put_marks};
 use crate::measures::{Extent, Measures};
+use crate::nabc_rows::{PerLine, join_rows, line_over};
 use crate::pen::Pen;
 use crate::rhythm::height_of_step;
+use crate::setting::{places_from, put_hyphens, right_of, spread};
 use crate::spaces;
 use crate::staff::{Clef, custos};
-use gabc_marks::{Distance, Level, Levels, Row, Sign, Styles, Words};
+use gabc_marks::{Distance, Levels, Row, Sign};
 use std::alloc::{AllocError, Global};
-
-/// How high and how deep a line of NABC goes.
-const NABC_UP: Distance = Distance(700);
-
-const NABC_DOWN: Distance = Distance(250);
 
 /// The size of a row: its width, and how many lines its staff has.
 #[derive(Clone, Copy, Debug)]
@@ -23,171 +22,13 @@ pub(crate) struct Staff {
     pub(crate) lines: i32,
 }
 
-/// Returns where the parts of a row stand that begins at `start`.
-fn places_from(
-    alloc: Global,
-    parts: &[Measures<'_>],
-    start: Distance,
-) -> Result<Vec<Distance>, AllocError> {
-    let mut cursor = Cursor::new(start);
-    let mut places = Vec::new(alloc);
-    for part in parts {
-        places.push(cursor.put(part))?;
-    }
-    Ok(places)
-}
-
-/// Returns how far to the right the parts at these places reach.
-fn right_of(parts: &[Measures<'_>], places: &[Distance]) -> Distance {
-    let mut right = Distance::ZERO;
-    for (part, x) in parts.iter().zip(places) {
-        for extent in [part.notes, part.text, part.translation] {
-            right = right.max(extent.map_or(right, |it| *x + it.right));
-        }
-    }
-    right
-}
-
-/// A gap before a part, over which a row may be spread: whether nothing else is needed there. If
-/// letters of a word touch, a hyphen has to have room between them.
-fn is_open(part: &Measures<'_>, x: Distance, text: Option<Distance>) -> bool {
-    match (part.text, text) {
-        (Some(own), Some(end)) if !part.begins_word() => spaces::LETTERS_TOUCH < x + own.left - end,
-        _ => true,
-    }
-}
-
-/// Returns of each part whether the gap before it is open.
-fn open_gaps(
-    alloc: Global,
-    parts: &[Measures<'_>],
-    places: &[Distance],
-) -> Result<Vec<bool>, AllocError> {
-    let mut gaps = Vec::new(alloc);
-    let mut text = None;
-    for (part, x) in parts.iter().zip(places) {
-        gaps.push(!gaps.is_empty() && is_open(part, *x, text))?;
-        text = part.text.map_or(text, |own| Some(*x + own.right));
-    }
-    Ok(gaps)
-}
-
-/// Returns by how much each gap may grow, so that no translation goes beyond the row.
-fn most_of_gaps(
-    parts: &[Measures<'_>],
-    places: &[Distance],
-    gaps: &[bool],
-    each: Distance,
-    width: Distance,
-) -> Distance {
-    let mut most = each;
-    let mut passed: i32 = 0;
-    for ((part, x), gap) in parts.iter().zip(places).zip(gaps) {
-        if *gap {
-            passed = passed.saturating_add(1);
-        }
-        if let Some(translation) = part.translation {
-            let room = (width - *x - translation.right).max(Distance::ZERO);
-            most = most.min(room.share(passed));
-        }
-    }
-    most
-}
-
-/// Moves each place by `each` for each gap up to it.
-fn widen(places: &mut Vec<Distance>, gaps: &[bool], each: Distance) {
-    let mut moved = Distance::ZERO;
-    for at in 0..places.len() {
-        if gaps.get(at) == Some(&true) {
-            moved += each;
-        }
-        places[at] += moved;
-    }
-}
-
-/// Returns how many gaps are open.
-fn count_open(gaps: &[bool]) -> i32 {
-    i32::try_from(gaps.iter().filter(|gap| **gap).count()).unwrap_or(i32::MAX)
-}
-
-/// Spreads a row by `free` over its gaps: over those between touching letters too if each is wide
-/// enough then for a hyphen.
-fn spread(
-    alloc: Global,
-    parts: &[Measures<'_>],
-    places: &mut Vec<Distance>,
-    free: Distance,
-    width: Distance,
-) -> Result<(), AllocError> {
-    let all = i32::try_from(parts.len())
-        .unwrap_or(i32::MAX)
-        .saturating_sub(1);
-    let mut gaps = open_gaps(alloc, parts, places.as_slice())?;
-    if HYPHEN_ROOM <= free.share(all) {
-        open_all(&mut gaps);
-    }
-    let each = free.share(count_open(gaps.as_slice())).max(Distance::ZERO);
-    let each = most_of_gaps(parts, places.as_slice(), gaps.as_slice(), each, width);
-    widen(places, gaps.as_slice(), each);
-    Ok(())
-}
-
-/// Opens all gaps.
-fn open_all(gaps: &mut Vec<bool>) {
-    for at in 1..gaps.len() {
-        gaps[at] = true;
-    }
-}
-
-/// Returns a hyphen at `x`.
-fn hyphen<'a>(x: Distance) -> Sign<'a> {
-    Sign::Words(Words {
-        text: "-",
-        x,
-        level: Level::Text,
-        width: HYPHEN,
-        size: TEXT_SIZE,
-        styles: Styles::PLAIN,
-    })
-}
-
-/// Adds a hyphen between the texts of one word, if these do not touch, and after a word that goes
-/// on in the next row.
-fn put_hyphens<'a>(
-    parts: &[Measures<'a>],
-    places: &[Distance],
-    signs: &mut Vec<Sign<'a>>,
-) -> Result<(), AllocError> {
-    let mut end = None;
-    for (part, x) in parts.iter().zip(places) {
-        let Some(text) = part.text else {
-            continue;
-        };
-        if let Some(end) = end {
-            let between = *x + text.left - end;
-            if !part.place.begins_word && spaces::LETTERS_TOUCH < between {
-                signs.push(hyphen(end + (between - HYPHEN).half()))?;
-            }
-        }
-        end = if part.place.goes_on {
-            Some(*x + text.right)
-        } else {
-            None
-        };
-    }
-    if let Some(end) = end {
-        signs.push(hyphen(end))?;
-    }
-    Ok(())
-}
-
-/// Adds the lines of a staff.
-fn put_staff(staff: Staff, signs: &mut Vec<Sign<'_>>) -> Result<(), AllocError> {
+/// Adds the lines of a staff, from `indent` on.
+fn put_staff(staff: Staff, indent: Distance, signs: &mut Vec<Sign<'_>>) -> Result<(), AllocError> {
     for line in 0..staff.lines {
         signs.push(Sign::StaffLine {
-            x: Distance::ZERO,
+            x: indent,
             y: height_of_step(line.saturating_mul(2)) - Distance(35),
-            width: staff.width,
+            width: staff.width - indent,
         })?;
     }
     Ok(())
@@ -222,16 +63,6 @@ fn bounds(parts: &[Measures<'_>], pen: &Pen<'_>) -> Extent {
     }
 }
 
-/// Returns the height of the next line of NABC over `top`, and how high that goes, if there are
-/// that many lines.
-fn nabc_over(top: Distance, number: u16, count: u16) -> (Distance, Distance) {
-    if count < number {
-        return (top, top);
-    }
-    let y = top - spaces::BETWEEN_ROWS - NABC_DOWN;
-    (y, y - NABC_UP)
-}
-
 /// How high a row goes over the lowest line of its staff, and how deep below it.
 #[derive(Clone, Copy, Debug)]
 struct Size {
@@ -243,12 +74,12 @@ struct Size {
 fn levels_of(parts: &[Measures<'_>], staff: Staff, pen: &Pen<'_>) -> (Levels, Size) {
     let signs = bounds(parts, pen);
     let highest = height_of_step(staff.lines.saturating_mul(2).saturating_sub(2));
-    let count = parts.iter().fold(0, |count, part| part.nabc.max(count));
-    let (first, top) = nabc_over(signs.left.min(highest) - spaces::OVER_SIGNS, 1, count);
-    let (second, top) = nabc_over(top, 2, count);
-    let (third, top) = nabc_over(top, 3, count);
-    let (fourth, top) = nabc_over(top, 4, count);
-    let has_above = parts.iter().any(|part| part.has_above);
+    let nabc = parts.iter().fold(PerLine::all(None), |nabc, part| join_rows(nabc, part.nabc));
+    let (first, top) = line_over(signs.left.min(highest) - spaces::OVER_SIGNS, nabc.first);
+    let (second, top) = line_over(top, nabc.second);
+    let (third, top) = line_over(top, nabc.third);
+    let (fourth, top) = line_over(top, nabc.fourth);
+    let has_above = parts.iter().any(|part| part.above.is_some());
     let above = top - spaces::OVER_ROWS;
     let text = spaces::TO_TEXT.max(signs.right + spaces::BELOW_SIGNS);
     let translation = text + spaces::TO_TRANSLATION;
@@ -279,16 +110,26 @@ pub(crate) struct Rows<'a> {
     pub(crate) places: Vec<Distance>,
     pub(crate) y: Distance,
     clef: Option<Clef>,
+    initial: Option<Initial<'a>>,
 }
 
 impl<'a> Rows<'a> {
-    /// Returns no rows: the first one stands below `y`.
-    pub(crate) fn new(alloc: Global, y: Distance) -> Rows<'a> {
+    /// Returns no rows: the first one stands below `y`, and `initial` stands before the first ones.
+    fn new(alloc: Global, y: Distance, initial: Option<Initial<'a>>) -> Rows<'a> {
         Rows {
             rows: Vec::new(alloc),
             places: Vec::new(alloc),
             y,
             clef: None,
+            initial,
+        }
+    }
+
+    /// Returns where the staff of the next row begins.
+    fn indent(&self) -> Distance {
+        match &self.initial {
+            Some(initial) if self.rows.len() < initial.rows => initial.room,
+            _ => Distance::ZERO,
         }
     }
 
@@ -305,7 +146,7 @@ impl<'a> Rows<'a> {
         let mut pen = Pen::new(alloc);
         if let Some(clef) = self.clef {
             if parts.first().is_some_and(|part| !part.begins_with_clef) {
-                clef.put(Distance::ZERO, &mut pen)?;
+                clef.put(self.indent(), &mut pen)?;
             }
         }
         let has_custos = span.asked.map_or(true, |asked| asked.has_custos)
@@ -315,37 +156,78 @@ impl<'a> Rows<'a> {
                 put_custos(staff, pitch, &mut pen)?;
             }
         }
+        put_staff(staff, self.indent(), &mut pen.signs)?;
         Ok(pen)
     }
 
-    /// Adds a row with these `parts`, which ends as `span` says. `following` is the pitch of the
-    /// first note in the next row.
-    pub(crate) fn add(
-        &mut self,
+    /// Returns where the `parts` of a row stand that ends as `span` says.
+    fn places_of(
+        &self,
         alloc: Global,
         parts: &[Measures<'a>],
         span: Span,
-        following: Option<u8>,
         staff: Staff,
-    ) -> Result<(), AllocError> {
+    ) -> Result<Vec<Distance>, AllocError> {
         let start = parts
             .first()
             .map_or(Distance::ZERO, |part| start_of(part, self.clef));
-        let mut places = places_from(alloc, parts, start)?;
+        let mut places = places_from(alloc, parts, self.indent() + start)?;
         let free = staff.width - spaces::CUSTOS - right_of(parts, places.as_slice());
         let is_spread = span.asked.map_or(!span.is_last, |asked| asked.is_justified);
         if is_spread && Distance::ZERO < free && free <= staff.width.share(5).times(2) {
             spread(alloc, parts, &mut places, free, staff.width)?;
         }
+        Ok(places)
+    }
+
+    /// Adds to `signs` what of the initial stands in the next row, and the marks of its `parts`,
+    /// and returns how high the row goes then, if it goes up to `top` without them.
+    fn put_over(
+        &self,
+        parts: &[Measures<'a>],
+        places: &[Distance],
+        is_last: bool,
+        row: MarkedRow,
+        levels: Levels,
+        signs: &mut Vec<Sign<'a>>,
+    ) -> Result<Distance, AllocError> {
+        let mut row = row;
+        if let Some(initial) = &self.initial {
+            let number = self.rows.len();
+            row.top = initial.stand_in(number, is_last, levels, row.top, signs)?;
+        }
+        put_marks(parts, places, row, signs)
+    }
+
+    /// Adds a row with these `parts`, which ends as `span` says. `following` is the pitch of the
+    /// first note in the next row; `is_last` says whether there is none.
+    fn add(
+        &mut self,
+        alloc: Global,
+        parts: &[Measures<'a>],
+        span: Span,
+        following: Option<u8>,
+        is_last: bool,
+        staff: Staff,
+    ) -> Result<(), AllocError> {
+        let places = self.places_of(alloc, parts, span, staff)?;
         let mut pen = self.draw_ends(alloc, parts, span, following, staff)?;
-        put_staff(staff, &mut pen.signs)?;
         put_hyphens(parts, places.as_slice(), &mut pen.signs)?;
+        let mut curves = Curves::new();
+        curves.put_all(parts, places.as_slice(), staff.width, &mut pen.signs)?;
+        pen.top = pen.top.min(curves.top);
+        pen.bottom = pen.bottom.max(curves.bottom);
         let (levels, size) = levels_of(parts, staff, &pen);
-        self.clef = parts
-            .iter()
-            .fold(self.clef, |clef, part| part.clef.or(clef));
+        let row = MarkedRow {
+            width: staff.width,
+            top: size.top,
+            text: levels.text,
+        };
+        let signs = &mut pen.signs;
+        let top = self.put_over(parts, places.as_slice(), is_last, row, levels, signs)?;
+        self.clef = clef_after(parts, self.clef);
         self.places.extend_from_slice(places.as_slice())?;
-        self.y -= size.top;
+        self.y -= top;
         self.rows.push(Row {
             x: spaces::MARGIN,
             y: self.y,
@@ -358,32 +240,32 @@ impl<'a> Rows<'a> {
     }
 }
 
-/// Returns the pitch of the first note of the parts from `begin` up to `end`.
-fn first_pitch(parts: &[Measures<'_>], begin: usize, end: usize) -> Option<u8> {
-    let count = end.saturating_sub(begin);
-    parts
-        .iter()
-        .skip(begin)
-        .take(count)
-        .find_map(|part| part.first)
+/// Returns the pitch of the first note of `parts`.
+fn first_pitch(parts: &[Measures<'_>]) -> Option<u8> {
+    parts.iter().find_map(|part| part.first)
 }
 
-/// Returns the rows in which `parts` stand, as `spans` say, from `y` on downwards.
+/// Returns the rows in which `parts` stand, as `spans` say, from `y` on downwards; `initial` stands
+/// before the first ones.
 pub(crate) fn rows_of<'a>(
     alloc: Global,
     parts: &[Measures<'a>],
     spans: &[Span],
+    initial: Option<Initial<'a>>,
     staff: Staff,
     y: Distance,
 ) -> Result<Rows<'a>, AllocError> {
-    let mut rows = Rows::new(alloc, y);
+    let mut rows = Rows::new(alloc, y, initial);
     let mut begin: usize = 0;
     for (at, span) in spans.iter().enumerate() {
         let end = span.end.min(parts.len());
         if begin <= end {
             let next = spans.get(at.saturating_add(1));
-            let following = next.and_then(|next| first_pitch(parts, end, next.end));
-            rows.add(alloc, &parts[begin..end], *span, following, staff)?;
+            let following = next
+                .and_then(|next| parts.get(end..next.end))
+                .and_then(|parts| first_pitch(parts));
+            let row = &parts[begin..end];
+            rows.add(alloc, row, *span, following, next.is_none(), staff)?;
             begin = end;
         }
     }

@@ -1,20 +1,21 @@
 //! The sheet on which a syllable is laid out: its blocks one after the other, its text, its NABC.
 
+use crate::attributes::Attribute;
 use crate::episemata::{SnippetNote, put_signs};
 use crate::language::Language;
 use crate::lettering::Lettering;
+use crate::marks::{Mark, PartMark};
 use crate::measures::{Extent, LineEnd, Measures, Place};
-use crate::pen::Pen;
-use crate::reading::{Open, distance_of, text_of};
+use crate::nabc::{Hands, Nabc};
+use crate::pen::{PUNCTUM, Pen};
+use crate::reading::{distance_of, text_of};
 use crate::rhythm::{height_of_step, put_around};
+use crate::runs::WordLine;
 use crate::spaces;
 use crate::staff::{Clef, custos, put_alteration, put_bar};
-use gabc_marks::{Distance, Level, NabcLine, Sign, Styles, Words, height_of, text_width};
+use gabc_marks::{Distance, Level, height_of};
 use gabc_tree::{Kind, Node};
 use std::alloc::{AllocError, Global};
-
-/// The size of NABC that is written as its text.
-const NABC_SIZE: Distance = Distance(900);
 
 /// What a block is.
 #[derive(Clone, Copy, Debug, PartialEq, Eq)]
@@ -33,11 +34,15 @@ pub(crate) struct Sheet<'a> {
     language: Language,
     pub(crate) pen: Pen<'a>,
     pub(crate) lettering: Lettering<'a>,
+    nabc: Nabc<'a>,
     pub(crate) done: Vec<Measures<'a>>,
-    part: Measures<'a>,
+    pub(crate) part: Measures<'a>,
     notes: Vec<SnippetNote>,
     /// How many notes stand before the next one with nothing else between.
     row: usize,
+    /// Where the last block begins, and the last one of the part that is done.
+    left: Distance,
+    about: Option<Extent>,
     /// What stands after the last block, and whether the score says so.
     after: Distance,
     has_space: bool,
@@ -46,33 +51,51 @@ pub(crate) struct Sheet<'a> {
     /// The pitch of the last note, if the next one is fused to it.
     fused: Option<u8>,
     last: Option<u8>,
-    /// How many heads stand in the parts before.
-    heads: usize,
-    input: &'a str,
-    /// The characters that are being read.
-    open: Option<Open>,
+    pub(crate) input: &'a str,
+    /// The attributes within the neume that is being read, each with the number of its note.
+    pub(crate) attributes: Vec<(usize, Attribute<'a>)>,
+    /// What a part may take of a row.
+    room: Distance,
+    /// The lines of a text that is wider, after the first one.
+    pub(crate) further: Vec<WordLine<'a>>,
+    /// The marks that are not passed yet.
+    marks: &'a [Mark],
 }
 
 impl<'a> Sheet<'a> {
-    /// Returns an empty sheet for the score `input`, with staves of `lines` lines.
-    pub(crate) fn new(alloc: Global, input: &'a str, lines: i32, language: Language) -> Sheet<'a> {
+    /// Returns an empty sheet for the score `input`, with staves of `lines` lines, of which a part
+    /// may take `room`, with NABC in these `hands`, and with the `marks` of its syllables.
+    pub(crate) fn new(
+        alloc: Global,
+        input: &'a str,
+        lines: i32,
+        language: Language,
+        hands: Hands,
+        room: Distance,
+        marks: &'a [Mark],
+    ) -> Sheet<'a> {
         Sheet {
             lines,
             language,
             pen: Pen::new(alloc),
-            lettering: Lettering::new(alloc),
+            lettering: Lettering::new(alloc, input),
+            nabc: Nabc::new(alloc, input, hands),
             done: Vec::new(alloc),
             part: Measures::new(alloc, Place::ALONE, true),
             notes: Vec::new(alloc),
             row: 0,
+            left: Distance::ZERO,
+            about: None,
             after: Distance::ZERO,
             has_space: false,
             snippet_left: Distance::ZERO,
             fused: None,
             last: None,
-            heads: 0,
             input,
-            open: None,
+            attributes: Vec::new(alloc),
+            room,
+            further: Vec::new(alloc),
+            marks,
         }
     }
 
@@ -86,7 +109,7 @@ impl<'a> Sheet<'a> {
         self.snippet_left = Distance::ZERO;
         self.fused = None;
         self.last = None;
-        self.open = None;
+        self.attributes.clear();
     }
 
     /// Returns where the next block begins.
@@ -104,14 +127,15 @@ impl<'a> Sheet<'a> {
 
     /// Begins a block where the last one ends.
     pub(crate) fn begin_block(&mut self) {
-        self.pen.x = self.next_x();
+        self.left = self.next_x();
+        self.pen.x = self.left;
         self.pen.top = Distance::ZERO;
         self.pen.bottom = Distance::ZERO;
         self.pen.drawn.clear();
     }
 
     /// Takes the signs that the pen has drawn into the part.
-    fn take_signs(&mut self) -> Result<(), AllocError> {
+    pub(crate) fn take_signs(&mut self) -> Result<(), AllocError> {
         self.part
             .signs
             .extend_from_slice(self.pen.signs.as_slice())?;
@@ -128,13 +152,14 @@ impl<'a> Sheet<'a> {
         right: Distance,
         after: Distance,
     ) -> Result<(), AllocError> {
-        let left = self.next_x();
+        let left = self.left;
         self.take_signs()?;
         self.note_kind(kind, left, right);
         self.part.notes = Some(Extent {
             left: self.part.notes.map_or(left, |notes| notes.left),
             right,
         });
+        self.about = Some(Extent { left, right });
         self.after = after;
         self.has_space = false;
         Ok(())
@@ -169,7 +194,7 @@ impl<'a> Sheet<'a> {
         first: u8,
         last: u8,
     ) -> Result<(), AllocError> {
-        let left = self.next_x();
+        let left = self.left;
         self.join_fused(left, first)?;
         let end = self
             .pen
@@ -185,6 +210,7 @@ impl<'a> Sheet<'a> {
             anchor,
         };
         self.end_block(kind, right, spaces::AFTER_NEUME)?;
+        self.put_attributes(drawn.as_slice())?;
         self.last = Some(last);
         Ok(())
     }
@@ -293,33 +319,6 @@ impl<'a> Sheet<'a> {
         self.part.end.is_some()
     }
 
-    /// Notes that no custos is wanted at the line's end.
-    pub(crate) fn forbid_custos(&mut self) {
-        self.part.wants_no_custos = true;
-    }
-
-    /// Adds a line of NABC over the notes of the last snippet.
-    pub(crate) fn add_nabc(&mut self, line: u16, text: &'a str) -> Result<(), AllocError> {
-        let x = self.snippet_left;
-        let width = text_width(text, NABC_SIZE);
-        self.part.signs.push(Sign::Words(Words {
-            text,
-            x,
-            level: Level::Nabc(nabc_line(line)),
-            width,
-            size: NABC_SIZE,
-            styles: Styles::PLAIN,
-        }))?;
-        self.part.nabc = self.part.nabc.max(line.min(4));
-        let right = x + width + spaces::BETWEEN_NEUMES;
-        let notes = self.part.notes.unwrap_or(Extent { left: x, right: x });
-        self.part.notes = Some(Extent {
-            left: notes.left,
-            right: notes.right.max(right),
-        });
-        Ok(())
-    }
-
     /// Draws what depends on several neumes.
     pub(crate) fn end_snippet(&mut self) -> Result<(), AllocError> {
         self.pen.top = Distance::ZERO;
@@ -330,85 +329,48 @@ impl<'a> Sheet<'a> {
         self.take_signs()
     }
 
-    /// Adds what is left of the characters that are being read, up to the byte `end`.
-    fn add_open(&mut self, end: u32) -> Result<(), AllocError> {
-        let Some(open) = self.open else {
-            return Ok(());
-        };
-        let text = text_of(self.input, open.at, end.min(open.end));
-        self.lettering.add(text, open.styles)
-    }
-
-    /// Ends the characters that are being read.
-    fn close_text(&mut self) -> Result<(), AllocError> {
-        self.add_open(u32::MAX)?;
-        self.open = None;
-        Ok(())
-    }
-
-    /// Passes `node`, which is not kept: the characters that are being read go on after it.
+    /// Passes `node`, which is not kept: the text or the NABC that is being read goes on after it.
     fn pass_gap(&mut self, node: Node) -> Result<(), AllocError> {
-        self.add_open(node.begin)?;
-        if let Some(open) = self.open {
-            self.open = Some(Open {
-                at: node.end,
-                ..open
-            });
-        }
-        Ok(())
-    }
-
-    /// Adds a node of the text.
-    fn add_text(&mut self, node: Node) -> Result<(), AllocError> {
-        self.close_text()?;
-        let text = text_of(self.input, node.begin, node.end);
-        match node.kind {
-            Kind::Characters => {
-                self.open = Some(Open {
-                    at: node.begin,
-                    end: node.end,
-                    styles: node.a,
-                });
-                Ok(())
-            }
-            Kind::Escape => self
-                .lettering
-                .add(text.strip_prefix('$').unwrap_or(text), node.a),
-            Kind::TextBlank if node.b == 1 => self.lettering.add(" ", node.a),
-            Kind::Raw => self.lettering.add_raw(text, node.b, node.a),
-            Kind::Translation if node.b == 1 && text != "[/]" => {
-                let inner = text.strip_prefix('[').unwrap_or(text);
-                self.lettering.translation = Some(inner.strip_suffix(']').unwrap_or(inner));
-                Ok(())
-            }
-            _ => Ok(()),
-        }
+        self.nabc.pass_gap(node)?;
+        self.lettering.pass_gap(node)
     }
 
     /// Begins a snippet: of notes, or of NABC.
     fn add_snippet(&mut self, node: Node) -> Result<(), AllocError> {
-        self.close_text()?;
+        self.lettering.close()?;
+        self.nabc.end(&mut self.part)?;
         if node.a == 0 {
             self.end_snippet()?;
             self.begin_snippet();
-            return Ok(());
-        }
-        let text = text_of(self.input, node.begin, node.end);
-        if text.is_empty() {
-            Ok(())
         } else {
-            self.add_nabc(node.a, text)
-        }
-    }
-
-    /// Adds `node`, which stands within a neume.
-    pub(crate) fn add_inside(&mut self, node: Node) -> Result<(), AllocError> {
-        if node.kind == Kind::Attribute
-            && text_of(self.input, node.begin, node.end) == "[nocustos]"
-        {
-            self.forbid_custos();
+            self.nabc.begin(node.a, self.snippet_left);
         }
         Ok(())
+    }
+
+    /// Passes the marks before the byte `before`: they are about what was added last.
+    pub(crate) fn pass_marks(&mut self, before: u32) -> Result<(), AllocError> {
+        let mut passed: usize = 0;
+        for mark in self.marks {
+            if before <= mark.at {
+                break;
+            }
+            self.part.marks.push(PartMark {
+                code: mark.code,
+                about: self.about,
+            })?;
+            passed = passed.saturating_add(1);
+        }
+        self.marks = self.marks.get(passed..).unwrap_or(&[]);
+        Ok(())
+    }
+
+    /// Returns whether the part has no room for a neume of that many notes, or for another block.
+    pub(crate) fn is_full(&self, notes: i32) -> bool {
+        let own = PUNCTUM.times(notes.max(1).min(64));
+        self.part
+            .notes
+            .is_some_and(|it| self.room < it.right + self.after + own - it.left)
     }
 
     /// Adds `node`, which is no note, no neume and no syllable. `next` is the pitch of the next
@@ -423,11 +385,16 @@ impl<'a> Sheet<'a> {
             | Kind::SpanMark
             | Kind::StyleTag
             | Kind::Brace
-            | Kind::Translation => self.add_text(node),
+            | Kind::Translation => self.lettering.add_node(node),
             Kind::Comment | Kind::LeftOut | Kind::FurtherBlank | Kind::Silent => self.pass_gap(
                 node,
             ),
             Kind::Snippet => self.add_snippet(node),
+            Kind::Descriptor
+            | Kind::NabcSpace
+            | Kind::NabcGlyph
+            | Kind::NabcPoints
+            | Kind::NabcLetters => self.nabc.add(node, &mut self.part),
             _ => self.add_item(node, next),
         }
     }
@@ -443,7 +410,7 @@ impl<'a> Sheet<'a> {
             Kind::Alteration => self.add_alteration(node),
             Kind::Bar => self.add_bar(node, text_of(self.input, node.begin, node.end)),
             Kind::Custos => self.add_custos_of(node, next),
-            Kind::Attribute => self.add_inside(node),
+            Kind::Attribute => self.add_attribute(node),
             Kind::Spacing => {
                 let text = text_of(self.input, node.begin, node.end);
                 self.add_space(distance_of(node.a, text));
@@ -477,19 +444,15 @@ impl<'a> Sheet<'a> {
         }
     }
 
-    /// Ends the part: with its text, if it is the first one of its syllable. Of all notes so far
-    /// `heads` heads were drawn.
-    pub(crate) fn end_part(&mut self, alloc: Global, heads: usize) -> Result<(), AllocError> {
-        self.close_text()?;
+    /// Ends the part: with its text, if it is the first one of its syllable.
+    pub(crate) fn end_part(&mut self, alloc: Global) -> Result<(), AllocError> {
+        self.lettering.close()?;
+        self.nabc.end(&mut self.part)?;
         if self.part.is_first {
-            self.put_text()?;
+            self.put_text(alloc)?;
         }
-        self.part.heads = heads.saturating_sub(self.heads);
-        self.heads = heads;
         let x = self.next_x();
-        let mut next = Measures::new(alloc, self.part.place, false);
-        std::mem::swap(&mut self.part, &mut next);
-        self.done.push(next)?;
+        self.push_part(alloc)?;
         self.pen.x = x;
         self.after = Distance::ZERO;
         self.has_space = false;
@@ -497,10 +460,25 @@ impl<'a> Sheet<'a> {
         Ok(())
     }
 
-    /// Puts the text of the syllable, with its translation and the texts over the staff.
-    fn put_text(&mut self) -> Result<(), AllocError> {
+    /// Puts the part to those that are done, and begins a further one of its syllable.
+    fn push_part(&mut self, alloc: Global) -> Result<(), AllocError> {
+        let mut next = Measures::new(alloc, self.part.place, false);
+        std::mem::swap(&mut self.part, &mut next);
+        self.about = None;
+        self.done.push(next)?;
+        Ok(())
+    }
+
+    /// Puts the text of the syllable, with its translation and the texts over the staff. Of a text
+    /// that is wider than a row the first line is put.
+    fn put_text(&mut self, alloc: Global) -> Result<(), AllocError> {
         let left = self.part.notes.map_or(Distance::ZERO, |notes| notes.left);
-        let middle = self.lettering.middle(self.language);
+        self.further = self.lettering.cut(alloc, self.room)?;
+        let middle = if self.further.is_empty() {
+            self.lettering.middle(self.language)
+        } else {
+            Distance::ZERO
+        };
         let x = self.part.anchor.map_or(left, |anchor| anchor - middle);
         if !self.lettering.is_empty() {
             self.lettering.put(x, &mut self.part.signs)?;
@@ -510,20 +488,28 @@ impl<'a> Sheet<'a> {
             });
         }
         let from = if self.lettering.is_empty() { left } else { x };
-        if let Some(right) = self.lettering.put_translation(from, &mut self.part.signs)? {
+        let room = self.room;
+        if let Some(right) = self
+            .lettering
+            .put_translation(from, room, &mut self.part.signs)?
+        {
             self.part.translation = Some(Extent { left: from, right });
         }
-        self.part.has_above = !self.lettering.above.is_empty();
-        self.lettering.put_above(left, &mut self.part.signs)
+        if let Some(right) = self.lettering.put_above(left, room, &mut self.part.signs)? {
+            self.part.above = Some(self.part.above.map_or(right, |it| it.max(right)));
+        }
+        Ok(())
     }
-}
 
-/// Returns the line of NABC with this number, from 1.
-fn nabc_line(number: u16) -> NabcLine {
-    match number {
-        1 => NabcLine::First,
-        2 => NabcLine::Second,
-        3 => NabcLine::Third,
-        _ => NabcLine::Fourth,
+    /// Adds the line of the text with this `number`, of those after the first one, as a part.
+    pub(crate) fn end_further(&mut self, alloc: Global, number: usize) -> Result<(), AllocError> {
+        if let Some(line) = self.further.get(number) {
+            line.put(Distance::ZERO, Level::Text, &mut self.part.signs)?;
+            self.part.text = Some(Extent {
+                left: Distance::ZERO,
+                right: line.width,
+            });
+        }
+        self.push_part(alloc)
     }
 }

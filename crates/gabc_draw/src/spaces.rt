@@ -34,8 +34,13 @@ pub(crate) const AFTER_CLEF: Distance = Distance(700);
 pub(crate) const AFTER_BAR: Distance = Distance(500);
 
 pub(crate) const AFTER_CUSTOS: Distance = Distance(400);
-/// Between the NABC of two snippets (nabcinterelementspace).
+/// Between the NABC of two snippets, and by `/` and `//` in it (nabcinterelementspace,
+/// nabclargerspace); by a back-tick as much to the left.
 pub(crate) const BETWEEN_NEUMES: Distance = Distance(300);
+
+pub(crate) const NABC_SMALL: Distance = Distance(200);
+
+pub(crate) const NABC_LARGE: Distance = Distance(500);
 /// Between two letters that still seem to touch, and around a hyphen.
 pub(crate) const LETTERS_TOUCH: Distance = Distance(80);
 
@@ -48,6 +53,10 @@ pub(crate) const CUSTOS: Distance = Distance(900);
 pub(crate) const CUSTOS_TO_END: Distance = Distance(50);
 /// After the clef at a line's begin.
 pub(crate) const AFTER_LINE_CLEF: Distance = Distance(800);
+/// After the initial, and between it and the annotations over it (initialspace, annotationraise).
+pub(crate) const AFTER_INITIAL: Distance = Distance(600);
+
+pub(crate) const OVER_INITIAL: Distance = Distance(500);
 /// From the lowest line of the staff to the text, and from what stands below the staff.
 pub(crate) const TO_TEXT: Distance = Distance(1800);
 

@@ -1,14 +1,42 @@
-//! What stands over a score by its headers: its name, its commentary and its annotations.
+//! What stands over a score by its headers: its name, its commentary, and its annotations if no
+//! initial has them.
 
 use crate::reading::text_of;
+use crate::runs::{Run, Side, add_runs, lines_of};
 use crate::spaces;
-use gabc_marks::{Distance, Level, Sign, Styles, Words, text_width};
+use gabc_marks::{Distance, Level, Sign, Styles};
 use gabc_tree::{Kind, Node};
-use std::alloc::AllocError;
+use std::alloc::{AllocError, Global};
 
 const NAME_SIZE: Distance = Distance(2000);
 
 const HEAD_SIZE: Distance = Distance(1200);
+
+/// What stands between two lines beside the size of their type.
+const BETWEEN_LINES: Distance = Distance(200);
+
+/// Returns the values of the headers `name` of the tree `nodes` of `input`, in their order, without
+/// blanks at their ends.
+pub(crate) fn headers<'a>(
+    alloc: Global,
+    nodes: &[Node],
+    input: &'a str,
+    name: &str,
+) -> Result<Vec<&'a str>, AllocError> {
+    let mut is_named = false;
+    let mut values = Vec::new(alloc);
+    for node in nodes {
+        match node.kind {
+            Kind::HeaderName => is_named = text_of(input, node.begin, node.end) == name,
+            Kind::HeaderValue if is_named => {
+                values.push(text_of(input, node.begin, node.end).trim())?;
+            }
+            Kind::ScoreLine => break,
+            _ => {}
+        }
+    }
+    Ok(values)
+}
 
 /// Returns the bytes of the value of the last header `name` of the tree `nodes` of `input`.
 fn header_bytes(nodes: &[Node], input: &str, name: &str) -> (u32, u32) {
@@ -32,21 +60,54 @@ pub(crate) fn header<'a>(nodes: &[Node], input: &'a str, name: &str) -> &'a str 
     text_of(input, begin, end).trim()
 }
 
-/// Returns words in plain type, whose line is `y` from above.
-fn words<'a>(text: &'a str, x: Distance, y: Distance, size: Distance, width: Distance) -> Sign<'a> {
-    Sign::Words(Words {
-        text,
-        x,
-        level: Level::At(y),
-        width,
-        size,
-        styles: Styles::PLAIN,
-    })
+/// Where lines stand: from `x` on, in a room of this `width`, in type of this `size`.
+#[derive(Clone, Copy, Debug)]
+struct Room {
+    x: Distance,
+    width: Distance,
+    size: Distance,
+    side: Side,
 }
 
-/// Adds the name to `signs`, in the middle of a picture of this `width`, and returns how far down
-/// it goes from `y` on.
+/// Adds `runs` to `signs`, below `y`, and returns how far down they go.
+fn put_lines<'a>(
+    alloc: Global,
+    runs: &[Run<'a>],
+    room: Room,
+    y: Distance,
+    signs: &mut Vec<Sign<'a>>,
+) -> Result<Distance, AllocError> {
+    let lines = lines_of(alloc, runs, room.size, room.width)?;
+    let mut down = y;
+    let mut between = Distance::ZERO;
+    for line in &lines {
+        down += room.size + between;
+        let x = line.x_at(room.side, room.x, room.width);
+        line.put(x, Level::At(down), signs)?;
+        between = BETWEEN_LINES;
+    }
+    Ok(down)
+}
+
+/// Returns the values of headers as runs, with a blank between two of them.
+fn joined_runs<'a>(alloc: Global, values: &[&'a str]) -> Result<Vec<Run<'a>>, AllocError> {
+    let mut runs = Vec::new(alloc);
+    for value in values {
+        if !runs.is_empty() && !value.is_empty() {
+            runs.push(Run {
+                text: " ",
+                styles: Styles::PLAIN,
+            })?;
+        }
+        add_runs(*value, &mut runs)?;
+    }
+    Ok(runs)
+}
+
+/// Adds the name of the score to `signs`, in the middle of a picture of this `width`, below `y`,
+/// and returns how far down it goes.
 fn put_name<'a>(
+    alloc: Global,
     name: &'a str,
     width: Distance,
     y: Distance,
@@ -55,41 +116,57 @@ fn put_name<'a>(
     if name.is_empty() {
         return Ok(y);
     }
-    let own = text_width(name, NAME_SIZE).min(width - spaces::MARGIN - spaces::MARGIN);
-    let line = y + NAME_SIZE;
-    signs.push(words(name, (width - own).half(), line, NAME_SIZE, own))?;
-    Ok(line + Distance(400))
+    let runs = joined_runs(alloc, &[name])?;
+    let room = Room {
+        x: spaces::MARGIN,
+        width: width - spaces::MARGIN - spaces::MARGIN,
+        size: NAME_SIZE,
+        side: Side::Middle,
+    };
+    let down = put_lines(alloc, runs.as_slice(), room, y, signs)?;
+    Ok(down + Distance(400))
 }
 
-/// Adds what stands over the score to `signs`, in a picture of this `width`, and returns how far
-/// down that goes.
+/// Adds what stands over the score to `signs`, in a picture of this `width`, below `y`, and returns
+/// how far down that goes; `has_initial` says whether the annotations stand over an initial.
 pub(crate) fn put_title<'a>(
+    alloc: Global,
     nodes: &[Node],
     input: &'a str,
     width: Distance,
+    has_initial: bool,
+    y: Distance,
     signs: &mut Vec<Sign<'a>>,
 ) -> Result<Distance, AllocError> {
-    let y = put_name(header(nodes, input, "name"), width, spaces::MARGIN, signs)?;
-    let annotation = header(nodes, input, "annotation");
-    let commentary = header(nodes, input, "commentary");
-    if annotation.is_empty() && commentary.is_empty() {
+    let y = put_name(alloc, header(nodes, input, "name"), width, y, signs)?;
+    let annotations = if has_initial {
+        Vec::new(alloc)
+    } else {
+        headers(alloc, nodes, input, "annotation")?
+    };
+    let left = joined_runs(alloc, annotations.as_slice())?;
+    let right = joined_runs(alloc, &[header(nodes, input, "commentary")])?;
+    if left.is_empty() && right.is_empty() {
         return Ok(y + spaces::BELOW_TITLE);
     }
-    let line = y + HEAD_SIZE + Distance(200);
-    let most = (width - spaces::MARGIN - spaces::MARGIN).half();
-    let left = text_width(annotation, HEAD_SIZE).min(most);
-    let right = text_width(commentary, HEAD_SIZE).min(most);
-    if !annotation.is_empty() {
-        signs.push(words(annotation, spaces::MARGIN, line, HEAD_SIZE, left))?;
-    }
-    if !commentary.is_empty() {
-        signs.push(words(
-            commentary,
-            width - spaces::MARGIN - right,
-            line,
-            HEAD_SIZE,
-            right,
-        ))?;
-    }
-    Ok(line + spaces::BELOW_TITLE)
+    let inner = width - spaces::MARGIN - spaces::MARGIN;
+    let room = Room {
+        x: spaces::MARGIN,
+        width: if left.is_empty() || right.is_empty() {
+            inner
+        } else {
+            inner.half()
+        },
+        size: HEAD_SIZE,
+        side: Side::Left,
+    };
+    let y = y + BETWEEN_LINES;
+    let down = put_lines(alloc, left.as_slice(), room, y, signs)?;
+    let other = Room {
+        x: width - spaces::MARGIN - room.width,
+        side: Side::Right,
+        ..room
+    };
+    let down = put_lines(alloc, right.as_slice(), other, y, signs)?.max(down);
+    Ok(down + spaces::BELOW_TITLE)
 }

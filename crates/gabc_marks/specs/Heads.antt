@@ -1,5 +1,5 @@
 -- The notes that heads show, and where they stand.
-use Rattle.std.specs.Prelude.{ℕ, ◌+◌, ◌-◌, ◌*◌, List, [], ◌∷◌, cond, ℤ, pos, ◌-ℤ◌}
+use Rattle.std.specs.Prelude.{ℕ, ◌+◌, ◌-◌, ◌*◌, List, [], ◌∷◌, ◌++◌, map, cond, ℤ, pos, ◌-ℤ◌}
 use Rattle.std.specs.List.{flat_map}
 use Rattle.gabc_marks.specs.declared.head.Head.{Head}
 use Rattle.gabc_marks.specs.declared.head.Head.TheVariants.{Single, Stroke, Joined as JoinedHead}
@@ -39,19 +39,31 @@ pitches_shown (Single s) p = p ∷ []
 abbrev pub pitches_of_heads : List NoteHead → List ℕ
 pitches_of_heads heads = flat_map (λ (h : NoteHead). pitches_shown h.head h.pitch) heads
 
--- the pitches of the notes of parts, in their order
-abbrev pub pitches_of_parts : List Part → List ℕ
-pitches_of_parts parts = flat_map (λ (p : Part). pitches_of_heads p.heads.items) parts
-
 -- the bytes of a file from which something was read
 pub record Bytes : Type 0 where
   pub begin : ℕ
   pub end : ℕ
 
--- the bytes of a syllable, by its first part
-abbrev pub bytes_of_part : Part → List Bytes
-bytes_of_part p = cond p.is_first (record { begin = p.begin; end = p.end } ∷ []) []
+-- what is shown of a score: a syllable with these bytes begins; or a note of this pitch, which
+-- belongs to the syllable with these bytes
+pub data Shown : Type 0 where
+  Syllable : Bytes → Shown
+  Note : Bytes → ℕ → Shown
 
--- the bytes of the syllables of parts, in their order
-abbrev pub bytes_of_parts : List Part → List Bytes
-bytes_of_parts parts = flat_map bytes_of_part parts
+-- notes of these pitches in the syllable with these bytes
+abbrev pub notes_of : Bytes → List ℕ → List Shown
+notes_of bytes pitches = map (Note bytes) pitches
+
+abbrev pub bytes_of_part : Part → Bytes
+bytes_of_part p = record { begin = p.begin; end = p.end }
+
+-- what the group of a part shows: that its syllable begins, if it is the first part of it, and the
+-- notes of its heads
+abbrev pub shown_by_part : Part → List Shown
+shown_by_part p =
+    cond p.is_first (Syllable (bytes_of_part p) ∷ []) []
+    ++ notes_of (bytes_of_part p) (pitches_of_heads p.heads.items)
+
+-- what the groups of parts show, in their order
+abbrev pub shown_by_parts : List Part → List Shown
+shown_by_parts parts = flat_map shown_by_part parts

@@ -27,7 +27,7 @@ pub use hand::{Hand, NabcOutline};
 pub use head::{Head, Metrics, NoteHead, Single, height_of};
 pub use joined::{Ending, Family, Joined};
 pub use picture::{Levels, Part, Picture, Row};
-pub use sign::Sign;
+pub use sign::{Bow, Sign};
 pub use styles::Styles;
 pub use symbol::Symbol;
 pub use widths::{char_width, styled_width, text_width};

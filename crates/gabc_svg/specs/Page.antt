@@ -1,5 +1,5 @@
 -- The XML tree of a picture.
-use Rattle.std.specs.Prelude.{ℕ, ◌-◌, ℤ, ◌+ℤ◌, pos, List, [], ◌∷◌, ◌++◌, codes, cond, take, drop, length, min}
+use Rattle.std.specs.Prelude.{ℕ, ◌-◌, ℤ, ◌+ℤ◌, pos, List, [], ◌∷◌, ◌++◌, codes, cond, Bool, take, drop, length, min}
 use Rattle.std.specs.Fmt.{decimal, signed_decimal}
 use Rattle.std.specs.Int.{saturate_signed, w32}
 use Rattle.gabc_marks.specs.Heads.{height_at}
@@ -10,6 +10,7 @@ use Rattle.gabc_marks.specs.declared.picture.Levels.{Levels}
 use Rattle.gabc_marks.specs.declared.picture.Part.{Part}
 use Rattle.gabc_marks.specs.declared.picture.Picture.{Picture}
 use Rattle.gabc_marks.specs.declared.picture.Row.{Row}
+use Rattle.gabc_marks.specs.declared.sign.Bow.{Bow}
 use Rattle.gabc_marks.specs.declared.sign.Sign.{Sign}
 use Rattle.gabc_marks.specs.declared.sign.Sign.TheVariants as sign
 use Rattle.gabc_marks.specs.declared.styles.Styles.{Styles}
@@ -86,12 +87,32 @@ nabc_content ls o l x y =
     (outline (name_of_nabc o) ∷ valued name.X (signed_decimal x) ∷ valued name.Y (signed_decimal (nabc_at ls l y))
     ∷ valued name.Class (codes "nabc") ∷ []) Nothing
 
+-- a field of a message, by its class: that of a warning has a further one
+unfoldable pub field_content : ℤ → ℤ → ℤ → ℤ → Bool → Content
+field_content x y width height is_warning =
+    Empty tag.Rect (valued name.Class (cond is_warning (codes "mark w") (codes "mark")) ∷ sides x y width height) Nothing
+
+-- from where to where a bow goes: to its end, bent towards a point
+abbrev pub steps_of : Bow → List (List ℕ)
+steps_of b =
+    codes "M" ∷ signed_decimal b.x.0 ∷ codes "," ∷ signed_decimal b.y.0
+    ∷ codes "q" ∷ signed_decimal b.bend_x.0 ∷ codes "," ∷ signed_decimal b.bend_y.0
+    ∷ codes " " ∷ signed_decimal b.to_x.0 ∷ codes "," ∷ signed_decimal b.to_y.0 ∷ []
+
+abbrev pub course : Bow → Attribute
+course b = record { name = name.Course; value = steps_of b }
+
+unfoldable pub bow_content : Bow → Content
+bow_content b = Empty tag.Path (valued name.Class (codes "curve") ∷ course b ∷ []) Nothing
+
 unfoldable pub sign_content : Levels → Sign → Content
 sign_content ls (sign.Symbol s x y) = use_content (name_of_symbol s ∷ []) x.0 y.0
 sign_content ls (sign.Rect x y width height) = rect_content x.0 y.0 width.0 height.0
 sign_content ls (sign.StaffLine x y width) = staff_line_content x.0 y.0 width.0
 sign_content ls (sign.Words w) = words_content ls w
 sign_content ls (sign.Nabc o l x y) = nabc_content ls o l x.0 y.0
+sign_content ls (sign.Bow b) = bow_content b
+sign_content ls (sign.Field x y width height is_warning) = field_content x.0 y.0 width.0 height.0 is_warning
 
 abbrev pub signs_content : Levels → List Sign → Content
 signs_content ls [] = Nothing

@@ -14,6 +14,7 @@ text_of_tag tag.Group = codes "g"
 text_of_tag tag.Rect = codes "rect"
 text_of_tag tag.Use = codes "use"
 text_of_tag tag.Text = codes "text"
+text_of_tag tag.Path = codes "path"
 
 abbrev pub text_of_name : Name → List ℕ
 text_of_name name.Xmlns = codes "xmlns"
@@ -38,6 +39,7 @@ text_of_name name.TextDecoration = codes "text-decoration"
 text_of_name name.Id = codes "id"
 text_of_name name.Begin = codes "data-begin"
 text_of_name name.End = codes "data-end"
+text_of_name name.Course = codes "d"
 
 -- an attribute: its value is that of these texts, one after the other
 pub record Attribute : Type 0 where

@@ -1,17 +1,20 @@
 //! Heads and signs.
 
 ghost use Rattle.std.specs.Prelude.{◌≡◌, ◌∷◌, [], ◌++◌, codes};
+ghost use Rattle.std.specs.Fmt.{signed_decimal};
+ghost use Rattle.std.specs.List.{flat_map};
+ghost use Rattle.gabc_svg.specs.Escape.{escaped};
 ghost use Rattle.gabc_svg.specs.OutlineNames.{name_of_head, name_of_nabc, name_of_symbol as symbol_name};
 ghost use Rattle.gabc_svg.specs.Xml.{written, written_attribute, written_attributes};
-ghost use Rattle.gabc_svg.specs.Page.{outline, sides, rect_content, staff_line_content, use_content, nabc_at, nabc_content, sign_content, signs_content, head_content, heads_content};
+ghost use Rattle.gabc_svg.specs.Page.{outline, sides, rect_content, staff_line_content, field_content, steps_of, course, bow_content, use_content, nabc_at, nabc_content, sign_content, signs_content, head_content, heads_content};
 
-use crate::escape::put_escaped;
+use crate::escape::{put_escaped, put_signed};
 use crate::outline_names::{name_of_symbol, put_head_name, put_nabc_name};
 use crate::tag::{Name, Tag};
 use crate::texts::{height_of_level, put_words};
 use crate::xml::{begin_tag, begin_value, put_attribute, put_distance};
 use gabc_marks::{
-    Distance, Head, Level, Levels, NabcLine, NabcOutline, NoteHead, Sign, Symbol, height_of,
+    Bow, Distance, Head, Level, Levels, NabcLine, NabcOutline, NoteHead, Sign, Symbol, height_of,
 };
 use gabc_places::Put;
 
@@ -147,6 +150,63 @@ fn put_staff_line<S: Put>(x: Distance, y: Distance, width: Distance, out: &mut S
     put_sides(x, y, width, Distance(70), out);
 }
 
+/// Puts a field of a message.
+#[tactic(auto, using(crate::proofs::Written::steps), unfolding(crate::specs::Xml::written, crate::specs::Xml::opened, crate::specs::Page::field_content))]
+fn put_field<S: Put>(
+    x: Distance,
+    y: Distance,
+    width: Distance,
+    height: Distance,
+    is_warning: bool,
+    out: &mut S,
+)
+    ensures { out.new ≡ S.taken out.old
+        (written (field_content x.0 y.0 width.0 height.0 is_warning)) }
+{
+    begin_tag(Tag::Rect, out);
+    put_attribute(Name::Class, if is_warning { "mark w" } else { "mark" }, out);
+    put_sides(x, y, width, height, out);
+}
+
+/// Puts the text that says from where to where `bow` goes.
+fn put_steps<S: Put>(bow: Bow, out: &mut S)
+    ensures { out.new ≡ S.taken out.old (flat_map escaped (steps_of bow)) }
+{
+    put_escaped("M", out);
+    put_signed(bow.x.0, out);
+    put_escaped(",", out);
+    put_signed(bow.y.0, out);
+    put_escaped("q", out);
+    put_signed(bow.bend_x.0, out);
+    put_escaped(",", out);
+    put_signed(bow.bend_y.0, out);
+    put_escaped(" ", out);
+    put_signed(bow.to_x.0, out);
+    put_escaped(",", out);
+    put_signed(bow.to_y.0, out);
+}
+
+/// Puts the attribute that says from where to where `bow` goes.
+#[tactic(auto, using(crate::proofs::Written::steps), unfolding(crate::specs::Xml::written_attribute))]
+fn put_course<S: Put>(bow: Bow, out: &mut S)
+    ensures { out.new ≡ S.taken out.old (written_attribute (course bow)) }
+{
+    begin_value(Name::Course, out);
+    put_steps(bow, out);
+    out.put(b"\"");
+}
+
+/// Puts a bow.
+#[tactic(auto, using(crate::proofs::Written::steps), unfolding(crate::specs::Xml::written, crate::specs::Xml::opened, crate::specs::Page::bow_content))]
+fn put_bow<S: Put>(bow: Bow, out: &mut S)
+    ensures { out.new ≡ S.taken out.old (written (bow_content bow)) }
+{
+    begin_tag(Tag::Path, out);
+    put_attribute(Name::Class, "curve", out);
+    put_course(bow, out);
+    out.put(b"/>");
+}
+
 /// Puts `sign` in a row with these `levels`.
 #[tactic(auto, using(crate::proofs::Written::steps), unfolding(crate::specs::Page::sign_content))]
 fn put_sign<S: Put>(levels: Levels, sign: Sign<'_>, out: &mut S)
@@ -168,6 +228,14 @@ fn put_sign<S: Put>(levels: Levels, sign: Sign<'_>, out: &mut S)
             x,
             y,
         } => put_nabc(levels, outline, line, x, y, out),
+        Sign::Bow(bow) => put_bow(bow, out),
+        Sign::Field {
+            x,
+            y,
+            width,
+            height,
+            is_warning,
+        } => put_field(x, y, width, height, is_warning, out),
     }
 }
 

@@ -9,6 +9,7 @@ pub enum Tag {
     Rect,
     Use,
     Text,
+    Path,
 }
 
 /// The name of an attribute.
@@ -36,6 +37,7 @@ pub enum Name {
     Id,
     Begin,
     End,
+    Course,
 }
 
 impl Tag {
@@ -53,6 +55,7 @@ impl Tag {
             Tag::Rect => "rect",
             Tag::Use => "use",
             Tag::Text => "text",
+            Tag::Path => "path",
         }
     }
 }
@@ -88,6 +91,7 @@ impl Name {
             Name::Id => "id",
             Name::Begin => "data-begin",
             Name::End => "data-end",
+            Name::Course => "d",
         }
     }
 }

@@ -1,18 +1,26 @@
 -- What stands on a desk.
 use Rattle.std.specs.Prelude.{ℕ, List, [], ◌∷◌, ◌++◌, cond}
 use Rattle.std.specs.List.{flat_map}
-use Rattle.gabc_marks.specs.Heads.{Bytes, pitches_of_heads}
-use Rattle.gabc_marks.specs.declared.head.NoteHead.{NoteHead}
-use Rattle.gabc_draw.specs.declared.desk.Opening.{Opening}
+use Rattle.gabc_marks.specs.Heads.{Bytes, Shown, Syllable, notes_of, pitches_of_heads}
+use Rattle.gabc_draw.specs.declared.group.Group.{Group}
 use Rattle.gabc_draw.specs.declared.note.Note.{Note}
 use Rattle.gabc_draw.specs.machine.Notes.{pitches_of_notes}
 
--- the pitches of the notes that are drawn, and of those of the neume that is being read
-abbrev pub pitches_drawn : List NoteHead → List Note → List ℕ
-pitches_drawn heads pending = pitches_of_heads heads ++ pitches_of_notes pending
+abbrev pub bytes_of_group : Group → Bytes
+bytes_of_group g = record { begin = g.begin; end = g.end }
 
-abbrev pub bytes_of_opening : Opening → List Bytes
-bytes_of_opening o = cond o.is_first (record { begin = o.begin; end = o.end } ∷ []) []
+-- as the part that becomes of it
+abbrev pub shown_by_group : Group → List Shown
+shown_by_group g =
+    cond g.is_first (Syllable (bytes_of_group g) ∷ []) []
+    ++ notes_of (bytes_of_group g) (pitches_of_heads g.heads.items)
 
-abbrev pub bytes_of_openings : List Opening → List Bytes
-bytes_of_openings openings = flat_map bytes_of_opening openings
+abbrev pub shown_by_groups : List Group → List Shown
+shown_by_groups groups = flat_map shown_by_group groups
+
+-- what the groups that are ended show, and the one that is begun, and what it will show of the notes
+-- of the neume that is being read
+abbrev pub shown_on : List Group → Group → List Note → List Shown
+shown_on groups group pending =
+    shown_by_groups groups
+    ++ (shown_by_group group ++ notes_of (bytes_of_group group) (pitches_of_notes pending))

@@ -1,0 +1,175 @@
+//! The outlines of a descriptor of NABC: beside each other, and letters around these
+//! (GregorioNabcRef).
+
+use crate::nabc_rows::Reach;
+use gabc_marks::{Distance, Hand, Metrics, NabcOutline};
+use std::alloc::{AllocError, Global};
+
+/// What stands between two outlines.
+pub(crate) const BETWEEN: Distance = Distance(90);
+
+/// An outline at its place: its origin is so far below the line.
+#[derive(Clone, Copy, Debug)]
+pub(crate) struct Placed {
+    pub(crate) outline: NabcOutline,
+    pub(crate) x: Distance,
+    pub(crate) y: Distance,
+}
+
+/// How far the ink of outlines goes.
+#[derive(Clone, Copy, Debug)]
+struct Ink {
+    left: Distance,
+    right: Distance,
+    top: Distance,
+    bottom: Distance,
+}
+
+impl Ink {
+    /// Returns that of no outline.
+    const NONE: Ink = Ink {
+        left: Distance::ZERO,
+        right: Distance::ZERO,
+        top: Distance::ZERO,
+        bottom: Distance::ZERO,
+    };
+
+    /// Returns that of one outline.
+    fn of(placed: Placed) -> Ink {
+        let metrics = placed.outline.metrics;
+        Ink {
+            left: placed.x,
+            right: placed.x + metrics.width,
+            top: placed.y - metrics.up,
+            bottom: placed.y + metrics.down,
+        }
+    }
+
+    /// Returns that of both together.
+    fn join(self, other: Ink) -> Ink {
+        Ink {
+            left: self.left.min(other.left),
+            right: self.right.max(other.right),
+            top: self.top.min(other.top),
+            bottom: self.bottom.max(other.bottom),
+        }
+    }
+
+    /// Returns where letters of these metrics begin around the ink, and how far below the line.
+    /// Places count from 1 in rows of three, from the left upper corner on; `further` is what other
+    /// letters take there.
+    fn place(self, metrics: Metrics, place: u16, further: Distance) -> (Distance, Distance) {
+        let column = place.saturating_sub(1) % 3;
+        let is_middle = column == 1;
+        let x = match column {
+            0 => self.left - metrics.width - BETWEEN - further,
+            1 => (self.left + self.right - metrics.width).half() + further,
+            _ => self.right + BETWEEN + further,
+        };
+        let y = match place.saturating_sub(1) / 3 {
+            0 if is_middle => self.top - BETWEEN - metrics.down,
+            0 => self.top + metrics.up.half(),
+            1 => (self.top + self.bottom + metrics.up - metrics.down).half(),
+            _ if is_middle => self.bottom + BETWEEN + metrics.up,
+            _ => self.bottom + metrics.up.half(),
+        };
+        (x, y)
+    }
+}
+
+/// Outlines around each other. `row` is the ink of those that stand beside each other, `ink` that
+/// of all.
+#[derive(Debug, Drop)]
+pub(crate) struct Cluster {
+    pub(crate) placed: Vec<Placed>,
+    row: Ink,
+    ink: Ink,
+}
+
+impl Cluster {
+    /// Returns no outlines.
+    pub(crate) fn new(alloc: Global) -> Cluster {
+        Cluster {
+            placed: Vec::new(alloc),
+            row: Ink::NONE,
+            ink: Ink::NONE,
+        }
+    }
+
+    /// Forgets all outlines.
+    pub(crate) fn clear(&mut self) {
+        self.placed.clear();
+        self.row = Ink::NONE;
+        self.ink = Ink::NONE;
+    }
+
+    /// Adds an outline at its place.
+    fn push(&mut self, placed: Placed) -> Result<(), AllocError> {
+        let own = Ink::of(placed);
+        self.ink = if self.placed.is_empty() {
+            own
+        } else {
+            self.ink.join(own)
+        };
+        self.placed.push(placed)?;
+        Ok(())
+    }
+
+    /// Adds the outline that `hand` has by this `name` at the right of the others, `rise` over the
+    /// line, and returns whether it has one. Of no name there is nothing to add.
+    pub(crate) fn append(
+        &mut self,
+        hand: Hand,
+        name: &str,
+        rise: Distance,
+    ) -> Result<bool, AllocError> {
+        if name.is_empty() {
+            return Ok(true);
+        }
+        let Some(outline) = hand.outline(name) else {
+            return Ok(false);
+        };
+        let x = if self.placed.is_empty() {
+            Distance::ZERO
+        } else {
+            self.row.right + BETWEEN
+        };
+        self.push(Placed {
+            outline,
+            x,
+            y: -rise,
+        })?;
+        self.row = self.ink;
+        Ok(true)
+    }
+
+    /// Adds letters at this `place` around those that stand beside each other. `further` is what
+    /// other letters take there.
+    pub(crate) fn surround(
+        &mut self,
+        outline: NabcOutline,
+        place: u16,
+        further: Distance,
+    ) -> Result<(), AllocError> {
+        let (x, y) = self.row.place(outline.metrics, place, further);
+        self.push(Placed { outline, x, y })
+    }
+
+    /// Returns where its ink begins.
+    pub(crate) fn left(&self) -> Distance {
+        self.ink.left
+    }
+
+    /// Returns how wide its ink is.
+    pub(crate) fn width(&self) -> Distance {
+        self.ink.right - self.ink.left
+    }
+
+    /// Returns how high and how deep its ink goes.
+    pub(crate) fn reach(&self) -> Reach {
+        Reach {
+            up: -self.ink.top,
+            down: self.ink.bottom,
+        }
+    }
+}

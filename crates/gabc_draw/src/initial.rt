@@ -1,0 +1,267 @@
+//! The initial of a score: its first letter, before the first row or the first two, with the
+//! annotations over it (GregorioRef, "Headers").
+
+use crate::measures::Measures;
+use crate::runs::{Run, WordLine, add_runs, lines_of};
+use crate::spaces;
+use crate::title::{header, headers};
+use gabc_marks::{Distance, Level, Levels, Sign, Styles, Words, text_width};
+use gabc_tree::Node;
+use std::alloc::{AllocError, Global};
+
+/// The sizes of the letter before one row and before two, and of the annotations.
+const ONE_ROW: Distance = Distance(4600);
+
+const TWO_ROWS: Distance = Distance(9200);
+
+const ANNOTATION_SIZE: Distance = Distance(1200);
+
+/// How far below the lowest line of the first staff the annotations of a letter before two rows
+/// end.
+const TOP_OF_TWO: Distance = Distance(-1800);
+
+/// In so many parts a letter is looked for.
+const MOST_PARTS: usize = 20;
+
+/// An initial: how many rows it stands before, its letter, and the annotations over it, from the
+/// highest one down.
+#[derive(Debug, Drop)]
+pub(crate) struct Initial<'a> {
+    pub(crate) rows: usize,
+    letter: &'a str,
+    size: Distance,
+    annotations: Vec<WordLine<'a>>,
+    /// What it takes of the width of its rows.
+    pub(crate) room: Distance,
+}
+
+/// Returns before how many rows the initial stands by the header `initial-style`: one, unless it
+/// says 2, and none if it says 0.
+fn rows_of(value: &str) -> usize {
+    match value {
+        "0" => 0,
+        "2" => 2,
+        _ => 1,
+    }
+}
+
+/// Returns a mode as it stands over an initial: a Roman number if it begins with a digit from 1 to
+/// 8, and what follows.
+fn mode_of(mode: &str) -> (&'static str, &str) {
+    let number = match mode.as_bytes().first() {
+        Some(b'1') => "I",
+        Some(b'2') => "II",
+        Some(b'3') => "III",
+        Some(b'4') => "IV",
+        Some(b'5') => "V",
+        Some(b'6') => "VI",
+        Some(b'7') => "VII",
+        Some(b'8') => "VIII",
+        _ => return ("", mode),
+    };
+    (number, mode.get(1..).unwrap_or(""))
+}
+
+/// Adds `value` to `runs`, after a thin blank if it begins with a letter or a digit.
+fn add_modifier<'a>(value: &'a str, runs: &mut Vec<Run<'a>>) -> Result<(), AllocError> {
+    if value.chars().next().is_some_and(|c| c.is_alphanumeric()) {
+        runs.push(Run {
+            text: "\u{2009}",
+            styles: Styles::PLAIN,
+        })?;
+    }
+    add_runs(value, runs)
+}
+
+/// Returns the mode of the score, with its modifier and its differentia; nothing if it names none
+/// (GregorioRef, "Mode Headers").
+fn mode_runs<'a>(
+    alloc: Global,
+    nodes: &[Node],
+    input: &'a str,
+) -> Result<Vec<Run<'a>>, AllocError> {
+    let mut runs = Vec::new(alloc);
+    let mode = header(nodes, input, "mode");
+    if mode.is_empty() {
+        return Ok(runs);
+    }
+    let (number, rest) = mode_of(mode);
+    add_runs(number, &mut runs)?;
+    add_runs(rest, &mut runs)?;
+    add_modifier(header(nodes, input, "mode-modifier"), &mut runs)?;
+    add_modifier(header(nodes, input, "mode-differentia"), &mut runs)?;
+    Ok(runs)
+}
+
+/// Adds `runs` to `lines` as one line, if it has letters.
+fn push_line<'a>(
+    alloc: Global,
+    runs: &[Run<'a>],
+    lines: &mut Vec<WordLine<'a>>,
+) -> Result<(), AllocError> {
+    let made = lines_of(alloc, runs, ANNOTATION_SIZE, Distance(i32::MAX))?;
+    for line in made {
+        lines.push(line)?;
+    }
+    Ok(())
+}
+
+/// Returns the annotations of the score; its mode if it has none.
+fn annotations_of<'a>(
+    alloc: Global,
+    nodes: &[Node],
+    input: &'a str,
+) -> Result<Vec<WordLine<'a>>, AllocError> {
+    let mut lines = Vec::new(alloc);
+    let values = headers(alloc, nodes, input, "annotation")?;
+    for value in &values {
+        let mut runs = Vec::new(alloc);
+        add_runs(*value, &mut runs)?;
+        push_line(alloc, runs.as_slice(), &mut lines)?;
+    }
+    if values.is_empty() {
+        let runs = mode_runs(alloc, nodes, input)?;
+        push_line(alloc, runs.as_slice(), &mut lines)?;
+    }
+    Ok(lines)
+}
+
+/// Takes the first letter away from the text of the first of `parts` that has one.
+fn take_letter<'a>(parts: &mut Vec<Measures<'a>>) -> Option<&'a str> {
+    for part in parts.iter_mut().take(MOST_PARTS) {
+        if part.text.is_some() {
+            return part.take_letter();
+        }
+    }
+    None
+}
+
+/// Returns the capital of a single small letter; `letter` if it is none.
+fn capital_of(letter: &str) -> &str {
+    let mut chars = letter.chars();
+    let (Some(c), None) = (chars.next(), chars.next()) else {
+        return letter;
+    };
+    let code = c as usize;
+    let capital = match c {
+        'a'..='z' => {
+            let at = code.saturating_sub(97);
+            "ABCDEFGHIJKLMNOPQRSTUVWXYZ".get(at..at.saturating_add(1))
+        }
+        'à'..='ö' | 'ø'..='þ' => {
+            let at = code.saturating_sub(224).saturating_mul(2);
+            "ÀÁÂÃÄÅÆÇÈÉÊËÌÍÎÏÐÑÒÓÔÕÖ×ØÙÚÛÜÝÞ".get(at..at.saturating_add(2))
+        }
+        'œ' => Some("Œ"),
+        'ǽ' => Some("Ǽ"),
+        _ => None,
+    };
+    capital.unwrap_or(letter)
+}
+
+/// Returns whether an accent stands over a capital.
+fn has_accent(letter: &str) -> bool {
+    let mut chars = letter.chars();
+    match (chars.next(), chars.next()) {
+        (Some(c), None) => matches!(
+            c,
+            'À'..='Å' | 'Ç'..='Ï' | 'Ñ'..='Ö' | 'Ù'..='Ý' | 'Ǽ'
+        ),
+        _ => true,
+    }
+}
+
+impl<'a> Initial<'a> {
+    /// Returns the initial of the score `input`, whose tree is `nodes`, and takes its letter away
+    /// from `parts`; none if the score wants none or begins with no letter.
+    pub(crate) fn take(
+        alloc: Global,
+        nodes: &[Node],
+        input: &'a str,
+        parts: &mut Vec<Measures<'a>>,
+    ) -> Result<Option<Initial<'a>>, AllocError> {
+        let rows = rows_of(header(nodes, input, "initial-style"));
+        if rows == 0 {
+            return Ok(None);
+        }
+        let annotations = annotations_of(alloc, nodes, input)?;
+        let Some(own) = take_letter(parts) else {
+            return Ok(None);
+        };
+        let letter = capital_of(own);
+        let size = if rows == 2 { TWO_ROWS } else { ONE_ROW };
+        let width = annotations
+            .iter()
+            .fold(text_width(letter, size), |width, it| width.max(it.width));
+        Ok(Some(Initial {
+            rows,
+            letter,
+            size,
+            annotations,
+            room: width + spaces::AFTER_INITIAL,
+        }))
+    }
+
+    /// Returns how high its letter is: a capital has 66 hundredths of its size, and an accent over
+    /// it 20 more.
+    fn height(&self) -> Distance {
+        let hundredths = if has_accent(self.letter) { 86 } else { 66 };
+        self.size.share(100).times(hundredths)
+    }
+
+    /// Adds to `signs` what of it stands in the row with this `number`, from 0, which is the last
+    /// one if `is_last`, and returns how high the row goes then, if it goes up to `top` without it.
+    pub(crate) fn stand_in(
+        &self,
+        number: usize,
+        is_last: bool,
+        levels: Levels,
+        top: Distance,
+        signs: &mut Vec<Sign<'a>>,
+    ) -> Result<Distance, AllocError> {
+        let mut high = top;
+        let middle = (self.room - spaces::AFTER_INITIAL).half();
+        if number == 0 {
+            high = high.min(self.put_annotations(levels, middle, signs)?);
+        }
+        let is_here = number.saturating_add(1) == self.rows
+            || is_last && number.saturating_add(1) < self.rows;
+        if is_here {
+            let width = text_width(self.letter, self.size);
+            signs.push(Sign::Words(Words {
+                text: self.letter,
+                x: middle - width.half(),
+                level: Level::Text,
+                width,
+                size: self.size,
+                styles: Styles::PLAIN,
+            }))?;
+            if number == 0 {
+                high = high.min(levels.text - self.height());
+            }
+        }
+        Ok(high)
+    }
+
+    /// Adds the annotations to `signs`, around `middle`, and returns how high they go.
+    fn put_annotations(
+        &self,
+        levels: Levels,
+        middle: Distance,
+        signs: &mut Vec<Sign<'a>>,
+    ) -> Result<Distance, AllocError> {
+        let height = if self.rows == 2 {
+            TOP_OF_TWO
+        } else {
+            levels.text - self.height()
+        };
+        let mut y = height - spaces::OVER_INITIAL;
+        let mut high = Distance::ZERO;
+        for line in self.annotations.iter().rev() {
+            line.put(middle - line.width.half(), Level::At(y), signs)?;
+            high = y - ANNOTATION_SIZE;
+            y -= ANNOTATION_SIZE + Distance(100);
+        }
+        Ok(high)
+    }
+}
