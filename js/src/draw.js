@@ -18,7 +18,8 @@ const MOST_ROOM = 1 << 26;
 
 const STYLE =
   ".chant{color:#000;fill:currentColor;font-family:'Linux Libertine O','Libertinus Serif','Times New Roman',serif}" +
-  ".chant .paper{fill:#fff}.chant .staff{fill:#a43}.chant .red{fill:#b00}";
+  ".chant .paper{fill:#fff}.chant .staff{fill:#a43}.chant .red{fill:#b00}.chant .curve{fill:none;stroke:currentColor;stroke-width:90}" +
+  ".chant .mark{fill:#c00;fill-opacity:.09;stroke:#c00;stroke-width:70}.chant .mark.w{fill:#960;stroke:#960;stroke-dasharray:300 200}";
 const SIZES = /viewBox="0 0 (\d+) (\d+)"/;
 const HEAD = /^<svg[^>]*>(<title>[^<]*<\/title>)?/;
 // No text of a score can hold this: its marks are escaped.

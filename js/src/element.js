@@ -18,6 +18,7 @@ const STYLE = `
 }
 .staff { fill: var(--gabc-staff, #a43); }
 .red { fill: var(--gabc-red, #b00); }
+.curve { fill: none; stroke: currentColor; stroke-width: 90; }
 .syllable { pointer-events: bounding-box; }
 ol { margin: 0.5em 0 0; padding: 0; list-style: none; }
 p { margin: 0; }
