@@ -13,7 +13,7 @@ const library = new Library(new WebAssembly.Module(wasm), crypto);
 // What a part of the page shows of a score, beside what is shown of each.
 const MORE = {
   "dump-part": (bytes) => ({ dump: compile(library, bytes, { format: "dump" }).dump }),
-  picture: (bytes, width) => (bytes.length > MOST_DRAWN ? { isTooLong: true } : { picture: draw(library, bytes, { width }) }),
+  picture: (bytes, width) => (bytes.length > MOST_DRAWN ? { isTooLong: true } : { picture: draw(library, bytes, { width, messages: "errors" }) }),
 };
 
 /** Returns what the page shows of a score: dump and picture only if they are `seen`. */
