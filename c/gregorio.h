@@ -16,7 +16,7 @@
  *     asks for at most 210 times the bytes of the score, and touches at most 150 times as many, for most scores 70 (measured, not proved).
  *   - Threads: calls share nothing, so any number of threads may call at once. Do not call from a signal handler, nor in a child that a
  *     process with threads has forked.
- *   - Platform: x86-64 Linux with glibc (x86-64-v2 or newer).
+ *   - Platform: x86-64 Linux with glibc (x86-64-v2 or newer). What `tools/build_for` makes: 64-bit ARM Linux with glibc, or x86-64 Windows.
  */
 #ifndef GREGORIO_H
 #define GREGORIO_H

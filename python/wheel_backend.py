@@ -3,7 +3,8 @@ needs no network.
 
 The wheel holds the package, the library for C with the file BUILD, which `tools/build_c` has to
 have built, and the files for editors, which pip puts into the folder `share` of an environment. It
-is tagged for this machine's platform. Its version is that of the file VERSION, its license that of
+is tagged for this machine's platform; `make_wheel` makes one for another, of what `tools/build_for`
+has built. Its version is that of the file VERSION, its license that of
 the file LICENSE, and the rest of its metadata that of pyproject.toml.
 """
 from __future__ import annotations
@@ -21,7 +22,7 @@ import tomllib
 
 HERE = Path(__file__).resolve().parent
 ROOT = HERE.parent
-LIBRARY = ROOT / "crates" / "gregorio_c" / "out" / "c" / "libgregorio.so"
+BUILT = ROOT / "crates" / "gregorio_c" / "out" / "c"
 PACKAGE = "gregorio_chant"
 EDITORS = ROOT / "editors"
 # The files of the package: its modules, its table of helps, those of its page, and its outlines
@@ -37,15 +38,17 @@ def _project() -> dict[str, Any]:
     return project
 
 
-def _files() -> dict[str, bytes]:
-    """Returns the package's files by their names in the wheel."""
-    if not LIBRARY.exists():
-        raise FileNotFoundError(f"{LIBRARY} is not there: run tools/build_c first")
+def _files(built: Path, platform: str) -> dict[str, bytes]:
+    """Returns the package's files by their names in the wheel. The library lies in `built`. Raises
+    `FileNotFoundError` if it does not."""
+    library = built / ("gregorio.dll" if platform.startswith("win") else "libgregorio.so")
+    if not library.exists():
+        raise FileNotFoundError(f"{library} is not there: run tools/build_c first")
     sources = sorted(
         it for it in (HERE / PACKAGE).rglob("*") if it.suffix in SUFFIXES or it.name == "py.typed"
     )
     files = {it.relative_to(HERE).as_posix(): it.read_bytes() for it in sources}
-    for it in (LIBRARY, LIBRARY.with_name("BUILD"), ROOT / "VERSION"):
+    for it in (library, built / "BUILD", ROOT / "VERSION"):
         if it.exists():
             files[f"{PACKAGE}/{it.name}"] = it.read_bytes()
     page = runpy.run_path(str(HERE / PACKAGE / "web" / "sources.py"))["packed"]()
@@ -91,11 +94,17 @@ def build_wheel(
     wheel_directory: str, config_settings: object = None, metadata_directory: str | None = None
 ) -> str:
     """Writes the wheel into `wheel_directory`, and returns its file name."""
+    return make_wheel(wheel_directory, BUILT, re.sub(r"[-.]", "_", sysconfig.get_platform()))
+
+
+def make_wheel(folder: str, built: str | Path, platform: str) -> str:
+    """Writes the wheel for a platform, whose library lies in `built`, into `folder`, and returns
+    its file name. Raises `FileNotFoundError` if the library does not lie there."""
     version = (ROOT / "VERSION").read_text().strip()
     project = _project()
-    tag = f"py3-none-{re.sub(r'[-.]', '_', sysconfig.get_platform())}"
+    tag = f"py3-none-{platform}"
     info = f"{PACKAGE}-{version}.dist-info"
-    files = _files()
+    files = _files(Path(built), platform)
     data = f"{PACKAGE}-{version}.data/data/share/{project['name']}/editors"
     files |= {f"{data}/{name}": content for name, content in _for_editors().items()}
     files[f"{info}/METADATA"] = _metadata(project, version).encode()
@@ -107,7 +116,7 @@ def build_wheel(
     record = [_row(name, content) for name, content in files.items()]
     files[f"{info}/RECORD"] = "\n".join([*record, f"{info}/RECORD,,", ""]).encode()
     name = f"{PACKAGE}-{version}-{tag}.whl"
-    with zipfile.ZipFile(Path(wheel_directory) / name, "w", zipfile.ZIP_DEFLATED) as wheel:
+    with zipfile.ZipFile(Path(folder) / name, "w", zipfile.ZIP_DEFLATED) as wheel:
         for path, content in files.items():
             # With no time of its own, so that equal files make equal wheels.
             entry = zipfile.ZipInfo(path)

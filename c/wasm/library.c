@@ -1,4 +1,4 @@
-/* What the library asks of its host, as WebAssembly: memory, and one instruction of x86-64 that its text of LLVM names. */
+/* What the library asks of its host, as WebAssembly: memory. */
 #include "memory.h"
 
 enum { PAGE = 1 << 16 };
@@ -35,12 +35,3 @@ struct tried rattle_realloc(void *old, size_t kept, size_t size, size_t alignmen
 }
 
 void rattle_dealloc(void *block) { give(block); }
-
-typedef unsigned char bytes __attribute__((vector_size(16)));
-
-/* Returns, for each of `places`, the byte of `table` at its low four bits, or 0 if its high bit is set, as the instruction `pshufb` does. */
-bytes shuffle_bytes(bytes table, bytes places) {
-  bytes found;
-  for (int i = 0; i < 16; i++) found[i] = places[i] & 0x80 ? 0 : table[places[i] & 15];
-  return found;
-}

@@ -39,7 +39,7 @@ async function begun(command, ...documents) {
   return host;
 }
 
-describe("the extension without a server", { skip: lacks, timeout: 60_000 }, () => {
+describe("the extension without a server", { skip: lacks, timeout: 120_000 }, () => {
   test("messages with their help, of scores alone", async () => {
     const score = new Document("name:a;\n%%\n(c4) <i>Ky(f)ri</i>(g5)\n");
     const others = [new Document(score.text, { languageId: "plaintext" }), new Document(score.text, { scheme: "git" })];
@@ -246,7 +246,7 @@ function assertProtocol(run) {
   }
 }
 
-describe("the extension with Python's server", { skip: lacks || (!SERVER && "the server is not here"), timeout: 120_000 }, () => {
+describe("the extension with Python's server", { skip: lacks || (!SERVER && "the server is not here"), timeout: 300_000 }, () => {
   const room = mkdtempSync(join(process.cwd(), "server-"));
   writeFileSync(`${room}/tee.mjs`, TEE);
   const command = (file) => [process.execPath, `${room}/tee.mjs`, `${room}/${file}`, ...SERVER];
@@ -311,7 +311,7 @@ describe("the extension with Python's server", { skip: lacks || (!SERVER && "the
       const die = () => { server.kill("SIGKILL"); process.exit(7); };
       process.stdin.on("data", (it) => String(it).includes("didOpen") && setTimeout(die, 100)).pipe(server.stdin);`);
     const host = await begun([process.execPath, dying, ...SERVER], score);
-    await awaited(() => host.told.length > 0, 40_000);
+    await awaited(() => host.told.length > 0, 120_000);
     assert.match(host.told[0], /ends again and again \(status 7\): scores are checked without it/);
     assert.deepEqual(host.lines.filter((it) => it.endsWith("is running")).length, 4);
     assert.deepEqual(codesOf(host.messagesOf(score)), ["W1"]);
@@ -365,7 +365,7 @@ function prepare() {
 }
 
 for (const kind of BROWSERS) {
-  describe(`the extension in ${kind.name}`, { skip: lacks || kind.lacks, timeout: 60_000 }, () => {
+  describe(`the extension in ${kind.name}`, { skip: lacks || kind.lacks, timeout: 120_000 }, () => {
     /** Returns what `work` returns of a page of the extension. */
     async function inPage(path, work) {
       const server = await serve(contentOf);

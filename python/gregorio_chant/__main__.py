@@ -3,6 +3,9 @@ from __future__ import annotations
 
 import sys
 
+if sys.platform == "win32":
+    sys.exit("gregorio-chant: the command is for Linux; here the package has its calls alone")
+
 from gregorio_chant.work.ending import end_at_signals, leave_signals
 
 

@@ -3,7 +3,10 @@ repository where they are built. It begins with the command, so it imports littl
 from __future__ import annotations
 
 import os.path
+import sys
 
+# The shared object of the library.
+LIBRARY = "gregorio.dll" if sys.platform == "win32" else "libgregorio.so"
 _PACKAGE = os.path.dirname(os.path.dirname(os.path.abspath(__file__)))
 _CLONE = os.path.dirname(os.path.dirname(_PACKAGE))
 

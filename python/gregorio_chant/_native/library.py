@@ -5,6 +5,7 @@ from __future__ import annotations
 import ctypes
 import os
 
+from gregorio_chant._native.built import LIBRARY as FILE
 from gregorio_chant._native.built import built
 from gregorio_chant._native.memory import Borrowed, Room, bytes_of
 from gregorio_chant._native.results import Format, Report, Result, Status, messages_of
@@ -23,7 +24,7 @@ class Lengths(ctypes.Structure):
     _fields_ = [("output", ctypes.c_size_t), ("messages", ctypes.c_size_t)]
 
 
-LIBRARY = ctypes.CDLL(built("libgregorio.so"))
+LIBRARY = ctypes.CDLL(built(FILE))
 _compile = LIBRARY.gregorio_compile
 _compile.restype = ctypes.c_uint32
 _compile.argtypes = [
