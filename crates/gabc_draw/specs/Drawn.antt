@@ -8,8 +8,8 @@ use Rattle.gabc_tree.specs.declared.node.Node.{Node}
 use Rattle.gabc_draw.specs.Pitches.{shown_of_nodes}
 
 -- its groups show what the tree is to show: the syllables in their order, each with its bytes; and
--- in each the heads of its notes in their order, each note once for each time that it sounds, at its
--- height
+-- in each the heads of its notes in their order, each note once for each time that it sounds, at
+-- its height
 pub record IsPictureOf (nodes : List Node) (picture : Picture) : Type 0 where
   pub groups : shown_by_parts picture.parts.items ≡ shown_of_nodes nodes
 

@@ -5,8 +5,8 @@
 //! pitch, and each syllable a part, at the desk (`desk`). A pen writes neumes (`pen`, `neume`), by
 //! the outline that shows them (`outline`), with the signs around them (`rhythm`, `episemata`,
 //! `staff`). NABC over them is read (`nabc`) as descriptors (`descriptor`), each a cluster of
-//! outlines (`cluster`). Then the parts are broken into rows (`breaks`), in which they stand beside each other
-//! (`rows`).
+//! outlines (`cluster`). Then the parts are broken into rows (`breaks`), in which they stand beside
+//! each other (`rows`).
 #![tactic(auto)]
 
 mod assemble;

@@ -4,7 +4,6 @@ use Rattle.std.specs.List.{flat_map}
 use Rattle.gabc_marks.specs.declared.head.Head.{Head}
 use Rattle.gabc_marks.specs.declared.head.Head.TheVariants.{Single, Stroke, Joined as JoinedHead}
 use Rattle.gabc_marks.specs.declared.head.NoteHead.{NoteHead}
-use Rattle.gabc_marks.specs.declared.joined.Joined.{Joined}
 use Rattle.gabc_marks.specs.declared.joined.Family.{Family}
 use Rattle.gabc_marks.specs.declared.joined.Family.TheVariants as family
 use Rattle.gabc_marks.specs.declared.picture.Part.{Part}
