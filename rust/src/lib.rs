@@ -1,7 +1,7 @@
 //! Reads Gregorian chant scores in GABC, with unheighted neumes in NABC, by a proved compiler.
 //!
-//! [`compile`] takes a score in memory, [`messages`] returns only its messages, [`tree`] all that was read with its places, and a [`Run`] takes a score in
-//! pieces. The crate links the C library `libgregorio.a`, which `tools/build_c` of the project makes; the environment variable `GREGORIO_LIBRARY` names its
+//! [`compile`] takes a score in memory, [`messages`] returns only its messages, [`tree`] all that was read with its places, [`draw`] a picture of it, and a
+//! [`Run`] takes a score in pieces. The crate links the C library `libgregorio.a`, which `tools/build_c` of the project makes; the environment variable `GREGORIO_LIBRARY` names its
 //! folder at build time. The answers of the library are proved; this crate is tested.
 //!
 //! ```
@@ -17,6 +17,7 @@
 #![deny(unsafe_code)]
 
 mod compiled;
+mod draw;
 mod error;
 mod job;
 mod kind;
@@ -28,6 +29,7 @@ mod texts;
 mod tree;
 
 pub use compiled::{compile, Compiled};
+pub use draw::{draw, PictureOptions, ShownMessages};
 pub use error::{Error, Status};
 pub use job::{Format, Job, Limits, Warnings};
 pub use kind::Kind;

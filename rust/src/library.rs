@@ -1,6 +1,7 @@
 //! The calls of `gregorio.h`. Each of its texts is a slice here, so that what the header asks of a caller is kept by the types: pointers and counts agree,
 //! nothing that is written overlaps anything else, and nothing changes during a call. This is the only module with `unsafe`.
 
+use crate::draw::{PictureOptions, ShownMessages};
 use crate::job::{Format, Job, Warnings};
 use std::collections::hash_map::RandomState;
 use std::ffi::CStr;
@@ -58,6 +59,15 @@ pub(crate) struct NodeRecord {
     pub c: u16,
 }
 
+/// How a picture looks, and which messages stand in it.
+#[repr(C)]
+struct PictureRecord {
+    version: u32,
+    width: u32,
+    messages: u32,
+    reserved: u32,
+}
+
 /// The limits of a run, and a key.
 #[repr(C)]
 struct Options {
@@ -103,6 +113,18 @@ extern "C" {
         key_length: usize,
         nodes: *mut NodeRecord,
         nodes_capacity: usize,
+        count: *mut usize,
+    ) -> u32;
+
+    fn gregorio_draw(
+        score: *const u8,
+        score_length: usize,
+        options: *const PictureRecord,
+        options_count: usize,
+        key: *const u64,
+        key_length: usize,
+        picture: *mut u8,
+        picture_capacity: usize,
         count: *mut usize,
     ) -> u32;
 
@@ -213,6 +235,20 @@ fn options_of(job: &Job) -> Options {
     }
 }
 
+fn picture_record_of(options: &PictureOptions) -> PictureRecord {
+    PictureRecord {
+        version: 1,
+        // 0 stands for the usual width.
+        width: options.width.map_or(0, |it| it.max(1)),
+        messages: match options.messages {
+            ShownMessages::None => 0,
+            ShownMessages::Errors => 1,
+            ShownMessages::All => 2,
+        },
+        reserved: 0,
+    }
+}
+
 /// Returns the version of the library.
 pub(crate) fn version() -> &'static CStr {
     // SAFETY: `gregorio_version` is a constant text that ends in a NUL.
@@ -270,6 +306,27 @@ pub(crate) fn tree(score: &[u8], nodes: &mut [NodeRecord], count: &mut usize) ->
             key.len(),
             nodes.as_mut_ptr(),
             nodes.len(),
+            count,
+        )
+    }
+}
+
+/// Reads `score` under the default limits, and puts its picture into `picture`, if there is room for
+/// it, and the number of its bytes into `count`.
+pub(crate) fn draw(options: &PictureOptions, score: &[u8], picture: &mut [u8], count: &mut usize) -> u32 {
+    let key = new_key();
+    // SAFETY: as for `compile`. A `PictureRecord` is laid out as the header's
+    // `gregorio_picture_options`.
+    unsafe {
+        gregorio_draw(
+            score.as_ptr(),
+            score.len(),
+            &picture_record_of(options),
+            1,
+            key.as_ptr(),
+            key.len(),
+            picture.as_mut_ptr(),
+            picture.len(),
             count,
         )
     }

@@ -47,7 +47,7 @@ pub(crate) fn filled<T: Clone + Default>(length: usize) -> Result<Vec<T>, Error>
 }
 
 /// Returns the text that `buffer` begins with, in no more memory than it wants. Every text of the library is UTF-8.
-fn text_of(mut buffer: Vec<u8>, length: usize) -> Result<String, Error> {
+pub(crate) fn text_of(mut buffer: Vec<u8>, length: usize) -> Result<String, Error> {
     buffer.truncate(length);
     buffer.shrink_to_fit();
     String::from_utf8(buffer).map_err(|_| Error::Library(library::WHOLE))

@@ -1,24 +1,11 @@
 //! Tries trees: their form, the kinds, long scores, threads.
 
-use gregorio_chant::{tree, Kind, Node, Tree};
-use std::fs;
-use std::path::Path;
-use std::thread;
+mod inputs;
 
-/// Returns all rows of runs and all examples, as the bytes that they stand in: any bytes have a tree.
-fn inputs() -> Vec<Vec<u8>> {
-    let root = Path::new(env!("CARGO_MANIFEST_DIR")).join("..");
-    let folders = [root.join("examples"), root.join("crates/vectors/data")];
-    let files = folders.iter().flat_map(|it| fs::read_dir(it).unwrap()).map(|it| it.unwrap().path());
-    let mut found: Vec<Vec<u8>> = files.filter(|it| it.is_file()).map(|it| fs::read(it).unwrap()).collect();
-    let lines: Vec<Vec<u8>> = found
-        .iter()
-        .flat_map(|it| it.split(|byte| *byte == b'\t'))
-        .map(<[u8]>::to_vec)
-        .collect();
-    found.extend(lines);
-    found
-}
+use gregorio_chant::{tree, Kind, Node, Tree};
+use inputs::{inputs, of_project};
+use std::fs;
+use std::thread;
 
 /// Returns whether each node lies within this one, after the one before it, and how many bytes are own ones.
 fn own_bytes(node: Node<'_>) -> usize {
@@ -63,7 +50,7 @@ fn a_score_of_many_nodes_has_them_all() {
 
 #[test]
 fn threads_make_trees_at_once() {
-    let score = fs::read(Path::new(env!("CARGO_MANIFEST_DIR")).join("../examples/introit.gabc")).unwrap();
+    let score = fs::read(of_project("examples/introit.gabc")).unwrap();
     let wanted = format!("{:?}", tree(&score).unwrap());
     thread::scope(|scope| {
         for _ in 0..4 {
