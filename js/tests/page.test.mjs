@@ -187,7 +187,7 @@ for (const kind of BROWSERS) {
     test("the picture", async () => {
       await page.written(SCORE);
       await page.click("#picture-tab");
-      const drawnText = () => page.run(() => [...document.querySelectorAll("#own-picture .syllable text")].map((it) => it.textContent).join(" "));
+      const drawnText = () => page.run(() => [...document.querySelectorAll("#own-picture .row text")].map((it) => it.textContent).join(" "));
       assert.equal((await drawnText()).replace(/[\s-]/g, ""), "Kyrie");
       assert.equal(await page.run(() => document.querySelectorAll("#own-picture use").length), 5);
       await page.focus("#score");
