@@ -16,7 +16,7 @@ from xml.etree import ElementTree
 
 from support import EXAMPLES
 
-from gregorio_chant._native.library import LIBRARY, NO_MEMORY, new_key
+from gregorio_chant._native.library import LIBRARY, new_key
 from gregorio_chant.picture import Look, draw
 
 WIDTHS = (360, 720, 1200)
@@ -39,6 +39,8 @@ _SIGNS = {
     **{"Sharp": "sharp", "CustosUpMedium": "custos-up", "CustosDownMedium": "custos-down"},
 }
 
+# What the library answers if it drew.
+WHOLE = 0
 _draw = LIBRARY.gregorio_draw
 _draw.restype = ctypes.c_uint32
 
@@ -62,11 +64,11 @@ def drawn_by_library(score: bytes, width: int) -> str:
     key, size = new_key(), 500 * len(score) + 100_000
     room, count = ctypes.create_string_buffer(size), ctypes.c_size_t()
     room_size, length = ctypes.c_size_t(size), ctypes.c_size_t(len(score))
-    wide = ctypes.c_uint32(round(width * UNITS))
-    answer = _draw(
-        score, length, wide, key, ctypes.c_size_t(len(key)), room, room_size, ctypes.byref(count)
-    )
-    assert answer != NO_MEMORY and count.value <= size
+    # The record of options: its version, the width, no messages, and 0.
+    options = (ctypes.c_uint32 * 4)(1, round(width * UNITS), 0, 0)
+    told = (score, length, options, ctypes.c_size_t(1), key, ctypes.c_size_t(len(key)))
+    answer = _draw(*told, room, room_size, ctypes.byref(count))
+    assert answer == WHOLE and count.value <= size
     return room.raw[: count.value].decode()
 
 
