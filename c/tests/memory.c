@@ -121,10 +121,13 @@ static uint32_t call(made_call made, const struct test_case *it, size_t failing,
   return status;
 }
 
+/* A call that asks for memory more often than this is tried with some of its allocations, at even distances. */
+enum { MOST_TRIED = 500 };
+
 /* Makes each allocation fail in turn, of which the call asks for `all`. It answers that there is no memory; or, where this one alone fails, what it
  * answers with memory enough, since an arena that is refused a chunk asks for a smaller one. */
 static void fail_each(made_call made, const struct test_case *it, size_t all, uint32_t ample, const struct gregorio_lengths *wanted, size_t number) {
-  for (size_t failing = 1; failing <= all; failing++) {
+  for (size_t failing = 1; failing <= all; failing += 1 + all / MOST_TRIED) {
     struct gregorio_lengths lengths = {77, 77};
     output[0] = 0xA5;
     records[0].code = 0xA5;
