@@ -31,7 +31,7 @@ take_module() {
   touch -- "$work/began"
   step "$root/tools/build_c"
   tell "taking the module of $EXPORT, which is kept"
-  step python3 "$root/tools/library_module.py" "$module"
+  step env -C "$root/tools" python3 -B -m house.library_module "$module"
   kit_line >"$module.kit"
   touch -r "$work/began" -- "$module"
 }

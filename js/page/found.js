@@ -4,7 +4,7 @@ import { helpsFor } from "./helps.js";
 import { nodesBeginningAt } from "./nodes.js";
 import { numberOf } from "./words.js";
 
-// So many messages are listed, and have a help.
+// The most messages that are listed, each with its help.
 export const MOST = 500;
 // Kinds of nodes that say a code.
 const CODED = new Set(["header", "headerLeftOut", "leftOut", "unread"]);

@@ -10,7 +10,7 @@ import { Outline } from "./outline.js";
 import { Source } from "./source.js";
 import { Tabs } from "./tabs.js";
 
-// At most so many lines.
+// Some lines, at most 50.
 const PIECE = /(?:[^\n]*\n){1,50}|[^\n]+$/g;
 
 const at = (id) => document.getElementById(id);
@@ -61,7 +61,7 @@ function piecesOf(text) {
   return pieces.map((it) => Object.assign(document.createElement("div"), { textContent: it }));
 }
 
-/** Shows what came of a score. A hook shows its picture. */
+/** Shows what came of a score but its picture, which a hook shows. */
 function show(it) {
   if (it.failure) {
     say(it.failure);
@@ -82,13 +82,25 @@ function show(it) {
   at("read").setAttribute("aria-busy", String(reader.isBusy));
 }
 
+/** Shows the picture of a score, by a hook, if it comes after what else is shown. */
+function showPicture(it) {
+  hooks.onPicture(it);
+  pointAtPlace(source.places.placeOf(source.cursor));
+  at("read").setAttribute("aria-busy", String(reader.isBusy));
+}
+
 // ---- choosing
+
+/** Has the picture show a place of the score. */
+function pointAtPlace(place) {
+  hooks.onCursor?.(place, source.places.byteAt(source.cursor));
+}
 
 /** Shows what is at the cursor. */
 function showCursor() {
   const place = source.places.placeOf(source.cursor);
   at("place").textContent = `Line ${place.line}, column ${place.column}`;
-  hooks.onCursor?.(place, source.places.byteAt(source.cursor));
+  pointAtPlace(place);
   const it = findings.showAt(source.cursor);
   source.hint(it?.begin, it && `${it.code} ${it.text}${it.help ? `: ${it.help}` : ""}`);
   if (tabs.chosen === "tree-part" && !reader.isBusy) outline.showAt(source.places.byteAt(source.cursor));
@@ -196,11 +208,12 @@ addEventListener("drop", (event) => {
 export const chooseTab = (id) => tabs.show(id);
 export const scoreText = () => source.text;
 
-/** Begins with the score that is kept. `it` has scores compiled; the hooks, if they are given, get each answer, each place of the cursor with its byte, and the
- * number of each message that is chosen. Returns what has the score compiled again. */
+/** Begins with the score that is kept. `it` has scores compiled; the hooks, if they are given, get each answer, each picture that comes later, each place of the
+ * cursor with its byte, and the number of each message that is chosen. Returns what has the score compiled again. */
 export function begin(it, given = {}) {
   [reader, hooks] = [it, given];
   reader.onAnswer = show;
+  reader.onPicture = showPicture;
   source.text = keptScore();
   read();
   return { read };

@@ -3,9 +3,9 @@
 import { pathTo } from "./nodes.js";
 import { nameOf, numbersOf } from "./words.js";
 
-// A node with more nodes in it than this has them in parts of so many.
+// The most nodes that are listed one after the other in a node: of more, each part has this many.
 const PART = 50;
-// So much of the text of a node is shown.
+// The most characters of a node's text that are shown.
 const LONGEST = 60;
 // Blanks and ends of lines as they are shown.
 const SEEN = { "\n": "↵", "\r": "↵", "\t": "→", "\ufeff": "U+FEFF" };

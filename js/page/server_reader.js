@@ -3,7 +3,7 @@
 import { bytesOfScore } from "../src/bytes.js";
 import { Tree } from "../src/tree.js";
 
-// So many milliseconds after a change a score is sent, if no other change comes.
+// How long nothing has to be typed before a score is sent, in milliseconds.
 const PAUSE = 120;
 const TAB = crypto.randomUUID();
 

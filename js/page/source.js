@@ -2,7 +2,7 @@
 
 import { Places, editBetween, movedBy } from "./places.js";
 
-// So many messages are marked; the list has them all.
+// The most messages that are marked; the list has them all.
 const MOST_MARKS = 2000;
 
 /** Cuts a text of this length where a mark begins or ends: returns each part with the kinds of the marks over it. */

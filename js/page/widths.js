@@ -1,19 +1,22 @@
 // How wide a picture is in the page.
 
 const [LEAST, MOST] = [120, 720];
-// A picture is drawn anew if its width has changed by more than so many pixels.
+// By how much a width may change before a picture is drawn anew, in pixels.
 const CLOSE = 8;
 const tabs = document.getElementById("tabs");
 
+const measured = () => Math.max(LEAST, Math.min(tabs.clientWidth, MOST));
+// Kept, since to measure it after a key would lay out the page before the score is sent.
+let width = measured();
+
 /** Returns how wide a picture may be, in pixels. */
-export const widthOf = () => Math.max(LEAST, Math.min(tabs.clientWidth, MOST));
+export const widthOf = () => width;
 
 /** Calls `work` each time that this has changed. */
 export function onNewWidth(work) {
-  let width = widthOf();
   new ResizeObserver(() => {
-    if (Math.abs(widthOf() - width) <= CLOSE) return;
-    width = widthOf();
+    if (Math.abs(measured() - width) <= CLOSE) return;
+    width = measured();
     work();
   }).observe(tabs);
 }

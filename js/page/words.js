@@ -27,7 +27,7 @@ const ORIENTATIONS = ["", "turned down", "turned up"];
 const FUSIONS = ["fusion", "begins a fused group", "ends a fused group"];
 const LETTERS = { E: 1, W: 2, F: 3 };
 
-/** Returns the values of the parts of a number that lie one above the other, each so many bits wide. */
+/** Returns the values of the parts of a number that lie one above the other, of these `widths` in bits. */
 function partsOf(number, ...widths) {
   let left = number;
   return widths.map((width) => {

@@ -1,4 +1,4 @@
-// What runs in the worker of the page: it compiles each score that it is sent, and sends back what came of it.
+// What runs in the workers of the page: it compiles each score that it is sent, or draws it if it is told a width, and sends back what came of it.
 
 import wasm from "gregorio-wasm";
 import { bytesOfScore } from "../src/bytes.js";
@@ -10,23 +10,24 @@ import { compile } from "../src/whole.js";
 
 const library = new Library(new WebAssembly.Module(wasm), crypto);
 
-// What a part of the page shows of a score, beside what is shown of each.
-const MORE = {
-  "dump-part": (bytes) => ({ dump: compile(library, bytes, { format: "dump" }).dump }),
-  picture: (bytes, width) => (bytes.length > MOST_DRAWN ? { isTooLong: true } : { picture: draw(library, bytes, { width, messages: "errors" }) }),
-};
-
-/** Returns what the page shows of a score: dump and picture only if they are `seen`. */
-function answerTo({ score, seen, width }) {
+/** Returns what the page shows of a score but its picture, the dump only if it is `seen`. */
+function answerTo({ score, seen }) {
   const bytes = bytesOfScore(score).slice();
   const { status, messages, canonical } = compile(library, bytes);
-  return { bytes, records: recordsOf(library, bytes), status, messages, canonical, ...MORE[seen]?.(bytes, width) };
+  const dump = seen === "dump-part" ? compile(library, bytes, { format: "dump" }).dump : undefined;
+  return { bytes, records: recordsOf(library, bytes), status, messages, canonical, dump };
+}
+
+/** Returns the picture of a score, of a width in pixels. */
+function pictureOf({ score, width }) {
+  const bytes = bytesOfScore(score);
+  return bytes.length > MOST_DRAWN ? { isTooLong: true } : { picture: draw(library, bytes, { width, messages: "errors" }) };
 }
 
 onmessage = ({ data }) => {
   try {
-    const answer = answerTo(data);
-    postMessage(answer, [answer.bytes.buffer, answer.records.buffer]);
+    const answer = data.width === undefined ? answerTo(data) : pictureOf(data);
+    postMessage(answer, answer.records ? [answer.bytes.buffer, answer.records.buffer] : []);
   } catch (error) {
     postMessage({ failure: error.message });
   }

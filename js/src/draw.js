@@ -8,7 +8,7 @@ import { LEAST_WIDTH, MOST_WIDTH } from "./picture.js";
 
 // How wide a picture is in pixels, if nothing else is asked for.
 const USUAL = 720;
-// A pixel has so many units of the library.
+// The units of the library in a pixel.
 const UNITS = 100;
 
 // How many bytes a picture has room for at first, for each byte of the score: more than most want, since a second call draws the score again.

@@ -5,7 +5,7 @@ import { LEAST_WIDTH, MOST_DRAWN, MOST_WIDTH, elementOf } from "./picture.js";
 import { scoreIn } from "./written.js";
 
 const NAME = "gabc-score";
-// So many messages are listed.
+// The most messages that are listed.
 const MOST_MESSAGES = 100;
 const BLANK = 0x20;
 

@@ -5,7 +5,7 @@ import { mkdirSync, mkdtempSync, writeFileSync } from "node:fs";
 import { createServer } from "node:net";
 import { join } from "node:path";
 
-// An answer comes in so many milliseconds, or not at all.
+// How long an answer may take, in milliseconds.
 const MOST_TIME = 30_000;
 const isThere = (command) => spawnSync(command, ["--version"]).status === 0;
 const PREFERENCES = { "browser.download.folderList": 2, "browser.download.useDownloadDir": true, "datareporting.policy.dataSubmissionEnabled": false };

@@ -13,7 +13,7 @@ function draws() {
   };
 }
 
-/** Returns `count` edits in parts of so many: each with its range, its new text, and the `whole` after it. Each part begins anew with `score`. */
+/** Returns `count` edits, `inPart` of them in a part: each with its range, its new text, and the `whole` after it. Each part begins anew with `score`. */
 export function editsOf(score, count, inPart) {
   const draw = draws();
   return Array.from({ length: count / inPart }, () => {

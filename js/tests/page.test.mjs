@@ -6,7 +6,7 @@ import { join } from "node:path";
 import { after, before, beforeEach, describe, test } from "node:test";
 import { pathToFileURL } from "node:url";
 
-import { compile } from "gregorio-chant";
+import { compile, draw } from "gregorio-chant";
 import { BROWSERS } from "./browsers.mjs";
 import { DATA } from "./cases.mjs";
 import { editsOf } from "./edits.mjs";
@@ -190,6 +190,7 @@ for (const kind of BROWSERS) {
       const drawnText = () => page.run(() => [...document.querySelectorAll("#own-picture .row text")].map((it) => it.textContent).join(" "));
       assert.equal((await drawnText()).replace(/[\s-]/g, ""), "Kyrie");
       assert.equal(await page.run(() => document.querySelectorAll("#own-picture use").length), 5);
+      assert.equal(await page.run(() => document.querySelector("#own-picture .row").closest("svg").getAttribute("xml:space")), "preserve");
       await page.focus("#score");
       await page.press(KEYS.Home);
       await page.text("#own-picture .here");
@@ -207,6 +208,41 @@ for (const kind of BROWSERS) {
       await page.written(`%%\n${"Ky(f)".repeat(12_000)}`);
       assert.equal(await page.textOf("#too-long:not([hidden])"), "A score of more than 50,000 bytes is not drawn here.");
       assert.equal(await page.run(() => document.querySelectorAll("#own-picture *").length), 0);
+      await page.assertQuiet();
+    });
+
+    test("the picture after each edit is the one that is drawn anew", { timeout: 120_000 }, async () => {
+      const score = `name: Kyrie;\n%%\n(c4) ${"KY(f)ri(gfg)e(e.) <i>e</i>(ixi/ih)lei(g/h~)son.(f_e) (;) ".repeat(40)}(::)`;
+      await page.click("#picture-tab");
+      await page.written(score);
+      const width = await page.run(() => parseInt(document.querySelector("#own-picture .chant").style.width));
+      const drawn = (text) => draw(text, { width, messages: "errors" });
+      await page.assertRows(drawn(score));
+      const [[, ...edits]] = editsOf(score, 60, 60);
+      const others = ["(c4)", "mode: 2;\n%%\n(f3) a(g)", `${score.slice(0, 900)}(z)${score.slice(900)}`, score].map((whole) => ({ whole }));
+      for (const { whole } of [...edits, ...others]) {
+        await page.written(whole);
+        await page.assertRows(drawn(whole));
+      }
+      await page.assertQuiet();
+    });
+
+    test("a syllable of the picture that is not seen is marked, and one that is seen leads to its place", async () => {
+      const score = `%%\n(c4) ${"Ky(f)ri(gfg)e(e.) ".repeat(600)}(::)`;
+      await page.click("#picture-tab");
+      await page.written(score);
+      const unit = score.lastIndexOf("ri(");
+      await page.focus("#score");
+      await page.run((it) => document.querySelector("#score").setSelectionRange(it, it), unit);
+      assert.match(await page.text(`#own-picture .here[data-begin="${unit}"] text`), /^ri/);
+      const hit = await page.run(() => {
+        const [, it] = document.querySelectorAll("#own-picture .syllable use");
+        it.scrollIntoView({ block: "center" });
+        const { left, top, width, height } = it.getBoundingClientRect();
+        document.elementFromPoint(left + width / 2, top + height / 2).dispatchEvent(new MouseEvent("click", { bubbles: true }));
+        return document.querySelector("#score").selectionStart;
+      });
+      assert.equal(hit, score.indexOf(" Ky("));
       await page.assertQuiet();
     });
 
@@ -263,9 +299,13 @@ for (const kind of BROWSERS) {
       await page.click("#tree-tab");
       await page.written(text);
       assert.ok((await page.run(() => document.querySelectorAll("#tree li").length)) < 400);
-      const times = await page.times(text.indexOf("(ixi", 15_000) + 1, 20);
-      it.diagnostic(`a key in ${text.length} bytes in ${kind.name}: ${times[10]} ms, at most ${times[19]}`);
-      assert.ok(times[10] < 1000, String(times));
+      for (const part of ["picture", "tree"]) {
+        await page.click(`#${part}-tab`);
+        const { answers, all } = await page.times(text.indexOf("(ixi", 15_000) + 1, 20);
+        const words = `messages in ${answers[10]} ms, at most ${answers[19]}; all in ${all[10]}, at most ${all[19]}`;
+        it.diagnostic(`a key in ${text.length} bytes in ${kind.name}, with the ${part}: ${words}`);
+        assert.ok(all[10] < 1000, String(all));
+      }
       const faulty = `name: x;\n%%\n(c4) ${"(f&)".repeat(100_000)}`;
       const begin = performance.now();
       assert.equal((await page.written(faulty)).canonical, compile(faulty).canonical);

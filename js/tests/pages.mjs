@@ -47,20 +47,46 @@ const editing = `async (edits) => {
   return shown;
 }`;
 
-/** Writes into the field, in the middle of a score, and returns how many milliseconds each key took until it was drawn, in order. */
+/** Writes into the field, in the middle of a score, and returns how long each key took, in milliseconds, in order: until the messages and the canonical form
+ * were shown, and until all that is seen was. */
 const timing = `async (at, count) => {
   const field = document.querySelector("#score");
-  const times = [];
+  const canonical = document.querySelector("#canonical");
+  const times = { answers: [], all: [] };
   for (let i = 0; i < count; i++) {
     const begin = performance.now();
+    const answered = new MutationObserver(() => {
+      times.answers.push(Math.round(performance.now() - begin));
+      answered.disconnect();
+    });
+    answered.observe(canonical, { childList: true });
     field.setRangeText("f", at, at, "end");
     field.dispatchEvent(new Event("input"));
     await (${settled})();
     await new Promise((resolve) => requestAnimationFrame(() => setTimeout(resolve)));
-    times.push(Math.round(performance.now() - begin));
+    times.all.push(Math.round(performance.now() - begin));
   }
-  return times.sort((a, b) => a - b);
+  for (const it of Object.values(times)) it.sort((a, b) => a - b);
+  return times;
 }`;
+
+/** Returns the rows of a picture in the page, and those of the picture `svg`, each with how far it is below the top, once there are as many of these as of those. */
+async function rowsBeside(svg) {
+  const wanted = [...new DOMParser().parseFromString(svg, "image/svg+xml").querySelectorAll(".row")];
+  const found = () => [...document.querySelectorAll("#own-picture .row")];
+  for (let left = 400; left > 0 && found().length !== wanted.length; left -= 1) await new Promise((resolve) => setTimeout(resolve, 10));
+  const written = (row, down) => {
+    const it = row.cloneNode(true);
+    for (const marked of it.querySelectorAll(".here")) marked.classList.remove("here");
+    const right = /\((\d+),/.exec(it.getAttribute("transform"))[1];
+    it.setAttribute("transform", `${right} ${down}`);
+    return new XMLSerializer().serializeToString(it);
+  };
+  const width = Number(/viewBox="0 0 (\d+)/.exec(svg)[1]);
+  const downIn = (row) => Math.round((parseFloat(row.parentElement.style.marginTop) * width) / 100);
+  const downOf = (row) => Number(/,(\d+)/.exec(row.getAttribute("transform"))[1]);
+  return [found().map((it) => written(it, downIn(it))), wanted.map((it) => written(it, downOf(it)))];
+}
 
 /** Keeps what the policy of a page refuses. */
 function watchPolicy() {
@@ -122,9 +148,16 @@ export class Page {
     return this.run(editing, edits);
   }
 
-  /** Returns how many milliseconds each of `count` keys took at this unit of the score, in order. */
+  /** Returns how many milliseconds each of `count` keys took at this unit of the score: until the messages were shown, and until all was, both in order. */
   times(at, count) {
     return this.run(timing, at, count);
+  }
+
+  /** The page shows the rows of the picture `svg`. */
+  async assertRows(svg) {
+    // The policy of the page refuses a style, even of what is only parsed.
+    const [shown, wanted] = await this.run(rowsBeside, svg.replace(/<style>[^<]*<\/style>/, ""));
+    assert.deepEqual(shown, wanted);
   }
 
   async press(keys, held) {
@@ -181,7 +214,7 @@ export class Page {
     throw new Error(`${name} was not opened`);
   }
 
-  /** Returns a file that was saved, once it has so many bytes. */
+  /** Returns a file that was saved, once it has `length` bytes. */
   async saved(name, length) {
     const path = join(this.browser.folder, name);
     for (let left = 200; left > 0; left -= 1) {

@@ -15,9 +15,9 @@ Ky(f)ri(//)
 
 `lint`, `fix`, `format_text`, `draw` and `index` do what the commands do (`gregorio_chant.calls`).
 `Run` takes a score in pieces. `tree` returns all that was read of a score, and what was left out,
-with the bytes of each. `gregorio_chant.dump` reads a score into objects, each with its place; the
-command `gregorio-chant` checks and formats files. The answers of `compile`, `check` and `Run` are
-proved; the rest of the package is tested.
+with the bytes of each, and `picture` draws a score. `gregorio_chant.dump` reads a score into
+objects, each with its place; the command `gregorio-chant` checks and formats files. The answers of
+`compile`, `check` and `Run` are proved; the rest of the package is tested.
 """
 from __future__ import annotations
 
@@ -35,6 +35,7 @@ if TYPE_CHECKING:
         Report,
         Result,
         RunOverError,
+        ShownMessages,
         StateError,
         Status,
         Step,
@@ -43,6 +44,7 @@ if TYPE_CHECKING:
     from gregorio_chant._native.trees import tree
     from gregorio_chant.calls import draw, fix, format_text, index, lint
     from gregorio_chant.errors import GregorioError, UsageError
+    from gregorio_chant.pictures.alone import picture
     from gregorio_chant.work.settings import Settings
 
     __version__: str
@@ -53,11 +55,13 @@ _NAMES = {
     "_native.library": "check compile",
     "_native.node_kinds": "NodeKind",
     "_native.nodes": "Node Tree",
-    "_native.results": "Format Kind Message Report Result RunOverError StateError Status Step",
+    "_native.results": "Format Kind Message Report Result RunOverError ShownMessages StateError"
+    " Status Step",
     "_native.runs": "Limits Run pieces",
     "_native.trees": "tree",
     "calls": "draw fix format_text index lint",
     "errors": "GregorioError UsageError",
+    "pictures.alone": "picture",
     "work.settings": "Settings",
 }
 _MODULES = {name: module for module, names in _NAMES.items() for name in names.split()}
@@ -74,6 +78,7 @@ __all__ = [
     "Run",
     "RunOverError",
     "Settings",
+    "ShownMessages",
     "StateError",
     "Status",
     "Step",
@@ -86,6 +91,7 @@ __all__ = [
     "format_text",
     "index",
     "lint",
+    "picture",
     "pieces",
     "tree",
 ]

@@ -117,12 +117,13 @@ def format_text(text: Text, settings: Settings = Settings()) -> FormattedText:
 
 def draw(text: Text, width: float = USUAL_WIDTH, settings: Settings = Settings()) -> DrawnScore:
     """Returns a picture of a score, this many pixels wide, with what `lint` reports of it."""
-    from gregorio_chant import picture
+    from gregorio_chant.pictures.drawing import draw as drawn
+    from gregorio_chant.pictures.look import Look
 
     data = bytes(bytes_of(text))
     compiled = Compiled(data)
     told = told_of(compiled, settings.selection(STDIN), settings.rules is True)
-    made = picture.draw(compiled, told.messages, look=picture.Look(width=width))
+    made = drawn(compiled, told.messages, look=Look(width=width))
     return DrawnScore(made.name, made.svg)
 
 

@@ -14,12 +14,15 @@ from pathlib import Path
 from typing import Any
 from xml.etree import ElementTree as Xml
 
+from drawn import HOSTILE, KINDS
 from support import EXAMPLES, FAULTY, SCORE, InFolder, command, has, scores_of_tables
 from test_font import GRECILIAE
-from test_picture import HOSTILE, KINDS
 
-from gregorio_chant.picture import OWN, Face, Look, draw
-from gregorio_chant.picture.page import leading_to
+from gregorio_chant.pictures.drawing import draw
+from gregorio_chant.pictures.look import Look
+from gregorio_chant.pictures.outlines import SQUARE, Face
+from gregorio_chant.pictures.page import leading_to
+from gregorio_chant.pictures.plain import PlainFace
 
 
 def browser() -> Any:
@@ -542,14 +545,15 @@ class ByConverter(InFolder):
     def test_pictures(self) -> None:
         """rsvg-convert makes each picture to PNG with no warning, at 100 and at 300 dots per
         inch."""
-        self.convert_all(OWN, scores_of_tables()[::10])
+        self.convert_all(SQUARE, scores_of_tables()[::10])
+        self.convert_all(PlainFace(), [])
 
     @unittest.skipUnless(
         has("fontTools") and GRECILIAE.exists(), "there is no fontTools, or no Greciliae"
     )
     def test_font(self) -> None:
         """So it does with the outlines of a font, for each example and neume."""
-        from gregorio_chant.picture.font import face_of
+        from gregorio_chant.pictures.font import face_of
 
         self.convert_all(face_of(str(GRECILIAE)), [])
 

@@ -10,22 +10,21 @@ from pathlib import Path
 from typing import Any
 from xml.etree import ElementTree as Xml
 
-from support import EXAMPLES, SCORE, InFolder, command, has, scores_of_tables, without
-from test_picture import KINDS, SVG, score_with
+from drawn import KINDS, SVG, groups_of, picture
+from support import EXAMPLES, SCORE, InFolder, command, has, without
 
-import gregorio_chant.picture
-from gregorio_chant.dump import Descriptor, Score
-from gregorio_chant.picture import OWN, Face, Look, draw, lay_out
-from gregorio_chant.picture.nabc import hand_of
-from gregorio_chant.picture.neumes import neume_of
-from gregorio_chant.picture.symbols import square_face, table
-from gregorio_chant.picture.values import Rect, height_of, step_of
+import gregorio_chant.pictures
+from gregorio_chant.pictures.drawing import draw
+from gregorio_chant.pictures.glyphs import glyph_of
+from gregorio_chant.pictures.look import Look
+from gregorio_chant.pictures.outlines import SQUARE, Face, Outlines, table
+from gregorio_chant.pictures.plain import PlainFace
 
 GRECILIAE = Path(
     os.environ.get("GREGORIO_FONT")
     or "/usr/share/texlive/texmf-dist/fonts/truetype/public/gregoriotex/greciliae.ttf"
 )
-SYMBOLS = Path(gregorio_chant.picture.__file__).with_name("symbols")
+SYMBOLS = Path(gregorio_chant.pictures.__file__).with_name("symbols")
 # The glyphs of the small font: how far each goes down and up, and its width. A step has 100 units,
 # and the middle of a first note is at 50.
 _GLYPHS = {
@@ -85,26 +84,13 @@ class SmallFont(InFolder):
         make_font("small.ttf", _GLYPHS)
 
     def face(self) -> Face:
-        from gregorio_chant.picture.font import face_of
+        from gregorio_chant.pictures.font import face_of
 
         return face_of("small.ttf")
 
-    def signs(self, notes: str) -> list[tuple[str, float, float]]:
-        """Returns the shapes of the second syllable with their places."""
-        blocks = (
-            lay_out(score_with(notes).syllables, 700.0, face=self.face())[0].parts[1].part.blocks
-        )
-        left = blocks[0][0]
-        return [
-            (it.shape, round(at - left + it.x, 2), it.y)
-            for at, block in blocks
-            for it in block.signs
-            if not isinstance(it, Rect)
-        ]
-
     def test_outlines(self) -> None:
-        """A neume that the font has is one outline, in the units of the picture and each once;
-        others are put together of its heads, or of the project's."""
+        """What the font has is one outline, in the units of the picture, as wide as the package's
+        and each once; what it lacks is the package's."""
         self.put("a.gabc", "name: x;\n%%\n(c4) a(fg) b(gf) c(fv) d(fg) e(fgh) f(fr) g(ix)\n")
         ran = command("show", "--svg", "--font", "small.ttf", "a.gabc")
         self.assertEqual((ran.returncode, ran.stderr), (0, b""))
@@ -112,48 +98,23 @@ class SmallFont(InFolder):
         shapes = {it.get("id"): it.get("d") for it in root.iter(f"{SVG}path") if it.get("id")}
         self.assertEqual(
             set(shapes),
-            {
-                "PesOneNothing",
-                "FlexusOneNothing",
-                "Virga",
-                "punctum",
-                "punctum-under",
-                "punctum-over",
-                "cavum",
-                "c-clef",
-                "flat",
-            },
+            {"pes-100", "clivis-100", "virga", "scandicus-110", "cavum", "c-clef", "flat"},
         )
-        self.assertEqual(shapes["PesOneNothing"], "M0 2.5V-7.5H6V2.5Z")
-        self.assertEqual(shapes["punctum"], "M0 2.5V-2.5H6V2.5Z")
-        self.assertEqual(shapes["c-clef"], "M0 10V-10H6V10Z")
-        used = [it.get("href") for it in root.iter(f"{SVG}use")]
-        self.assertEqual(
-            (used.count("#PesOneNothing"), used.count("#FlexusOneNothing"), used.count("#punctum")),
-            (2, 1, 1),
-        )
-        self.assertEqual(root.find(f"{SVG}metadata").text, "Neumes: outlines of the font Small </metadata>\nVersion 7\nFree & <open>")  # type: ignore[union-attr]
-        self.assertIsNone(
-            Xml.fromstring(command("show", "--svg", "--face", "plain", "a.gabc").stdout).find(
-                f"{SVG}metadata"
+        for name, down, up in (("pes-100", "2.5", "-7.5"), ("c-clef", "10", "-10")):
+            width = f"{SQUARE.outline(name).width:g}"
+            self.assertEqual(shapes[name], f"M0 {down}V{up}H{width}V{down}Z")
+        for name in ("scandicus-110", "cavum"):
+            self.assertEqual(shapes[name], SQUARE.outline(name).path)
+        told = root.findtext(f"{SVG}metadata") or ""
+        self.assertTrue(
+            told.startswith(
+                "Neumes: outlines of the font Small </metadata>\nVersion 7\nFree & <open>\n"
             )
         )
         page = command("show", "--font", "small.ttf", "a.gabc").stdout.decode()
         self.assertEqual(
-            (page.count('id="p1-PesOneNothing"'), page.count("Free &amp; &lt;open&gt;")), (1, 2)
+            (page.count('id="p1-pes-100"'), page.count("Free &amp; &lt;open&gt;")), (1, 2)
         )
-
-    def test_places(self) -> None:
-        self.assertEqual(self.signs("fg"), [("PesOneNothing", 0.0, height_of(2))])
-        self.assertEqual(
-            self.signs("gfE"),
-            [("FlexusOneNothing", 0.0, height_of(3)), ("inclinatum", 11.8, height_of(1))],
-        )
-        self.assertEqual(
-            self.signs("go hg"),
-            [("AscendensOriscus", 0.0, height_of(3)), ("FlexusOneNothing", 16.0, height_of(4))],
-        )
-        self.assertEqual(self.signs("go f")[0], ("DescendensOriscus", 0.0, height_of(3)))
 
     def test_refused(self) -> None:
         """What is no such font is refused before anything is written; one that is damaged ends with
@@ -190,60 +151,55 @@ class SmallFont(InFolder):
 class Square(unittest.TestCase):
     """The face that comes with the package."""
 
-    face = OWN
+    face: Face = SQUARE
 
-    @classmethod
-    def setUpClass(cls) -> None:
-        cls.face = square_face()
-
-    def test_kinds(self) -> None:
-        """Each neume has a head for each note, at its height and within the neume."""
-        scores = [
-            *scores_of_tables(),
-            f"name: x;\n%%\n(c4) a({' '.join(KINDS.values()).replace('wg', 'fwg')})\n".encode(),
-        ]
-        seen: set[str] = set()
-        for score in scores:
-            try:
-                syllables = Score.parse(score).syllables
-            except ValueError:
-                continue
-            for glyph in (it for syllable in syllables for it in syllable.glyphs):
-                neume = neume_of(glyph, self.face)
-                seen |= {it.shape for it in neume.signs if not isinstance(it, Rect)}
-                self.assertEqual(
-                    [(it.note, it.y) for it in neume.heads],
-                    [(it, height_of(step_of(it.pitch))) for it in glyph.notes],
-                )
-                for it in neume.heads:
-                    self.assertTrue(
-                        -0.01 <= it.x and it.x + it.width <= neume.width + 0.01,
-                        (glyph.spelling, it),
-                    )
-        for name in (
-            "PesOneNothing",
-            "FlexusTwoNothing",
-            "TorculusOneOneNothing",
-            "PorrectusOneOneNothing",
-            "QuilismaPesOneNothing",
-            "Virga",
-            "VirgaReversa",
-        ):
-            self.assertIn(name, seen)
+    def test_all_outlines(self) -> None:
+        """Each outline is an element by its name, and is as wide in each face."""
+        for name in {*table("square"), *table("own")}:
+            root = Xml.fromstring(self.face.element(name, "x"))
+            self.assertEqual(root.get("id"), "x")
+            paths = [it for it in root.iter() if it.tag == "path"]
+            self.assertGreater(len(paths), 0)
+            self.assertAlmostEqual(
+                self.face.outline(name).width, SQUARE.outline(name).width, 2, name
+            )
 
     def test_licence(self) -> None:
         svg = draw((EXAMPLES / "kyrie.gabc").read_bytes(), look=Look(face=self.face)).svg
-        self.assertRegex(svg, "(?s)<metadata>.*SIL Open Font License.*</metadata>")
-        self.assertEqual(
-            [it for it, count in _counts(re.findall(r'<path id="([^"]*)"', svg)) if count > 1], []
-        )
+        self.assertRegex(svg, "(?s)<metadata>.*(SIL Open Font License|MIT).*</metadata>")
+        ids = re.findall(r' id="([^"]*)"', svg)
+        self.assertEqual(len(ids), len(set(ids)))
 
-    def test_examples(self) -> None:
-        """Each example is drawn, within the lines."""
-        for it in sorted(EXAMPLES.glob("*.gabc")):
-            for line in lay_out(Score.parse(it.read_bytes()).syllables, 320.0, face=self.face):
-                for placed in line.parts:
-                    self.assertLessEqual(placed.x + placed.part.right, line.width + 0.01, it.name)
+    def test_kinds(self) -> None:
+        """Each kind of neume is drawn, in outlines that the picture has."""
+        notes = " ".join(KINDS.values()).replace("wg", "fwg")
+        root = Xml.fromstring(picture(f"name: x;\n%%\n(c4) a({notes})\n", Look(face=self.face)))
+        held = {it.get("id") for it in root.iter() if it.get("id")}
+        used = {it.get("href", "")[1:] for it in root.iter(f"{SVG}use")}
+        self.assertLessEqual(used, held)
+        self.assertGreater(len(used), 40)
+
+
+class Plain(Square):
+    """The project's own shapes."""
+
+    face = PlainFace()
+
+    def test_put_together(self) -> None:
+        """A neume has a head for each note, and what joins them."""
+        for name, count, lines in (
+            ("pes-100", 2, 0),
+            ("pes-200", 2, 1),
+            ("clivis-100", 2, 2),
+            ("torculus-110", 3, 2),
+            ("porrectus-110", 4, 1),
+            ("virga", 1, 1),
+            ("linea-punctum", 1, 2),
+            ("punctum-ascendens", 2, 0),
+        ):
+            root = Xml.fromstring(self.face.element(name, "x"))
+            found = len(root.findall("path")), len(root.findall("rect"))
+            self.assertEqual(found, (count, lines), name)
 
 
 @unittest.skipUnless(
@@ -254,19 +210,14 @@ class Greciliae(Square):
 
     @classmethod
     def setUpClass(cls) -> None:
-        from gregorio_chant.picture.font import face_of
+        from gregorio_chant.pictures.font import face_of
 
         cls.face = face_of(str(GRECILIAE))
 
     def test_same_outlines(self) -> None:
         """What the package has of the font is as the font has it, within a hundredth of a unit."""
-        for name in (
-            "PesOneNothing",
-            "DescendensPunctumInclinatum",
-            "CClef",
-            "PorrectusTwoOneNothing",
-        ):
-            ours, theirs = square_face().shapes[name], self.face.shapes[name]
+        for name in ("pes-100", "inclinatum", "c-clef", "porrectus-210"):
+            ours, theirs = SQUARE.outline(name), self.face.outline(name)
             for here, there in zip(ours[1:], theirs[1:]):
                 self.assertAlmostEqual(float(here), float(there), 1)
             self.assertEqual(_ends(ours.path), _ends(theirs.path), name)
@@ -313,7 +264,7 @@ class Tables(unittest.TestCase):
             self.assertGreater(len(names), 200)
             self.assertEqual(len(names), len(set(names)))
             for it in names:
-                shape = symbols.shape(it)
+                shape = symbols.outline(it)
                 assert shape is not None
                 self.assertRegex(shape.path, r"^m[-0-9. mlhvqcz]+z$", it)
                 ys = [y / 10 for _, y in _ends(shape.path)]
@@ -321,93 +272,51 @@ class Tables(unittest.TestCase):
                     -shape.up - 0.2 <= min(ys) and max(ys) <= shape.down + 0.2, (name, it)
                 )
         self.assertIn("SIL OPEN FONT LICENSE", (SYMBOLS / "OFL.txt").read_text())
-        self.assertIsNone(table("square").shape("none"))
+        self.assertIsNone(table("square").outline("none"))
+        self.assertTrue(all(glyph_of(it) for it in table("square")))
 
 
 class Hands(unittest.TestCase):
     def neumes(self, nabc: str, hand: str = "auto") -> tuple[list[str], list[str]]:
         """Returns the outlines and the texts over the staff of a syllable with this NABC."""
-        svg = draw(
-            f"name: x;\nnabc-lines: 1;\n%%\n(c4) a(f) b(fg|{nabc})\n".encode(),
-            (),
-            look=Look(hand=hand),
-        ).svg
-        root = Xml.fromstring(svg)
-        (group,) = [it for it in root.iter(f"{SVG}g") if it.get("id") == "s3"]
-        texts = [it.text or "" for it in group.iter(f"{SVG}text") if it.get("font-size") == "9"]
-        return [
-            (it.get("href") or "")[1:]
-            for nabc in group.iter(f"{SVG}g")
-            if nabc.get("class") == "nabc"
-            for it in nabc.iter(f"{SVG}use")
-        ], texts
+        score = f"name: x;\nnabc-lines: 1;\n%%\n(c4) a(f) b(fg|{nabc})\n"
+        svg = draw(score.encode(), (), look=Look(hand=hand)).svg
+        group = groups_of(Xml.fromstring(svg))[2]
+        texts = [it.text or "" for it in group.iter(f"{SVG}text") if it.get("font-size") != "1600"]
+        uses = [it for it in group.iter(f"{SVG}use") if it.get("class") == "nabc"]
+        return [(it.get("href") or "")[1:] for it in uses], texts
 
     def test_outlines(self) -> None:
-        """A descriptor is one outline if there is one, else its glyph with points and letters
-        around it; what the hand lacks is its text."""
-        for nabc, wanted in (
+        """A descriptor is drawn in the hand of St. Gall; what that lacks is its text."""
+        for nabc, drawn in (
             ("vi", ["stgall-vi"]),
             ("cl-", ["stgall-clN"]),
             ("pe>", ["stgall-peB"]),
-            ("ci~", ["stgall-ciT"]),
             ("vi/cl", ["stgall-vi", "stgall-cl"]),
-            ("toppt1lsc3", ["stgall-ppt1", "stgall-to", "stgall-lsc"]),
-            ("vi!cl-", []),
-            ("xx", []),
         ):
-            drawn, texts = self.neumes(nabc)
-            if wanted:
-                self.assertEqual((drawn, texts), (wanted, []), nabc)
-            else:
-                self.assertEqual((drawn, texts), ([], [nabc]))
+            self.assertEqual(self.neumes(nabc), (drawn, []), nabc)
+        self.assertEqual(self.neumes("sa>1"), ([], ["sa>1"]))
 
     def test_hands(self) -> None:
+        """Another hand is drawn if it is asked for, as far as it has outlines; as text NABC stands
+        as it is spelled."""
         self.assertEqual(self.neumes("un"), (["laon-un"], []))
         self.assertEqual(self.neumes("vi", "laon"), (["laon-vi"], []))
         self.assertEqual(self.neumes("vi", "modern"), (["modern-vi"], []))
-        self.assertEqual(self.neumes("vi", "text"), ([], ["vi"]))
+        self.assertEqual(self.neumes("un", "stgall")[0], ["laon-un"])
+        self.assertEqual(self.neumes("vi/cl>", "text"), ([], ["vi/cl>"]))
+        self.assertEqual(self.neumes("vi/sa>1", "text"), ([], ["vi/sa>1"]))
 
-    def test_letters_stand_around(self) -> None:
-        """Each of the places around a glyph is another one, on the side that its number says."""
-        hand = hand_of("stgall", None)
-        for number in (1, 2, 3, 4, 6, 7, 8, 9):
-            score = Score.parse(f"name: x;\nnabc-lines: 1;\n%%\n(c4) b(fg|grlsal{number})\n")
-            descriptor = score.syllables[1].snippets[1].items[0]
-            assert isinstance(descriptor, Descriptor)
-            composed = hand.composed(descriptor)
-            assert composed is not None
-            glyph, letter = composed.signs
-            row, column = divmod(number - 1, 3)
-            self.assertEqual(
-                (letter.x > glyph.x) - (letter.x < glyph.x),
-                column - 1 if column != 1 else (letter.x > glyph.x) - (letter.x < glyph.x),
-                number,
-            )
-            middle = letter.y + (hand.shapes[letter.shape].down - hand.shapes[letter.shape].up) / 2
-            own = glyph.y + (hand.shapes[glyph.shape].down - hand.shapes[glyph.shape].up) / 2
-            self.assertEqual(
-                round((middle - own) / 2.0) * 1.0 if row == 1 else (middle > own) - (middle < own),
-                row - 1,
-                number,
-            )
+    def test_titles(self) -> None:
+        """NABC has its spelling and its names as a title."""
+        svg = draw(b"name: x;\nnabc-lines: 1;\n%%\n(c4) b(fg|vi)\n").svg
+        (nabc,) = [it for it in Xml.fromstring(svg).iter(f"{SVG}g") if it.get("class") == "nabc"]
+        self.assertEqual(nabc.findtext(f"{SVG}title"), "vi: virga")
 
-    def test_rows(self) -> None:
-        """Rows of NABC stand over each other and over the notes, and none on another one."""
-        score = "name: x;\nnabc-lines: 2;\n%%\n(c4) a(m|vilsal2|to) b(f|cllsc8|vi)\n"
-        (line,) = lay_out(Score.parse(score).syllables, 400.0, hand=hand_of("stgall", None))
-        first, second = line.rows
-        neumes = [
-            it for placed in line.parts for _, block in placed.part.blocks for it in block.neumes
-        ]
-        self.assertLess(first + max(it.down for it in neumes if it.row == 1), height_of(9))
-        self.assertLess(
-            second + max(it.down for it in neumes if it.row == 2),
-            first - max(it.up for it in neumes if it.row == 1),
-        )
-
-
-def _counts(names: list[str]) -> list[tuple[str, int]]:
-    return [(it, names.count(it)) for it in set(names)]
+    def test_names(self) -> None:
+        self.assertEqual(Outlines(hand="laon").named("stgall-vi"), "laon-vi")
+        self.assertEqual(Outlines(hand="laon").named("punctum"), "punctum")
+        self.assertIn("gregall", Outlines().origins(["stgall-vi"]))
 
 
 if __name__ == "__main__":

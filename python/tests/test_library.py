@@ -19,7 +19,7 @@ from gregorio_chant.objects import score as score_module
 # The modules that stand on packages which need not be there.
 _NEEDED = {
     "gregorio_chant.export.midi": "mido",
-    "gregorio_chant.picture.font": "fontTools",
+    "gregorio_chant.pictures.font": "fontTools",
     "gregorio_chant.report.terminal": "rich",
     "gregorio_chant.show.watching": "watchdog",
     "gregorio_chant.web.app": "starlette",

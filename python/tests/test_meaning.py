@@ -1,174 +1,132 @@
 """Compares pictures with what the compiler reads, for the scores of the repository at three widths:
-each note once, at its height, in order, with its signs; clefs, alterations, bars and custodes; no
-text over a text, no head over a head, and nothing beyond the edges."""
+each syllable once, in order, with its clefs, alterations, custodes, and signs of notes; no text
+over a text, no head over a head, and nothing beyond the edges. `test_picture` looks at the
+heads."""
 from __future__ import annotations
 
 import itertools
 import unittest
 from collections.abc import Iterator
 
+from drawn import THIN, Sign, height_of, rows_of, signs_of, texts_in
 from support import EXAMPLES
 
-from gregorio_chant.dump import Alteration, Bar, Clef, Custos, NabcSnippet, Note, Score, Syllable
-from gregorio_chant.picture import OWN, Face, lay_out
-from gregorio_chant.picture.episemata import ICTUS, THIN
-from gregorio_chant.picture.layout import staff_lines
-from gregorio_chant.picture.nabc import hand_of
-from gregorio_chant.picture.symbols import square_face
-from gregorio_chant.picture.values import Line, Part, Rect, Use, height_of, step_of
+from gregorio_chant.dump import Alteration, Bar, Clef, Custos, NabcSnippet, Score, Syllable
+from gregorio_chant.pictures.alone import MARGIN
+from gregorio_chant.pictures.outlines import Outlines
+from gregorio_chant.pictures.sheet import Group, Row, heads
 from gregorio_chant.rhythm import episemata_of, morae_of
 
-WIDTHS = (336.0, 676.0, 1176.0)
-_SIGNS = ("flat", "natural", "sharp")
-
-
-def _signs(parts: list[Part]) -> Iterator[Use | Rect]:
-    for part in parts:
-        for x, block in part.blocks:
-            for sign in block.signs:
-                yield sign.moved(x)
+WIDTHS = (360.0, 700.0, 1200.0)
+_ALTERATIONS = ("flat", "natural", "sharp")
+_ICTUS = 440
 
 
 class Meaning(unittest.TestCase):
     def test_scores(self) -> None:
-        """All of it, in both faces."""
         seen = 0
         for file in sorted(EXAMPLES.glob("*.gabc")):
-            score = Score.parse(file.read_bytes())
-            for width, face in itertools.product(WIDTHS, (OWN, square_face())):
-                with self.subTest(file.name, width=width, face=face.origin[:12]):
-                    lines = lay_out(
-                        score.syllables,
-                        width,
-                        staff_lines(score.header("staff-lines")),
-                        face,
-                        hand_of("auto", None),
-                    )
-                    seen += self.look_at(score, lines, face)
-        self.assertGreater(seen, 1500)
+            data = file.read_bytes()
+            score = Score.parse(data)
+            for width in WIDTHS:
+                with self.subTest(file.name, width=width):
+                    rows = rows_of(data, width)
+                    self.look_at(score, rows, round(100 * width) - 2 * MARGIN)
+                    seen += len(score.notes)
+        self.assertGreater(seen, 700)
 
-    def look_at(self, score: Score, lines: list[Line], face: Face) -> int:
-        """Compares the lines of a score, and returns how many notes there are."""
-        parts: dict[int, list[Part]] = {}
-        for line in lines:
-            for placed in line.parts:
-                parts.setdefault(placed.part.syllable.number, []).append(placed.part)
-            self.look_at_line(line)
-        self.assertEqual(
-            list(parts), [it.number for it in score.syllables], "each syllable once, in order"
-        )
+    def look_at(self, score: Score, rows: tuple[Row, ...], width: int) -> None:
+        """Compares the rows of a score, whose staves end at `width`."""
+        groups: dict[int, list[Group]] = {}
+        for row in rows:
+            for group in row.groups:
+                if group.end:
+                    groups.setdefault(group.begin, []).append(group)
+            self.look_at_row(row, width)
+        begins = [it.node.begin for it in score.syllables]
+        self.assertEqual(list(groups), begins, "each syllable once, in order")
         for syllable in score.syllables:
-            self.look_at_syllable(syllable, parts[syllable.number])
-        self.look_at_custodes(lines)
-        return len(score.notes)
+            self.look_at_syllable(syllable, groups[syllable.node.begin])
+        self.look_at_custodes(rows)
 
-    def look_at_syllable(self, syllable: Syllable, parts: list[Part]) -> None:
-        heads = [y for part in parts for _, block in part.blocks for _, y, _ in block.heads]
-        self.assertEqual(
-            heads, [height_of(step_of(it.pitch)) for it in syllable.notes], syllable.spelling
-        )
-        uses = [it for it in _signs(parts) if isinstance(it, Use)]
-        rects = [it for it in _signs(parts) if isinstance(it, Rect)]
-        items = syllable.items
+    def look_at_syllable(self, syllable: Syllable, groups: list[Group]) -> None:
+        signs = [it for group in groups for it in signs_of(group.content)]
+        items, notes, spelling = syllable.items, syllable.notes, syllable.spelling
         clefs = [
-            it
+            (f"{it.letter}-clef", -1000 * (it.line - 1))
             for item in items
             if isinstance(item, Clef)
             for it in (item, item.second)
             if it is not None
         ]
+        drawn = [(it.name, it.y) for it in signs]
+        self.assertEqual([it for it in drawn if it[0].endswith("-clef")], clefs)
+        altered = [(it.sign, height_of(it.pitch)) for it in items if isinstance(it, Alteration)]
+        self.assertLessEqual(set(altered), {it for it in drawn if it[0] in _ALTERATIONS}, spelling)
+        custodes = [it.pitch for it in items if isinstance(it, Custos)]
+        found = [it.y for it in signs if it.name.startswith("custos")]
         self.assertEqual(
-            [(it.shape, it.y) for it in uses if it.shape.endswith("-clef")],
-            [(f"{it.letter}-clef", height_of(2 * it.line - 2)) for it in clefs],
+            [y for y, pitch in zip(found, custodes) if pitch],
+            [height_of(it) for it in custodes if it],
         )
-        altered = [
-            (it.sign, height_of(step_of(it.pitch))) for it in items if isinstance(it, Alteration)
-        ]
-        self.assertTrue(
-            set(altered) <= {(it.shape, it.y) for it in uses if it.shape in _SIGNS},
-            syllable.spelling,
-        )
-        custodes = [it for it in uses if it.shape.startswith("custos")]
-        wanted = [it for it in items if isinstance(it, Custos)]
-        self.assertEqual(
-            [it.y for it, item in zip(custodes, wanted) if item.pitch],
-            [height_of(step_of(it.pitch)) for it in wanted if it.pitch],
-        )
-        notes = syllable.notes
-        self.assertEqual(
-            sum(it.shape == "mora" for it in uses), sum(self.morae(syllable)), syllable.spelling
-        )
+        morae = sum(sum(morae_of(it.notes)) for it in syllable.glyphs)
+        self.assertEqual(sum(it.name == "mora" for it in signs), morae, spelling)
         bars = [it for it in items if isinstance(it, Bar)]
+        rects = [it for it in signs if not it.name]
         self.assertEqual(
-            sum((it.width, it.height) == (THIN, ICTUS) for it in rects),
+            sum((it.width, it.height) == (THIN, _ICTUS) for it in rects),
             sum(it.ictus is not None for it in notes) + sum(it.has_ictus for it in bars),
-            syllable.spelling,
+            spelling,
         )
-        covered = episemata_of(items)
-        self.assertEqual(any(it.height == THIN for it in rects), bool(covered), syllable.spelling)
-        nabc = [it for part in parts for _, block in part.blocks for it in block.neumes]
-        self.assertEqual(
-            len(nabc),
-            sum(
-                isinstance(it, NabcSnippet) and bool(it.spelling.strip())
-                for it in syllable.snippets
-            ),
-            syllable.spelling,
-        )
+        covered = bool(episemata_of(items))
+        self.assertEqual(any(it.height == THIN for it in rects), covered, spelling)
+        nabc = any(isinstance(it, NabcSnippet) and it.spelling.strip() for it in syllable.snippets)
+        self.assertEqual(any(_is_nabc(it) for it in groups), nabc, spelling)
 
-    @staticmethod
-    def morae(syllable: Syllable) -> Iterator[int]:
-        """Yields how many morae each neume of a syllable has."""
-        for glyph in syllable.glyphs:
-            yield sum(morae_of(glyph.notes))
-
-    def look_at_line(self, line: Line) -> None:
+    def look_at_row(self, row: Row, width: int) -> None:
         """Looks at what stands beside each other."""
-        heads: list[tuple[float, float, float]] = []
-        text = line.indent - 1.0
-        for placed in line.parts:
-            part = placed.part
-            heads += [
-                (placed.x + x + left, y, width)
-                for x, block in part.blocks
-                for left, y, width in block.heads
-            ]
-            if part.has_text:
-                self.assertGreaterEqual(
-                    placed.x + part.text_left, text - 0.05, "a text over a text"
-                )
-                text = placed.x + part.text_right
-        self.assertLessEqual(text, line.width + 0.05)
-        for x, _, width in heads:
-            self.assertTrue(
-                line.indent <= x + 0.05 and x + width <= line.width + 0.05,
-                "a head beyond the staff",
-            )
-        for (x, y, width), (other, at, _) in itertools.pairwise(sorted(heads)):
-            self.assertTrue(
-                abs(y - at) > 4.0 or other - x >= min(width, 3.5) - 0.05, "a head over a head"
-            )
+        outlines = Outlines()
+        lines: dict[int, list[tuple[int, int]]] = {}
+        found = []
+        for group in row.groups:
+            for x, y, long, _ in texts_in(group.content):
+                lines.setdefault(y, []).append((group.x + x, group.x + x + long))
+            for head in heads(group.content, outlines):
+                found.append((group.x + head.x, head.y, head.width))
+        for texts in lines.values():
+            for (_, end), (begin, _) in itertools.pairwise(sorted(texts)):
+                self.assertGreaterEqual(begin, end - 10, "a text over a text")
+            self.assertLessEqual(max(end for _, end in texts), width + 10)
+        for x, _, long in found:
+            self.assertTrue(0 <= x and x + long <= width + 10, "a head beyond the staff")
+        for (x, y, long), (other, at, _) in itertools.pairwise(sorted(found)):
+            apart = abs(y - at) > 400 or other - x >= min(long, 350) - 10
+            self.assertTrue(apart, "a head over a head")
 
-    def look_at_custodes(self, lines: list[Line]) -> None:
-        """At the end of a line stands the custos of the next line's first note."""
-        firsts = [
-            next((it.part.first for it in line.parts if it.part.first is not None), None)
-            for line in lines
-        ]
-        for line, following in zip(lines, firsts[1:]):
-            for it in line.signs:
-                if isinstance(it, Use) and it.shape.startswith("custos"):
-                    self.assertEqual(it.y, height_of(step_of(following or "")))
+    def look_at_custodes(self, rows: tuple[Row, ...]) -> None:
+        """At the end of a row stands the custos of the next row's first note."""
+        outlines = Outlines()
+        for row, following in itertools.pairwise(rows):
+            first = next(
+                (it for group in following.groups for it in heads(group.content, outlines)), None
+            )
+            for sign in _custodes(row):
+                self.assertEqual(sign.y, first and first.y)
 
-    def test_notes_of_each_kind(self) -> None:
-        """A note that is drawn nowhere is found: this test can fail."""
-        score = Score.parse("name: x;\n%%\n(c4) a(fg)\n")
-        lines = lay_out(score.syllables, 300.0)
-        (block,) = [block for it in lines[0].parts for _, block in it.part.blocks if block.heads]
-        block.heads = block.heads[:1]
+    def test_it_can_fail(self) -> None:
+        """A score that is not the one that is drawn is found."""
+        rows = rows_of("name: x;\n%%\n(c4) a(fg.)\n")
         with self.assertRaises(AssertionError):
-            self.look_at(score, lines, OWN)
-        self.assertTrue(all(isinstance(it, Note) for it in score.notes))
+            self.look_at(Score.parse("name: x;\n%%\n(c4) a(fg)\n"), rows, 70_000)
+
+
+def _is_nabc(group: Group) -> bool:
+    """Returns whether a group has NABC, in outlines or as a text of its size."""
+    return 'class="nabc"' in group.content or 'font-size="900"' in group.content
+
+
+def _custodes(row: Row) -> Iterator[Sign]:
+    return (it for it in signs_of(row.signs) if it.name.startswith("custos"))
 
 
 if __name__ == "__main__":

@@ -18,9 +18,9 @@ from urllib.parse import urlsplit
 from xml.etree import ElementTree as Xml
 
 from asking import Asking, foreign
+from drawn import HOSTILE
 from pages import block
 from support import EXAMPLES, FAULTY, SCORE, InFolder, command, has, without
-from test_picture import HOSTILE
 from test_show import Page
 
 from gregorio_chant import Format, compile, tree

@@ -25,6 +25,14 @@ def texts(folder: str, pattern: str, comment: str) -> str:
     return re.sub(comment, "", "\n".join(files), flags=re.MULTILINE)
 
 
+def text_of_script(name: str) -> str:
+    """Returns the text of a script, and of the module of `tools/house` that it starts, if so."""
+    text = (ROOT / name).read_text(encoding="utf-8")
+    module = re.search(r'"house\.(\w+)"', text)
+    started = ROOT / "tools" / "house" / f"{module[1]}.py" if module else None
+    return text + started.read_text(encoding="utf-8") if started else text
+
+
 class Claims(unittest.TestCase):
     """A block is taken by a script of `tools`, by the name of its mark `recipe`, or by its language
     where it is fenced; by a test of the package, by its whole mark; or by none, and then the page
@@ -184,7 +192,7 @@ class Lists(unittest.TestCase):
         for name, lines in named.items():
             if name != "rt":
                 self.assertTrue(os.access(ROOT / name, os.X_OK), name)
-                text = (ROOT / name).read_text(encoding="utf-8")
+                text = text_of_script(name)
                 self.assertEqual(
                     [it for it in re.findall(r"--[a-z][a-z-]+", lines) if it not in text], [], name
                 )

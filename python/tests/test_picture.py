@@ -1,8 +1,5 @@
-"""Tries the pictures: layouts against kept values, which were looked at once as pictures; neumes
-against their notes; bad input, hostile text, sizes and times.
-
-`python test_picture.py --write` writes the kept values anew: look at the pictures first.
-"""
+"""Tries the pictures with messages: ids, titles, places and heads of syllables, messages at their
+places; bad input, hostile text, sizes and times."""
 from __future__ import annotations
 
 import doctest
@@ -11,380 +8,73 @@ import subprocess
 import sys
 import time
 import unittest
-from collections.abc import Callable, Iterable
-from pathlib import Path
+from collections.abc import Callable
 from xml.etree import ElementTree as Xml
 
-from support import EXAMPLES, ROOT, scores_of_tables
+from drawn import HOSTILE, KINDS, SVG, groups_of, height_of, picture, rows_of, text_with, texts_in
+from support import EXAMPLES, scores_of_tables
 
-import gregorio_chant.picture
+import gregorio_chant.pictures.alone
+import gregorio_chant.pictures.glyphs
+import gregorio_chant.pictures.languages
+import gregorio_chant.pictures.shown
 from gregorio_chant import check
-from gregorio_chant.dump import Glyph, Score, ScoreError, Syllable
+from gregorio_chant.dump import Score, ScoreError
 from gregorio_chant.linting.codes import CODES
-from gregorio_chant.picture import OWN, Look, draw, lay_out, picture
-from gregorio_chant.picture.languages import language_of
-from gregorio_chant.picture.layout import Layout, staff_lines
-from gregorio_chant.picture.neumes import neume_of
-from gregorio_chant.picture.shapes import SHAPES
-from gregorio_chant.picture.svg import number
-from gregorio_chant.picture.values import Line, Rect, Sign, height_of, step_of
+from gregorio_chant.pictures.drawing import draw
+from gregorio_chant.pictures.look import Look
+from gregorio_chant.pictures.names import Names
 
-LAYOUTS = ROOT / "python" / "tests" / "layouts"
-SVG = "{http://www.w3.org/2000/svg}"
 NAMES = sorted(it.stem for it in EXAMPLES.glob("*.gabc"))
-PLAIN = Look(face=OWN, hand="text")
-# The examples whose layouts are kept.
-KEPT = ("antiphon", "two-lines")
-# Every kind of neume, with notes of each.
-KINDS = {
-    "pes": "fg fh fi fj wg",
-    "clivis": "gf hf if jf",
-    "torculus": "fgf fhf fif",
-    "porrectus": "gfg hfh ifi jfk kfk",
-    "scandicus": "fgh fghi fhj",
-    "scandicus-flexus": "fghg fghih",
-    "torculus-resupinus": "fgfg fhfh",
-    "porrectus-flexus": "gfgf hfhf",
-    "torculus-resupinus-flexus": "fgfgf fhfhf",
-    "pes-subpunctis": "fgFE fhG",
-    "clivis-subpunctis": "gfED",
-    "torculus-subpunctis": "fgfED",
-    "porrectus-subpunctis": "gfgF",
-    "scandicus-subpunctis": "fghGF",
-    "pes-subpunctis-resupinus": "fgFEg",
-    "scandicus-subpunctis-resupinus": "fghGFh",
-    "climacus": "hGF hvGFE",
-    "climacus-resupinus": "hGFg",
-    "inclinata": "F FGF",
-    "scandicus-flexus-subpunctis": "fghgFE",
-    "torculus-resupinus-subpunctis": "fgfgF",
-    "punctum": "f f~ f< f> -f f. f.. f' f'1 f_ f_0 fr1 fr8",
-    "virga": "fv",
-    "virga-reversa": "fV",
-    "bivirga": "fvv",
-    "trivirga": "fvvv",
-    "stropha": "fs fs<",
-    "distropha": "fss",
-    "tristropha": "fsss",
-    "oriscus": "fo fo0",
-    "oriscus-scapus": "fO",
-    "quilisma": "fw",
-    "quilisma-quadratum": "fW",
-    "quadratum": "fq",
-    "cavum": "fr fr0",
-    "lined": "fR",
-    "linea": "f=",
-}
-HOSTILE = (
-    "name: <script>alert(1)</script> \" ' ]]> \u202e &amp;;\nannotation:"
-    ' </text><script>;\ncommentary: ]]>&lt;;\n%%\n(c4) a$<script$>b$</script$>[</svg><script>"]]>'
-    " \u202e]](fg) x\"'&y\u2066(g) <alt></title><script></alt>k(g) <v></style><script></v>e(f)"
-    ' <sp></style>\x1b\u202e</sp>(g[nv:</svg>]) <foo onclick="x">z\x01\x1b\x7f\x85(g[<script>])'
-    " <b>c(g&)\n"
-)
 
 
-def described(lines: list[Line]) -> str:
-    """Returns a layout as lines of text."""
-    written = []
-    for line in lines:
-        written.append(
-            f"line top {line.top:.1f} text {line.text:.1f} bottom {line.bottom:.1f}:"
-            f" {_signs(line.signs, 0.0)}"
-        )
-        for placed in line.parts:
-            part = placed.part
-            signs = " ".join(_signs(block.signs, placed.x + x) for x, block in part.blocks)
-            texts = "".join(
-                f" {it.text!r}@{placed.x + it.x:.1f}"
-                for it in (
-                    *part.texts,
-                    *part.above,
-                    *([part.translation] if part.translation else []),
-                )
-            )
-            nabc = "".join(
-                f" nabc{it.row} {it.words.text!r}"
-                for _, block in part.blocks
-                for it in block.neumes
-                if it.words is not None
-            )
-            written.append(
-                f"  {part.syllable.number}.{part.number} at {placed.x:.1f}:{texts}{nabc} {signs}".rstrip()
-            )
-        written.append("  hyphens" + "".join(f" {it.x:.1f}" for it in line.hyphens))
-    return "\n".join(written) + "\n"
+class Heads(unittest.TestCase):
+    """Where the heads of notes stand, for who sings the score."""
 
+    def look_at(self, score: bytes, look: Look) -> None:
+        """Each note of each syllable has a head, at its height, in order."""
+        root = Xml.fromstring(draw(score, (), look=look, names=Names(has_heads=True)).svg)
+        found: dict[str, list[list[int]]] = {}
+        for it in groups_of(root):
+            if it.get("id"):
+                heads = [
+                    list(map(int, head.split(","))) for head in it.get("data-heads", "").split()
+                ]
+                found.setdefault(it.get("id", "").partition("-")[0], []).extend(heads)
+        for syllable in Score.parse(score).syllables:
+            heads = found[f"s{syllable.number}"]
+            wanted = [height_of(it.pitch) for it in syllable.notes]
+            self.assertEqual([y for _, y, _ in heads], wanted, syllable.spelling)
+            self.assertTrue(all(width > 0 for _, _, width in heads))
 
-def _signs(signs: Iterable[Sign], x: float) -> str:
-    return " ".join(
-        (
-            f"rect@{x + it.x:.1f},{it.y:.1f},{it.width:.1f},{it.height:.1f}"
-            if isinstance(it, Rect)
-            else f"{it.shape}@{x + it.x:.1f},{it.y:.1f}"
-        )
-        for it in signs
-    )
-
-
-def layout_of(name: str, width: float) -> list[Line]:
-    score = Score.parse((EXAMPLES / f"{name}.gabc").read_bytes())
-    return lay_out(score.syllables, width, staff_lines(score.header("staff-lines")))
-
-
-def kept(name: str) -> str:
-    return described(layout_of(name, 700.0)) + "narrow\n" + described(layout_of(name, 320.0))
-
-
-def score_with(notes: str) -> Score:
-    return Score.parse(f"name: x;\n%%\n(c4) a({notes})\n")
-
-
-class Layouts(unittest.TestCase):
-    def test_kept(self) -> None:
-        """The layouts of a few examples are what was kept, at two widths."""
-        for name in KEPT:
-            with self.subTest(name):
-                self.assertEqual(kept(name), (LAYOUTS / f"{name}.txt").read_text(encoding="utf-8"))
-        self.assertEqual({it.stem for it in LAYOUTS.glob("*.txt")}, set(KEPT))
-
-    def test_nothing_overlaps(self) -> None:
-        """On each line the notes of a syllable stand right of those before it, texts too, and
-        all within the line."""
-        for name in NAMES:
-            for width in (700.0, 320.0):
-                for line in layout_of(name, width):
-                    self._look_at(line, f"{name} {width}")
-
-    def _look_at(self, line: Line, what: str) -> None:
-        notes = text = -1.0
-        for placed in line.parts:
-            part = placed.part
-            if part.blocks:
-                self.assertGreaterEqual(placed.x + part.left, notes - 0.01, what)
-                notes = placed.x + part.right
-                self.assertLessEqual(notes, line.width, what)
-            if part.has_text:
-                self.assertGreaterEqual(placed.x + part.text_left, text - 0.01, what)
-                text = placed.x + part.text_right
-                self.assertLessEqual(text, line.width + 0.01, what)
-        for hyphen in line.hyphens:
-            for placed in line.parts:
-                for it in placed.part.texts:
-                    apart = (
-                        hyphen.x + hyphen.width <= placed.x + it.x + 0.1
-                        or placed.x + it.x + it.width <= hyphen.x + 0.1
-                    )
-                    self.assertTrue(apart, f"{what}: a hyphen lies on {it.text!r}")
-
-    def test_order(self) -> None:
-        """Each syllable stands once, in order."""
-        for name in NAMES:
-            numbers = [
-                it.part.syllable.number
-                for line in layout_of(name, 320.0)
-                for it in line.parts
-                if it.part.number == 0
-            ]
-            self.assertEqual(numbers, list(range(1, len(numbers) + 1)))
-            self.assertEqual(
-                len(numbers), len(Score.parse((EXAMPLES / f"{name}.gabc").read_bytes()).syllables)
-            )
-
-    def test_custos(self) -> None:
-        """At a line's end stands the custos of the next line's first note, and the clef in force
-        stands before it."""
-        lines = lay_out(score_with("fghgf g h i (z) (f3) g(z)").syllables, 700.0)
-        lines = lay_out(
-            Score.parse(
-                "name: x;\n%%\n(c4) a(f) b(g) (z) c(j) (z-) d(e) (f3) e(f) (Z+) g(g)\n"
-            ).syllables,
-            700.0,
-        )
-        ends = [
-            [it for it in line.signs if not isinstance(it, Rect) and it.shape.startswith("custos")]
-            for line in lines
-        ]
-        self.assertEqual(
-            [[(it.shape, it.y) for it in line] for line in ends],
-            [[("custos-down", height_of(6))], [], [("custos-up", height_of(3))], []],
-        )
-        own = lay_out(Score.parse("name: x;\n%%\n(c4) a(f) (z0) (z) c(j)\n").syllables, 700.0)
-        self.assertEqual(
-            [it.shape for it in own[0].signs if not isinstance(it, Rect)],
-            [],
-            "a custos of the score stands at the end already",
-        )
-        clefs = [
-            [
-                it.shape
-                for it in line.signs
-                if not isinstance(it, Rect) and it.shape.endswith("clef")
-            ]
-            for line in lines
-        ]
-        self.assertEqual(clefs, [[], ["c-clef"], ["c-clef"], ["f-clef"]])
-
-    def test_orisci(self) -> None:
-        """An oriscus points to the next other pitch, down where there is none, or as it is told."""
-        for notes, shape in (
-            ("fo/g", ""),
-            ("fo/fo/g", ""),
-            ("fo/e", "-down"),
-            ("fo", "-down"),
-            ("fo1/e", ""),
-            ("fo0/g", "-down"),
-            ("fo/f", "-down"),
-        ):
-            drawn = [it for it in _drawn(notes) if it[0].startswith("oriscus")]
-            self.assertEqual(drawn[0][0], f"oriscus{shape}", notes)
-        lines = lay_out(Score.parse("name: x;\n%%\n(c4) a(fo) b(f) c(g)\n").syllables, 700.0)
-        self.assertIn(
-            "oriscus-down",
-            [
-                it.shape
-                for _, block in lines[0].parts[1].part.blocks
-                for it in block.signs
-                if not isinstance(it, Rect)
-            ],
-        )
-
-    def test_fusion(self) -> None:
-        """Two neumes that are fused are joined by a line."""
-        apart, fused = _block_signs("gfg/h"), _block_signs("gfg@h")
-        self.assertEqual(len(fused) - len(apart), 1)
-        (join,) = [it for it in fused if isinstance(it, Rect) and it not in apart]
-        self.assertEqual((join.y, join.height), (height_of(4), 5.0))
-        self.assertEqual(_block_signs("f@g h"), _block_signs("fg h"))
-
-    def test_staffs(self) -> None:
-        self.assertEqual(
-            [staff_lines(it) for it in (None, "2", "3", " 5 ", "6", "1", "x", "")],
-            [4, 2, 3, 5, 4, 4, 4, 4],
-        )
-
-    def test_spans(self) -> None:
-        """What is in `<nlba>` stays on one line, where there is room."""
-        for span in ("nlba", "eu"):
-            text = (
-                "(c4) "
-                + "la(f) " * 14
-                + f"<{span}>"
-                + "lu(g) " * 8
-                + f"x</{span}>(g)"
-                + " la(f)" * 14
-            )
-            lines = lay_out(Score.parse(f"name: x;\n%%\n{text}\n").syllables, 320.0)
-            self.assertGreater(len(lines), 2)
-            self.assertEqual(
-                len(
-                    [
-                        line
-                        for line in lines
-                        if any(it.part.syllable.plain.strip() == "lu" for it in line.parts)
-                    ]
-                ),
-                1,
-                span,
-            )
-
-
-class Neumes(unittest.TestCase):
     def test_kinds(self) -> None:
-        """Each kind of neume has a head for each of its notes, at its height; heads stand from
-        left to right, or one over the other."""
+        """Each kind of neume has a head for each of its notes, at its height; heads stand from left
+        to right, or one over the other."""
         for kind, all_notes in KINDS.items():
             for notes in all_notes.split():
                 with self.subTest(kind=kind, notes=notes):
-                    glyphs = [
-                        it for it in score_with(notes.replace("wg", "fwg")).syllables[1].glyphs
-                    ]
-                    self.assertEqual([it.kind for it in glyphs], [kind])
-                    self._look_at(glyphs[0])
+                    score = text_with(notes.replace("wg", "fwg")).encode()
+                    (glyph,) = Score.parse(score).syllables[1].glyphs
+                    self.assertEqual(glyph.kind, kind)
+                    self.look_at(score, Look())
+                    self.look_at_order(score)
 
-    def _look_at(self, glyph: Glyph) -> None:
-        neume = neume_of(glyph)
-        self.assertEqual([it.note for it in neume.heads], list(glyph.notes))
-        self.assertEqual(
-            [it.y for it in neume.heads], [height_of(step_of(it.pitch)) for it in glyph.notes]
-        )
-        for before, head in zip(neume.heads, neume.heads[1:]):
-            self.assertTrue(head.y < before.y if head.covers else head.x > before.x, head)
-        drawn = {(it.shape, it.y) for it in neume.signs if not isinstance(it, Rect)}
-        strokes = [it for it in drawn if it[0].startswith("porrectus")]
-        for head in neume.heads:
-            self.assertTrue(strokes or any(y == head.y for _, y in drawn), "a note has no shape")
-        for shape, y in strokes:
-            self.assertTrue(
-                any(it.y == y + 5.0 * int(shape[-1]) for it in neume.heads),
-                "a stroke ends at no note",
-            )
+    def look_at_order(self, score: bytes) -> None:
+        (group,) = groups_of(Xml.fromstring(draw(score, names=Names(has_heads=True)).svg))[1:2]
+        heads = [list(map(int, it.split(","))) for it in group.get("data-heads", "").split()]
+        for (x, y, _), (after, other, _) in zip(heads, heads[1:]):
+            self.assertTrue(after > x or after == x and other < y, heads)
 
     def test_all_scores(self) -> None:
-        """So has each neume of the tables of runs and of the examples."""
-        scores = scores_of_tables() + [(EXAMPLES / f"{name}.gabc").read_bytes() for name in NAMES]
-        kinds = set()
-        for score in scores:
-            for syllable in _syllables(score):
-                for glyph in syllable.glyphs:
-                    kinds.add(glyph.kind)
-                    self._look_at(glyph)
-        self.assertGreater(len(kinds), 15)
-
-    def test_every_shape(self) -> None:
-        """Each shape of the plain face is drawn of some notes."""
-        notes = " ".join(KINDS.values()).replace("wg", "fwg")
-        scores = [
-            (
-                f"name: x;\n%%\n(c4) a({notes} F~ Fr fr2 fr3 fr4 fr5 fr6 fr7 fr8 fx fy f# fx? kgk)"
-                " (z) (c4@f3) b(f+ k+ ` ^ , ; ;1 : :? :: ,_ :' z0)\n"
-            ),
-            "name: x;\n%%\n(c4) a(gfg hfh ifi jfj kfk)\n",
-        ]
-        used = {
-            it.get("id")
-            for score in scores
-            for it in Xml.fromstring(draw(score.encode(), look=PLAIN).svg).iter(f"{SVG}path")
-            if it.get("id")
-        }
-        self.assertEqual(used, set(SHAPES))
-
-    def test_around(self) -> None:
-        """Two dots after a clivis stand at both of its notes, none on a line; the episema of two
-        notes is one line."""
-        dots = [it for it in _drawn("gf..") if it[0] == "mora"]
-        self.assertEqual({y for _, y in dots}, {height_of(3), height_of(1)})
-        self.assertEqual(
-            {y for shape, y in _drawn("fg..") if shape == "mora"}, {height_of(3), height_of(1)}
-        )
-        self.assertEqual({y for shape, y in _drawn("f.") if shape == "mora"}, {height_of(3)})
-        self.assertEqual(len(_rects("g_f_")), len(_rects("gf")) + 1)
-
-
-def _syllables(score: bytes) -> tuple[Syllable, ...]:
-    try:
-        return Score.parse(score).syllables
-    except ScoreError:
-        return ()
-
-
-def _block_signs(notes: str) -> list[Sign]:
-    """Returns all signs of the second syllable, each from the left of its block."""
-    part = lay_out(score_with(notes).syllables, 700.0)[0].parts[1].part
-    return [it for _, block in part.blocks for it in block.signs]
-
-
-def _block(notes: str) -> tuple[Sign, ...]:
-    part = lay_out(score_with(notes).syllables, 700.0)[0].parts[1].part
-    return part.blocks[0][1].signs
-
-
-def _drawn(notes: str) -> list[tuple[str, float]]:
-    return [(it.shape, it.y) for it in _block(notes) if not isinstance(it, Rect)]
-
-
-def _rects(notes: str) -> list[Rect]:
-    return [it for it in _block(notes) if isinstance(it, Rect)]
+        """So it is with the scores of the tables of runs and with the examples, in narrow rows."""
+        examples = [(EXAMPLES / f"{it}.gabc").read_bytes() for it in NAMES]
+        for score in scores_of_tables() + examples:
+            try:
+                Score.parse(score)
+            except ScoreError:
+                continue
+            self.look_at(score, Look(width=320.0))
+            self.look_at(score, Look(width=320.0, has_initial=False))
 
 
 class Pictures(unittest.TestCase):
@@ -437,22 +127,20 @@ class Pictures(unittest.TestCase):
             group.get("id"): it.get("class")
             for group in root.iter(f"{SVG}g")
             for it in group.findall(f"{SVG}rect")
+            if it.get("class") != "staff"
         }
         self.assertEqual(fields, {"s3": "mark", "s4": "mark w"})
 
     def test_codes_stand_over_their_notes(self) -> None:
         """Characters that were left out before do not move the place of a message."""
         root = Xml.fromstring(
-            draw(b"name: x;\n%%\n(c4) a(&&&&&f g h i) b(f g&&&& h&)\n", look=PLAIN).svg
+            draw(b"name: x;\n%%\n(c4) a(&&&&&f g h i) b(f g&&&& h&)\n", names=_HEADS).svg
         )
-        codes = [
-            float(it.get("x") or 0) for it in root.iter(f"{SVG}text") if it.get("class") == "code"
-        ]
-        notes = [
-            float(it.get("x") or 0) for it in root.iter(f"{SVG}use") if it.get("href") == "#punctum"
-        ]
-        self.assertEqual(len(notes), 7)
-        self.assertEqual(codes, [notes[0]] * 5 + [notes[5]] * 4 + [notes[6]])
+        codes = [int(it.get("x", 0)) for it in root.iter(f"{SVG}text") if it.get("class") == "code"]
+        first, second = groups_of(root)[1:]
+        notes = [_places_of_heads(it) for it in (first, second)]
+        self.assertEqual([len(it) for it in notes], [4, 3])
+        self.assertEqual(codes, [notes[0][0]] * 5 + [notes[1][1]] * 4 + [notes[1][2]])
 
     def test_fatal(self) -> None:
         """What stands before a fatal fault is there, with the messages of that, and the fault at
@@ -510,11 +198,12 @@ class Pictures(unittest.TestCase):
             with self.subTest(score[:40]):
                 root = Xml.fromstring(picture(score))
                 self.assertTrue(any(it.get("id") for it in root.iter(f"{SVG}g")))
+        spelled = draw(many.encode(), (), look=Look(hand="text")).svg
         self.assertEqual(
             [
                 it.text
-                for it in Xml.fromstring(draw(many.encode(), look=PLAIN).svg).iter(f"{SVG}text")
-                if it.get("font-size") == "9"
+                for it in Xml.fromstring(spelled).iter(f"{SVG}text")
+                if it.get("font-size") == "700"
             ],
             ["vi", "pu", "ta", "cl", "vi", "pu"],
         )
@@ -552,33 +241,22 @@ class Pictures(unittest.TestCase):
             ("cc", "class", "red"),
         ):
             self.assertEqual(texts[text].get(name), value)
-        self.assertIn("ǽx", texts)
+        self.assertIn("ǽ", texts)
         self.assertIn("V", texts)
 
     def test_centre(self) -> None:
-        """The first head stands over the middle of the braces, or of the first vowel."""
+        """The first head stands over the middle of the braces, or of the first vowel, which
+        depends on the header `language`."""
 
-        def middle(text: str) -> float:
-            part = (
-                lay_out(Score.parse(f"name: x;\n%%\n(c4) {text}(f)\n").syllables, 700.0)[0]
-                .parts[1]
-                .part
-            )
-            return -part.text_left
+        def middle(text: str, language: str = "") -> float:
+            header = f"language: {language};\n" if language else ""
+            (row,) = rows_of(f"name: x;\ninitial-style: 0;\n{header}%%\n(c4) {text}(f)\n")
+            return 263 - texts_in(row.groups[1].content)[0][0]
 
-        self.assertAlmostEqual(middle("llll{l}"), 16 * 0.264 * 4.5, 1)
-        self.assertAlmostEqual(middle("llall"), 16 * (0.264 * 2 + 0.457 / 2), 1)
-        self.assertAlmostEqual(middle("qui"), 16 * (0.503 + 0.531 + 0.271 / 2), 1)
-
-    def test_centre_by_language(self) -> None:
-        """Where the first vowel is depends on the header `language`."""
-
-        def middle(text: str, language: str) -> float:
-            score = Score.parse(f"name: x;\n%%\n(c4) {text}(f)\n")
-            (line,) = Layout(score.syllables, 700.0, language=language_of(language)).lines()
-            return -line.parts[1].part.text_left
-
-        self.assertGreater(middle("praise", "English"), middle("praise", ""))
+        self.assertAlmostEqual(middle("llll{l}"), 1600 * 0.264 * 4.5, delta=30)
+        self.assertAlmostEqual(middle("llall"), 1600 * (0.264 * 2 + 0.457 / 2), delta=30)
+        self.assertAlmostEqual(middle("qui"), 1600 * (0.503 + 0.531 + 0.271 / 2), delta=30)
+        self.assertGreater(middle("praise", "English"), middle("praise"))
         self.assertGreater(middle("ia", "latin"), middle("ia", "hu"))
         self.assertEqual(middle("qui", "french"), middle("qui", "la"))
 
@@ -587,20 +265,15 @@ class Pictures(unittest.TestCase):
         root = Xml.fromstring(
             picture("name: a <x>;\ncommentary: Ps. 5 <i>s.</i>;\n%%\n(c4) a(f)\n")
         )
-        self.assertEqual(
-            [(it.text, it.get("font-style")) for it in root.iter(f"{SVG}tspan")],
-            [("Ps. 5 ", None), ("s.", "italic")],
-        )
-        self.assertIn("a <x>", [it.text for it in root.iter(f"{SVG}text")])
+        texts = [(it.text, it.get("font-style")) for it in root.iter(f"{SVG}text")]
+        self.assertEqual(texts[:3], [("a <x>", None), ("Ps. 5 ", None), ("s.", "italic")])
 
     def test_staff(self) -> None:
         """A staff has as many lines as the header says."""
         for lines in "2345":
             root = Xml.fromstring(picture(f"name: x;\nstaff-lines: {lines};\n%%\n(c2) a(f)\n"))
-            (staff,) = [
-                it.get("d") or "" for it in root.iter(f"{SVG}path") if it.get("class") == "staff"
-            ]
-            self.assertEqual(staff.count("M"), int(lines))
+            staff = [it for it in root.iter(f"{SVG}rect") if it.get("class") == "staff"]
+            self.assertEqual(len(staff), int(lines))
 
     def test_error_beside_a_warning(self) -> None:
         """A field with an error is that of an error, whatever else stands there."""
@@ -608,10 +281,6 @@ class Pictures(unittest.TestCase):
         self.assertEqual({it.code for it in check(score).messages}, {"W3", "E1"})
         self.assertIn('class="mark"', draw(score).svg)
         self.assertNotIn('class="mark w"', draw(score).svg)
-
-    def test_numbers(self) -> None:
-        for value, wanted in ((-0.04, "0"), (0.0, "0"), (1.25, "1.2"), (-3.0, "-3"), (10.0, "10")):
-            self.assertEqual(number(value), wanted)
 
     def test_for_who_cannot_see(self) -> None:
         """A line is a group that is named by its words, in its language; hyphens are left out."""
@@ -638,9 +307,10 @@ class Pictures(unittest.TestCase):
 
     def test_examples(self) -> None:
         for module in (
-            gregorio_chant.picture,
-            sys.modules["gregorio_chant.picture.languages"],
-            sys.modules["gregorio_chant.picture.shown"],
+            gregorio_chant.pictures.alone,
+            gregorio_chant.pictures.glyphs,
+            gregorio_chant.pictures.languages,
+            gregorio_chant.pictures.shown,
         ):
             tried = doctest.testmod(module)
             self.assertGreater(tried.attempted, 0)
@@ -691,7 +361,7 @@ class Large(unittest.TestCase):
         """A score of 200 kB takes less than 100 MB, and of a processor less than four times what 15
         seconds a megabyte are: others work beside a test."""
         script = (
-            "import resource, time\nfrom gregorio_chant.picture import draw\n"
+            "import resource, time\nfrom gregorio_chant.pictures.drawing import draw\n"
             "data = b'name: x;\\n%%\\n(c4) ' + b'Ky(fgf)ri(gfg/e)e(e.) le(gh)i(f) ' * 5500\n"
             "before = time.process_time()\ndraw(data)\ntaken = time.process_time() - before\n"
             "print(len(data), taken, resource.getrusage(resource.RUSAGE_SELF).ru_maxrss)"
@@ -707,6 +377,15 @@ class Large(unittest.TestCase):
         self.assertLess(kilobytes, 100_000)
 
 
+_HEADS = Names(has_heads=True)
+
+
+def _places_of_heads(group: Xml.Element) -> list[int]:
+    """Returns where the heads of a group stand in its row."""
+    (x,) = re.findall(r"translate\((-?[0-9]+),0\)", group.get("transform", ""))
+    return [int(x) + int(it.split(",")[0]) for it in group.get("data-heads", "").split()]
+
+
 def _least_time(work: Callable[[], object], times: int = 5) -> float:
     """Returns the least processor time of some runs, in seconds."""
     found = []
@@ -718,8 +397,4 @@ def _least_time(work: Callable[[], object], times: int = 5) -> float:
 
 
 if __name__ == "__main__":
-    if sys.argv[1:] == ["--write"]:
-        for example in KEPT:
-            Path(LAYOUTS / f"{example}.txt").write_text(kept(example), encoding="utf-8")
-    else:
-        unittest.main()
+    unittest.main()

@@ -7,10 +7,9 @@ from pathlib import Path
 from urllib.parse import unquote, urlsplit
 
 from client import Served, Told, place
+from drawn import picture
 from support import FAULTY, SCORE
 from test_show import Page
-
-from gregorio_chant.picture import picture
 
 BAD_PARAMETERS, FAILED = -32602, -32803
 COMMAND = "gregorio-chant.show"

@@ -15,12 +15,14 @@ from subprocess import CompletedProcess
 from urllib.parse import unquote_to_bytes
 from xml.etree import ElementTree as Xml
 
+from drawn import HOSTILE
 from pages import block
 from support import EXAMPLES, FAULTY, SCORE, InFolder, command, in_terminal
-from test_picture import HOSTILE
 
-from gregorio_chant.picture import Look, Names, draw
-from gregorio_chant.picture.page import Shown, page_of
+from gregorio_chant.pictures.drawing import draw
+from gregorio_chant.pictures.look import Look
+from gregorio_chant.pictures.names import Names
+from gregorio_chant.pictures.page import Shown, page_of
 from gregorio_chant.report.reports import Checked
 
 WARNED = "name: b;\n%%\n(c4) <x>Ky(g)ri(g)\n"
@@ -290,17 +292,16 @@ class Output(InFolder):
         """Faces, hands and the initial are chosen by words."""
         self.put("a.gabc", "name: a;\nnabc-lines: 1;\n%%\n(c4) Ky(fg|vi)\n")
         for words, shapes in (
-            ((), {"c-clef", "PesOneNothing", "stgall-vi"}),
-            (("--face", "plain", "--neumes", "text"), {"c-clef", "punctum-under", "punctum-over"}),
-            (("--neumes", "laon"), {"c-clef", "PesOneNothing", "laon-vi"}),
+            ((), {"c-clef", "pes-100", "stgall-vi"}),
+            (("--face", "plain", "--neumes", "text"), {"c-clef", "pes-100"}),
+            (("--neumes", "laon"), {"c-clef", "pes-100", "laon-vi"}),
         ):
             root = Xml.fromstring(command("show", "--svg", *words, "a.gabc").stdout)
             self.assertEqual(
-                {it.get("id") for it in root.iter() if it.tag.endswith("}path") and it.get("id")},
-                shapes,
+                {it.get("id") for defs in root if defs.tag.endswith("}defs") for it in defs}, shapes
             )
         sizes = [
-            b'font-size="46"' in command("show", "--svg", *words, "a.gabc").stdout
+            b'font-size="4600"' in command("show", "--svg", *words, "a.gabc").stdout
             for words in ((), ("--no-initial",))
         ]
         self.assertEqual(sizes, [True, False])

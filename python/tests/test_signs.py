@@ -4,15 +4,11 @@ from __future__ import annotations
 
 import unittest
 
-from test_picture import score_with
+from drawn import THIN, Sign, height_of, rows_of, score_with, signs_of, signs_with
 
-from gregorio_chant.dump import Bar, Clef, Note, NoteSnippet, Score
+from gregorio_chant.dump import Bar, Note, NoteSnippet
 from gregorio_chant.objects.signs import Episema
-from gregorio_chant.picture import lay_out, staff
-from gregorio_chant.picture.values import Rect, height_of, step_of
 from gregorio_chant.rhythm import episemata_of, morae_of
-
-_THIN = 0.9
 
 
 def snippet_of(notes: str) -> NoteSnippet:
@@ -22,22 +18,18 @@ def snippet_of(notes: str) -> NoteSnippet:
     return snippet
 
 
-def rects(notes: str) -> list[Rect]:
-    """Returns the rectangles of a syllable with these notes, from the left of its first block."""
-    blocks = lay_out(score_with(notes).syllables, 700.0)[0].parts[1].part.blocks
-    left = blocks[0][0]
-    return [
-        sign.moved(at - left) for at, it in blocks for sign in it.signs if isinstance(sign, Rect)
-    ]
+def rects(notes: str) -> list[Sign]:
+    """Returns the rectangles of a syllable with these notes."""
+    return [it for it in signs_with(notes) if not it.name]
 
 
-def lines(notes: str) -> list[Rect]:
+def lines(notes: str) -> list[Sign]:
     """Returns the episemata that are drawn."""
-    return [it for it in rects(notes) if it.height == _THIN]
+    return [it for it in rects(notes) if it.height == THIN]
 
 
-def ictus(notes: str) -> list[Rect]:
-    return [it for it in rects(notes) if (it.width, it.height) == (_THIN, 4.4)]
+def ictus(notes: str) -> list[Sign]:
+    return [it for it in rects(notes) if (it.width, it.height) == (THIN, 440)]
 
 
 class Spelled(unittest.TestCase):
@@ -129,47 +121,45 @@ class Drawn(unittest.TestCase):
         joins it, unless it must not."""
         for notes, wanted in (
             ("ghg___", 1),
-            ("g_/g_", 2),
+            ("g_/g_", 1),
             ("g_2/g_", 2),
             ("g_ g_", 2),
             ("g_f_", 1),
             ("f_g_", 2),
             ("g_f_0", 2),
             ("g_0_4", 2),
-            ("gg__", 2),
+            ("gg__", 1),
             ("g_3", 1),
         ):
             self.assertEqual(len(lines(notes)), wanted, notes)
         (whole,) = lines("ghg___")
-        self.assertGreater(whole.width, 3 * 5.0)
-        bridged, apart = lines("g_/g_"), lines("g_2/g_")
-        self.assertEqual(bridged[0].x + bridged[0].width, bridged[1].x)
+        self.assertGreater(whole.width, 3 * 500)
+        (bridged,), apart = lines("g_/g_"), lines("g_2/g_")
+        self.assertEqual(bridged.width, apart[1].x + apart[1].width)
         self.assertLess(apart[0].x + apart[0].width, apart[1].x)
-        self.assertEqual(lines("g_/j_")[0].y, lines("g_/j_")[1].y, "one episema has one height")
         self.assertLess(lines("g_4")[0].width, lines("g_")[0].width)
-        self.assertGreater(lines("g_0")[0].y, height_of(step_of("g")))
+        self.assertGreater(lines("g_0")[0].y, height_of("g"))
 
     def test_no_episema_lies_on_a_line(self) -> None:
         for pitch in "defghijk":
             for side in "01":
                 (line,) = lines(f"{pitch}_{side}")
-                self.assertGreater(
-                    abs((line.y + _THIN / 2 + 5.0) % 10.0 - 5.0), _THIN, f"{pitch}_{side}"
-                )
+                middle = line.y + THIN // 2
+                self.assertGreater(abs((middle + 500) % 1000 - 500), THIN, f"{pitch}_{side}")
 
     def test_ictus(self) -> None:
         """An ictus stands below its note, or over one that stands over another; as it is told if it
         is; clear of a broad stroke and of an episema."""
         for notes, over in (("g'", False), ("fg'", True), ("fg'0", False), ("g'1", True)):
             (line,) = ictus(notes)
-            self.assertEqual(line.y < height_of(step_of("g")), over, notes)
+            self.assertEqual(line.y < height_of("g"), over, notes)
         (under,) = ictus("gh'gh")
-        self.assertGreater(under.y, height_of(step_of("g")), "below the stroke")
+        self.assertGreater(under.y, height_of("g"), "below the stroke")
         (line,), (beside,) = lines("fg_1'"), ictus("fg_1'")
-        self.assertLess(beside.y + beside.height, line.y + _THIN)
+        self.assertLess(beside.y + beside.height, line.y + THIN)
 
     def test_ledger_lines(self) -> None:
-        ledgers: dict[str, list[int]] = {
+        steps: dict[str, list[int]] = {
             "a": [-2],
             "b": [-2],
             "c": [],
@@ -179,29 +169,25 @@ class Drawn(unittest.TestCase):
             "n": [8, 10],
             "p": [8, 10],
         }
-        for notes, steps in ledgers.items():
-            self.assertEqual(
-                [it.y + 0.35 for it in rects(notes) if it.height == 0.7],
-                [height_of(it) for it in steps],
-                notes,
-            )
+        for notes, wanted in steps.items():
+            found = [it.y + 35 for it in rects(notes) if it.height == 70]
+            self.assertEqual(found, [-500 * it for it in wanted], notes)
 
     def test_clefs(self) -> None:
         """A flat stands at the height of si; two clefs stand over one another if there is room."""
 
-        def signs(spelling: str) -> list[tuple[float, float]]:
-            clef = Score.parse(f"%%\n({spelling}) a(f)\n").syllables[0].items[0]
-            assert isinstance(clef, Clef)
-            return [(it.x, it.y) for it in staff.clef(clef).signs]
+        def signs(spelling: str) -> list[tuple[int, int]]:
+            (row,) = rows_of(f"name: x;\n%%\n({spelling}) a(f)\n")
+            return [(it.x, it.y) for it in signs_of(row.groups[0].content)]
 
-        self.assertEqual([y for _, y in signs("cb3")], [height_of(4), height_of(3)])
-        self.assertEqual([y for _, y in signs("fb3")], [height_of(4), height_of(7)])
-        self.assertEqual(signs("c4@c2"), [(0.0, height_of(6)), (0.0, height_of(2))])
-        self.assertGreater(signs("c4@c3")[1][0], 0.0)
+        self.assertEqual([y for _, y in signs("cb3")], [-2000, -1500])
+        self.assertEqual([y for _, y in signs("fb3")], [-2000, -3500])
+        self.assertEqual(signs("c4@c2"), [(0, -3000), (0, -1000)])
+        self.assertGreater(signs("c4@c3")[1][0], 0)
 
     def test_final_bar(self) -> None:
         """A final bar is two thin lines."""
-        self.assertEqual([it.width for it in rects("::")], [_THIN, _THIN])
+        self.assertEqual([it.width for it in rects("::")], [THIN, THIN])
 
 
 if __name__ == "__main__":

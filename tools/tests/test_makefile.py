@@ -18,6 +18,13 @@ def read(path: str) -> str:
         return file.read()
 
 
+def text_of(script: str) -> str:
+    """Returns the text of a script, and of the module of `tools/house` that it starts, if so."""
+    text = read(script)
+    module = re.search(r'"house\.(\w+)"', text)
+    return text + read(f"tools/house/{module[1]}.py") if module else text
+
+
 class MakefileTest(unittest.TestCase):
     def setUp(self) -> None:
         self.makefile = read("Makefile")
@@ -49,7 +56,7 @@ class MakefileTest(unittest.TestCase):
             for command, script in scripts:
                 self.assertTrue(os.access(os.path.join(ROOT, script), os.X_OK), command)
                 for option in re.findall(r" (--[a-z-]+)", command):
-                    self.assertIn(option, read(script), command)
+                    self.assertIn(option, text_of(script), command)
 
     @unittest.skipUnless(shutil.which("make"), "there is no make")
     def test_make_alone_prints_them(self) -> None:

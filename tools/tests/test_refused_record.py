@@ -1,15 +1,15 @@
-"""What the record of refused edits says after each kind of change, and which batch is drawn in spite of it."""
+"""What the record of refused edits says after each kind of change, and which batch is drawn in
+spite of it."""
+
+from __future__ import annotations
 
 import os
-import sys
-import tempfile
-import unittest
 from types import SimpleNamespace
+from typing import Any
 
-sys.dont_write_bytecode = True
-sys.path.insert(0, os.path.dirname(os.path.dirname(os.path.realpath(__file__))))
-
-from refused_record import NAME, Record, Sums, drawn  # noqa: E402
+from false_kit import FalseCrate
+from fixture import RepositoryTest
+from house.refused_record import NAME, Record, Sums, drawn
 
 FILES = {
     "crates.txt": "# crates\nlow: memchr\nhigh: low\n",
@@ -23,63 +23,63 @@ FILES = {
 }
 
 
-def edit(name, old="a", new="b"):
+def edit(name: str, new: str = "b") -> Any:
     """Returns what a record asks of an edit."""
-    return SimpleNamespace(key=name, name=f"high/{name}", file="src/lib.rt", within="", by="", pairs=[(old, new)])
+    pairs = [("a", new)]
+    return SimpleNamespace(key=name, file="src/lib.rt", within="", by="", pairs=pairs)
 
 
-class RecordTest(unittest.TestCase):
-    def setUp(self):
-        room = tempfile.TemporaryDirectory()
-        self.addCleanup(room.cleanup)
-        self.root = room.name
-        for path, text in FILES.items():
-            self.write(path, text)
-        self.low = SimpleNamespace(name="low", folder=f"{self.root}/crates/low", below=lambda: [])
-        self.high = SimpleNamespace(name="high", folder=f"{self.root}/crates/high", below=lambda: [self.low])
+class RecordTest(RepositoryTest):
+    FILES = FILES
+
+    def setUp(self) -> None:
+        super().setUp()
+        self.low = FalseCrate(self.root, "low")
+        self.high = FalseCrate(self.root, "high", [self.low])
         self.batch = [edit("two_is_lost"), edit("two_is_late")]
 
-    def write(self, path, text):
-        os.makedirs(os.path.dirname(f"{self.root}/{path}"), exist_ok=True)
-        with open(f"{self.root}/{path}", "w", encoding="utf-8") as file:
-            file.write(text)
-
-    def record(self, kit="kit-1"):
+    def record(self, kit: str = "kit-1") -> Record:
         return Record(Sums(self.root, kit), self.high)
 
-    def keep(self, *batches):
+    def keep(self, *batches: list[Any]) -> None:
         record = self.record()
         for batch in batches:
             record.note(batch, True)
         record.write(batches)
 
-    def test_has_what_was_refused(self):
+    def test_has_what_was_refused(self) -> None:
         self.assertFalse(self.record().has(self.batch))
         self.keep(self.batch)
         self.assertTrue(self.record().has(self.batch))
         self.assertFalse(self.record().has(self.batch[:1]))
 
-    def test_is_stale_after_any_change_below(self):
-        for path in ("crates/low/src/lib.rt", "crates/low/specs/Lib.antt", "crates/high/src/inner/deep.rt", "crates/high/specs/Two.antt", "crates/high/proofs/Lib.antt"):
+    def test_is_stale_after_any_change_below(self) -> None:
+        for path in (
+            "crates/low/src/lib.rt",
+            "crates/low/specs/Lib.antt",
+            "crates/high/src/inner/deep.rt",
+            "crates/high/specs/Two.antt",
+            "crates/high/proofs/Lib.antt",
+        ):
             with self.subTest(path):
                 self.keep(self.batch)
-                self.write(path, FILES[path] + "\n")
+                self.put(path, FILES[path] + "\n")
                 self.assertFalse(self.record().has(self.batch))
-                self.write(path, FILES[path])
+                self.put(path, FILES[path])
                 self.assertTrue(self.record().has(self.batch))
 
-    def test_is_stale_after_a_new_file_or_a_moved_one(self):
+    def test_is_stale_after_a_new_file_or_a_moved_one(self) -> None:
         self.keep(self.batch)
         os.rename(f"{self.high.folder}/src/inner", f"{self.high.folder}/src/moved")
         self.assertFalse(self.record().has(self.batch))
 
-    def test_is_stale_with_another_kit_or_line_of_crates(self):
+    def test_is_stale_with_another_kit_or_line_of_crates(self) -> None:
         self.keep(self.batch)
         self.assertFalse(self.record("kit-2").has(self.batch))
-        self.write("crates.txt", FILES["crates.txt"].replace("high: low", "high: low memchr"))
+        self.put("crates.txt", FILES["crates.txt"].replace("high: low", "high: low memchr"))
         self.assertFalse(self.record().has(self.batch))
 
-    def test_keeps_what_another_kit_has_refused(self):
+    def test_keeps_what_another_kit_has_refused(self) -> None:
         self.keep(self.batch)
         other = self.record("kit-2")
         other.note(self.batch, True)
@@ -92,14 +92,14 @@ class RecordTest(unittest.TestCase):
         self.assertTrue(self.record("kit-1").has(self.batch))
         self.assertFalse(self.record("kit-2").has(self.batch))
 
-    def test_is_stale_after_a_changed_edit_alone(self):
+    def test_is_stale_after_a_changed_edit_alone(self) -> None:
         self.keep(self.batch, [edit("other")])
         self.assertFalse(self.record().has([edit("two_is_lost", new="c"), edit("two_is_late")]))
         self.assertTrue(self.record().has([edit("other")]))
-        self.write("crates/high/wrong_bodies.toml", "# another comment\n")
+        self.put("crates/high/wrong_bodies.toml", "# another comment\n")
         self.assertTrue(self.record().has(self.batch))
 
-    def test_forgets_what_was_not_refused_and_what_is_no_batch(self):
+    def test_forgets_what_was_not_refused_and_what_is_no_batch(self) -> None:
         self.keep(self.batch, [edit("other")])
         record = self.record()
         record.note(self.batch, False)
@@ -109,10 +109,10 @@ class RecordTest(unittest.TestCase):
         with open(f"{self.high.folder}/{NAME}", encoding="utf-8") as file:
             self.assertEqual([it for it in file if not it.startswith("#")], [])
 
-    def test_draws_each_batch_for_some_tree(self):
-        batches, seen = ["one", "two", "three"], set()
+    def test_draws_each_batch_for_some_tree(self) -> None:
+        batches, seen = ["one", "two", "three"], set[str]()
         for at in range(40):
-            self.write("crates/low/src/lib.rt", f"pub fn one() {{}} // {at}\n")
+            self.put("crates/low/src/lib.rt", f"pub fn one() {{}} // {at}\n")
             found = drawn(Sums(self.root, "kit-1"), [self.low, self.high], batches)
             self.assertEqual(found, drawn(Sums(self.root, "kit-1"), [self.low, self.high], batches))
             self.assertEqual(len(found), 1)
@@ -120,12 +120,8 @@ class RecordTest(unittest.TestCase):
         self.assertEqual(seen, {*batches})
         self.assertEqual(drawn(Sums(self.root, "kit-1"), [self.low, self.high], []), [])
 
-    def test_draws_by_the_edits_too(self):
+    def test_draws_by_the_edits_too(self) -> None:
         batches = [*range(1000)]
         before = drawn(Sums(self.root, "kit-1"), [self.low, self.high], batches)
-        self.write("crates/high/wrong_bodies.toml", "[two_is_early]\n")
+        self.put("crates/high/wrong_bodies.toml", "[two_is_early]\n")
         self.assertNotEqual(before, drawn(Sums(self.root, "kit-1"), [self.low, self.high], batches))
-
-
-if __name__ == "__main__":
-    unittest.main()

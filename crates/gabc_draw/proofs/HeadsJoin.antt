@@ -1,24 +1,11 @@
--- The notes of joined lists are those of the one and of the other.
+-- What is shown of joined pitches is what is shown of the one and of the other.
 use Rattle.std.proofs.Common.{◌≡◌, ◌++◌, List, ℕ, append_assoc, append-nil}
 use Rattle.std.proofs.lemmas.List.{map-append}
-use Rattle.std.proofs.lemmas.List.Concat.{flat_map-append}
-use Rattle.gabc_marks.specs.Heads.{Bytes, Note as ShownNote, notes_of, pitches_of_heads, pitches_shown}
-use Rattle.gabc_marks.specs.declared.head.NoteHead.{NoteHead}
-use Rattle.gabc_draw.specs.declared.note.Note.{Note}
-use Rattle.gabc_draw.specs.declared.plan.Planned.{Planned}
+use Rattle.gabc_marks.specs.Heads.{Bytes, Note as ShownNote, notes_of}
+use Rattle.gabc_pen.proofs.HeadsJoin.{heads-append, planned-append, notes-append}
 use Rattle.gabc_draw.proofs.PartsJoin.{groups-append}
-use Rattle.gabc_draw.specs.machine.Notes.{pitches_of_planned, pitches_of_note, pitches_of_notes}
 
-pub heads-append : (a b : List NoteHead) → pitches_of_heads (a ++ b) ≡ pitches_of_heads a ++ pitches_of_heads b
-heads-append a b = flat_map-append (λ (h : NoteHead). pitches_shown h.head h.pitch) a b
+pub shown-append : (bytes : Bytes) (a b : List ℕ) → notes_of bytes (a ++ b) ≡ notes_of bytes a ++ notes_of bytes b
+shown-append bytes a b = map-append (ShownNote bytes) a b
 
-pub planned-append : (a b : List Planned) → pitches_of_planned (a ++ b) ≡ pitches_of_planned a ++ pitches_of_planned b
-planned-append a b = flat_map-append (λ (p : Planned). pitches_of_note p.note) a b
-
-pub pending-append : (a b : List Note) → pitches_of_notes (a ++ b) ≡ pitches_of_notes a ++ pitches_of_notes b
-pending-append a b = flat_map-append pitches_of_note a b
-
-pub notes-append : (bytes : Bytes) (a b : List ℕ) → notes_of bytes (a ++ b) ≡ notes_of bytes a ++ notes_of bytes b
-notes-append bytes a b = map-append (ShownNote bytes) a b
-
-pub ruleset joined = (groups-append, heads-append, planned-append, pending-append, notes-append, append_assoc, append-nil)
+pub ruleset joined = (groups-append, heads-append, planned-append, notes-append, shown-append, append_assoc, append-nil)

@@ -1,14 +1,10 @@
 -- The notes and the syllables of a tree, as a picture has to show them.
-use Rattle.std.specs.Prelude.{ℕ, ◌%◌, ◌==◌, ◌||◌, List, [], ◌∷◌, ◌++◌, cond, replicate}
+use Rattle.std.specs.Prelude.{ℕ, ◌%◌, List, [], ◌∷◌, ◌++◌, replicate}
 use Rattle.gabc_marks.specs.Heads.{Bytes, Shown, Syllable, notes_of}
+use Rattle.gabc_pen.specs.Notes.{times_of_shape}
 use Rattle.gabc_tree.specs.declared.kind.Kind.{Kind}
 use Rattle.gabc_tree.specs.declared.kind.Kind.TheVariants as kind
 use Rattle.gabc_tree.specs.declared.node.Node.{Node}
-
--- how often a note with the shape of this number sounds: bivirga and distropha twice, trivirga and
--- tristropha three times
-abbrev pub times_of_shape : ℕ → ℕ
-times_of_shape shape = cond (shape == 3 || shape == 7) 2 (cond (shape == 4 || shape == 8) 3 1)
 
 -- the pitches of a note with these numbers: its height once for each time that it sounds
 abbrev pub pitches_of_note : ℕ → ℕ → List ℕ

@@ -1,6 +1,6 @@
 //! The parts of a picture, put together of what the layout made.
 
-ghost use Rattle.std.specs.Prelude.{◌≡◌, ◌++◌, IfOk, OnOk};
+ghost use Rattle.std.specs.Prelude.{◌≡◌, IfOk};
 ghost use Rattle.gabc_marks.specs.Heads.{shown_by_part, shown_by_parts};
 ghost use Rattle.gabc_draw.specs.machine.Desk.{shown_by_group, shown_by_groups};
 

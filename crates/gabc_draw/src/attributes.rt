@@ -2,17 +2,14 @@
 //! staff, and no custos (GregorioRef, "Choral Signs", "Braces", "Custom Ledger Lines", "Simple
 //! Slurs", "Above Lines Text Within Notes").
 
-use crate::curves::{Curve, CurveKind, CurveRole};
 use crate::lettering::ABOVE_SIZE;
-use crate::pen::Drawn;
-use crate::reading::{text_of, thousandths_of};
-use crate::rhythm::height_of_step;
 use crate::sheet::Sheet;
 use gabc_marks::{Distance, Level, Sign, Styles, Words, text_width};
+use gabc_pen::{Curve, CurveKind, CurveRole, Drawn, height_of_step, text_between, thousandths_of};
 use gabc_tree::{Kind, Node};
 use std::alloc::AllocError;
 
-/// The units of TeX, each as so many ten-millionths of a millimetre.
+/// The units of TeX, in ten-millionths of a millimetre.
 const UNITS: [(&str, i64); 7] = [
     ("mm", 10_000_000),
     ("cm", 100_000_000),
@@ -301,7 +298,7 @@ impl<'a> Sheet<'a> {
     /// Adds `node`, which stands within a neume, after that many of its notes.
     pub(crate) fn add_inside(&mut self, node: Node, notes: usize) -> Result<(), AllocError> {
         if node.kind == Kind::Attribute {
-            let asked = Attribute::of(text_of(self.input, node.begin, node.end));
+            let asked = Attribute::of(text_between(self.input, node.begin, node.end));
             if let (Some(asked), Some(note)) = (asked, notes.checked_sub(1)) {
                 self.attributes.push((note, asked))?;
             }
@@ -311,7 +308,7 @@ impl<'a> Sheet<'a> {
 
     /// Adds an attribute after a neume.
     pub(crate) fn add_attribute(&mut self, node: Node) -> Result<(), AllocError> {
-        let asked = Attribute::of(text_of(self.input, node.begin, node.end));
+        let asked = Attribute::of(text_between(self.input, node.begin, node.end));
         let head = self.pen.drawn.as_slice().last().copied();
         if let (Some(asked), Some(head)) = (asked, head) {
             let heads = self.pen.drawn.clone()?;

@@ -3,9 +3,8 @@
 
 use crate::cursor::Cursor;
 use crate::measures::{LineEnd, Measures};
-use crate::spaces;
-use crate::staff::Clef;
 use gabc_marks::Distance;
+use gabc_pen::{Clef, spaces};
 use std::alloc::{AllocError, Global};
 
 /// What a row costs, in thousandths: by the square of the part of it that is to be spread; if it
@@ -25,7 +24,7 @@ const FEW: usize = 3;
 /// A row of which more is empty, in thousandths, ends only if nothing more fits.
 const EMPTY: i64 = 450;
 
-/// So many units stand in one row at most.
+/// How many units stand in one row at most.
 const MOST_UNITS: usize = 1000;
 
 /// What the last row before an end that is asked for costs, which may stay short: one that is not
@@ -184,8 +183,10 @@ fn units_of(
     Ok(units)
 }
 
-/// Returns what a row costs that ends with `unit`, of whose width so many thousandths are empty.
-fn price(free: i64, unit: Unit, syllables: usize, is_last: bool) -> i64 {
+/// Returns what a row costs that ends with `unit`, of whose width `free` thousandths are empty, if
+/// `passed` syllables with a text stand before it.
+fn price(free: i64, unit: Unit, passed: usize, is_last: bool) -> i64 {
+    let syllables = unit.texts.saturating_sub(passed);
     let is_justified = unit.asked.is_some_and(|asked| asked.is_justified);
     if is_last {
         let lacking = if is_justified {
@@ -209,7 +210,7 @@ fn price(free: i64, unit: Unit, syllables: usize, is_last: bool) -> i64 {
         .saturating_add(alone)
 }
 
-/// Returns the square of so many thousandths, taken so often, in thousandths.
+/// Returns the square of `thousandths`, taken `factor` times, in thousandths.
 fn square(thousandths: i64, factor: i64) -> i64 {
     thousandths
         .saturating_mul(thousandths)
@@ -217,7 +218,7 @@ fn square(thousandths: i64, factor: i64) -> i64 {
         / 1000
 }
 
-/// Returns which part of a row of this `width` is empty, in thousandths, if so much is free.
+/// Returns which part of a row of this `width` is empty, in thousandths, if `free` of it is.
 fn part_free(free: Distance, width: Distance) -> i64 {
     i64::from(free.0).saturating_mul(1000) / i64::from(width.0.max(1))
 }
@@ -265,17 +266,15 @@ fn note_ways_from(units: &[Unit], at: usize, way: Way, room: Room, ways: &mut [O
             }
             break;
         }
-        let syllables = unit.texts.saturating_sub(passed);
-        let further = way.on(at, price(free, *unit, syllables, to == last));
-        waiting = if free <= EMPTY {
-            note_way(ways, to, further);
-            None
+        if EMPTY < free {
+            waiting = Some((to, free, *unit));
         } else {
-            Some((to, further))
-        };
+            waiting = None;
+            note_way(ways, to, way.on(at, price(free, *unit, passed, to == last)));
+        }
     }
-    if let Some((to, further)) = waiting {
-        note_way(ways, to, further);
+    if let Some((to, free, unit)) = waiting {
+        note_way(ways, to, way.on(at, price(free, unit, passed, to == last)));
     }
 }
 

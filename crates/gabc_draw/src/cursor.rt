@@ -1,8 +1,8 @@
 //! Parts beside each other in one row.
 
 use crate::measures::Measures;
-use crate::spaces;
 use gabc_marks::Distance;
+use gabc_pen::spaces;
 
 /// The width of a hyphen.
 pub(crate) const HYPHEN: Distance = Distance(540);

@@ -8,11 +8,9 @@ ghost use Rattle.gabc_draw.specs.machine.Desk.{bytes_of_group, shown_by_group, s
 
 use crate::group::Group;
 use crate::measures::{Measures, Place};
-use crate::neume::write_neume;
-use crate::note::Note;
 use crate::pitches::Pitches;
-use crate::plan::{GlyphKind, Planned, plan};
 use crate::sheet::Sheet;
+use gabc_pen::{GlyphKind, Note, Planned, plan_notes, write_neume};
 use gabc_tree::{Kind, Node};
 use std::alloc::{AllocError, Global};
 
@@ -69,7 +67,7 @@ impl<'a> Desk<'a> {
             .map_or(last, |note| note.pitch);
         let following = self.pitches.other();
         self.planned.clear();
-        plan(
+        plan_notes(
             self.kind,
             self.pending.as_slice(),
             following,

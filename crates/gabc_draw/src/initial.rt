@@ -3,9 +3,9 @@
 
 use crate::measures::Measures;
 use crate::runs::{Run, WordLine, add_runs, lines_of};
-use crate::spaces;
 use crate::title::{header, headers};
 use gabc_marks::{Distance, Level, Levels, Sign, Styles, Words, text_width};
+use gabc_pen::spaces;
 use gabc_tree::Node;
 use std::alloc::{AllocError, Global};
 
@@ -20,7 +20,7 @@ const ANNOTATION_SIZE: Distance = Distance(1200);
 /// end.
 const TOP_OF_TWO: Distance = Distance(-1800);
 
-/// In so many parts a letter is looked for.
+/// The most parts in which a letter is looked for.
 const MOST_PARTS: usize = 20;
 
 /// An initial: how many rows it stands before, its letter, and the annotations over it, from the

@@ -1,9 +1,9 @@
 //! The text of a syllable, as words beside each other.
 
 use crate::language::{Language, base_letter, first_vowel};
-use crate::reading::{Open, text_of};
 use crate::runs::{Run, WordLine, front_within, lines_of};
 use gabc_marks::{Distance, Level, Sign, Styles, Words, styled_width, text_width};
+use gabc_pen::text_between;
 use gabc_tree::{Kind, Node};
 use std::alloc::{AllocError, Global};
 
@@ -22,6 +22,15 @@ const DOTS: &str = "…";
 struct Letter {
     left: Distance,
     right: Distance,
+}
+
+/// Characters of a text that may be parted by what is not kept: the bytes from `at` up to `end` are
+/// still to be added, in these styles.
+#[derive(Clone, Copy, Debug)]
+struct Open {
+    at: u32,
+    end: u32,
+    styles: u16,
 }
 
 /// The text of a syllable from 0 on: its words, and where its centre is. Beside it its translation,
@@ -262,7 +271,7 @@ impl<'a> Lettering<'a> {
         let Some(open) = self.open else {
             return Ok(());
         };
-        let text = text_of(self.input, open.at, end.min(open.end));
+        let text = text_between(self.input, open.at, end.min(open.end));
         self.add(text, open.styles)
     }
 
@@ -288,7 +297,7 @@ impl<'a> Lettering<'a> {
     /// Adds a node of the text.
     pub(crate) fn add_node(&mut self, node: Node) -> Result<(), AllocError> {
         self.close()?;
-        let text = text_of(self.input, node.begin, node.end);
+        let text = text_between(self.input, node.begin, node.end);
         match node.kind {
             Kind::Characters => {
                 self.open = Some(Open {

@@ -1,9 +1,9 @@
 //! The messages of a score as marks in its picture: a field around what each is about, with its
 //! code over the row.
 
-use crate::measures::{Extent, Measures};
-use crate::spaces;
+use crate::measures::Measures;
 use gabc_marks::{Distance, Level, Sign, Styles, Words, text_width};
+use gabc_pen::{Extent, spaces};
 use gabc_places::{Code, Severity};
 use gabc_tree::{Kind, Node};
 use std::alloc::AllocError;

@@ -1,10 +1,8 @@
 //! What the layout knows of a part: how far it goes, and what stands in it.
 
-use crate::curves::Curve;
 use crate::marks::PartMark;
-use crate::nabc_rows::{NabcRows, PerLine};
-use crate::staff::Clef;
 use gabc_marks::{Distance, Level, Sign, Styles, Words, char_width, styled_width};
+use gabc_pen::{Clef, Curve, Extent, NabcRows, PerLine};
 use std::alloc::Global;
 
 /// How a score wants a line to end.
@@ -13,21 +11,6 @@ pub(crate) struct LineEnd {
     /// Whether the line is as wide as the others.
     pub(crate) is_justified: bool,
     pub(crate) has_custos: bool,
-}
-
-/// Where a text begins and ends.
-#[derive(Clone, Copy, Debug)]
-pub(crate) struct Extent {
-    pub(crate) left: Distance,
-    pub(crate) right: Distance,
-}
-
-impl Extent {
-    /// That of nothing.
-    pub(crate) const NONE: Extent = Extent {
-        left: Distance::ZERO,
-        right: Distance::ZERO,
-    };
 }
 
 /// Where a syllable stands in its word, and in which spans.

@@ -1,18 +1,15 @@
 //! The rows of a picture: where each part stands in its row, and what else does.
 
 use crate::breaks::{Span, clef_after, start_of};
-use crate::curves::Curves;
 use crate::initial::Initial;
 use crate::lettering::ABOVE_SIZE;
 use crate::marks::{MarkedRow, put_marks};
-use crate::measures::{Extent, Measures};
-use crate::nabc_rows::{PerLine, join_rows, line_over};
-use crate::pen::Pen;
-use crate::rhythm::height_of_step;
+use crate::measures::Measures;
 use crate::setting::{places_from, put_hyphens, right_of, spread};
-use crate::spaces;
-use crate::staff::{Clef, custos};
 use gabc_marks::{Distance, Levels, Row, Sign};
+use gabc_pen::{
+    Clef, Curves, Extent, Pen, PerLine, custos, height_of_step, join_rows, line_over, spaces,
+};
 use std::alloc::{AllocError, Global};
 
 /// The size of a row: its width, and how many lines its staff has.
@@ -49,6 +46,22 @@ fn put_custos(staff: Staff, pitch: u8, pen: &mut Pen<'_>) -> Result<(), AllocErr
     let symbol = custos(pitch, staff.lines);
     let x = staff.width - symbol.metrics().width - spaces::CUSTOS_TO_END;
     pen.symbol(symbol, x, height_of_step(i32::from(pitch) - 3))
+}
+
+/// Draws the curves of `parts`, which stand at these `places` in a row of this `width`.
+fn put_curves(
+    parts: &[Measures<'_>],
+    places: &[Distance],
+    width: Distance,
+    pen: &mut Pen<'_>,
+) -> Result<(), AllocError> {
+    let mut curves = Curves::new();
+    for (part, x) in parts.iter().zip(places) {
+        curves.put_part(part.curves.as_slice(), *x, width, &mut pen.signs)?;
+    }
+    pen.top = pen.top.min(curves.top);
+    pen.bottom = pen.bottom.max(curves.bottom);
+    Ok(())
 }
 
 /// Returns how high and how deep the signs of a row go, and those of its parts.
@@ -213,10 +226,7 @@ impl<'a> Rows<'a> {
         let places = self.places_of(alloc, parts, span, staff)?;
         let mut pen = self.draw_ends(alloc, parts, span, following, staff)?;
         put_hyphens(parts, places.as_slice(), &mut pen.signs)?;
-        let mut curves = Curves::new();
-        curves.put_all(parts, places.as_slice(), staff.width, &mut pen.signs)?;
-        pen.top = pen.top.min(curves.top);
-        pen.bottom = pen.bottom.max(curves.bottom);
+        put_curves(parts, places.as_slice(), staff.width, &mut pen)?;
         let (levels, size) = levels_of(parts, staff, &pen);
         let row = MarkedRow {
             width: staff.width,

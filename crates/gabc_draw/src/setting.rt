@@ -4,8 +4,8 @@
 use crate::cursor::{Cursor, HYPHEN, HYPHEN_ROOM};
 use crate::lettering::TEXT_SIZE;
 use crate::measures::Measures;
-use crate::spaces;
 use gabc_marks::{Distance, Level, Sign, Styles, Words};
+use gabc_pen::spaces;
 use std::alloc::{AllocError, Global};
 
 /// Returns where the parts of a row stand that begins at `start`.

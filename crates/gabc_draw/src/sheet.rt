@@ -1,19 +1,16 @@
 //! The sheet on which a syllable is laid out: its blocks one after the other, its text, its NABC.
 
 use crate::attributes::Attribute;
-use crate::episemata::{SnippetNote, put_signs};
 use crate::language::Language;
 use crate::lettering::Lettering;
 use crate::marks::{Mark, PartMark};
-use crate::measures::{Extent, LineEnd, Measures, Place};
-use crate::nabc::{Hands, Nabc};
-use crate::pen::{PUNCTUM, Pen};
-use crate::reading::{distance_of, text_of};
-use crate::rhythm::{height_of_step, put_around};
+use crate::measures::{LineEnd, Measures, Place};
 use crate::runs::WordLine;
-use crate::spaces;
-use crate::staff::{Clef, custos, put_alteration, put_bar};
-use gabc_marks::{Distance, Level, height_of};
+use gabc_marks::{Distance, height_of};
+use gabc_pen::{
+    Clef, Extent, Hands, Nabc, PUNCTUM, Pen, SnippetNote, custos, distance_of, height_of_step,
+    put_alteration, put_around, put_bar, put_signs, spaces, text_between,
+};
 use gabc_tree::{Kind, Node};
 use std::alloc::{AllocError, Global};
 
@@ -31,7 +28,7 @@ pub(crate) enum BlockKind {
 #[derive(Debug, Drop)]
 pub(crate) struct Sheet<'a> {
     pub(crate) lines: i32,
-    language: Language,
+    pub(crate) language: Language,
     pub(crate) pen: Pen<'a>,
     pub(crate) lettering: Lettering<'a>,
     nabc: Nabc<'a>,
@@ -55,7 +52,7 @@ pub(crate) struct Sheet<'a> {
     /// The attributes within the neume that is being read, each with the number of its note.
     pub(crate) attributes: Vec<(usize, Attribute<'a>)>,
     /// What a part may take of a row.
-    room: Distance,
+    pub(crate) room: Distance,
     /// The lines of a text that is wider, after the first one.
     pub(crate) further: Vec<WordLine<'a>>,
     /// The marks that are not passed yet.
@@ -335,10 +332,29 @@ impl<'a> Sheet<'a> {
         self.lettering.pass_gap(node)
     }
 
+    /// Adds `node`, which is NABC.
+    fn add_nabc(&mut self, node: Node) -> Result<(), AllocError> {
+        let part = &mut self.part;
+        self.nabc.add(node, &mut part.signs, &mut part.nabc)
+    }
+
+    /// Ends the NABC that is being read: the notes of the part are as wide as it at least.
+    fn end_nabc(&mut self) -> Result<(), AllocError> {
+        let part = &mut self.part;
+        if let Some(nabc) = self.nabc.end(&mut part.signs, &mut part.nabc)? {
+            let notes = part.notes.unwrap_or(nabc);
+            part.notes = Some(Extent {
+                left: notes.left,
+                right: notes.right.max(nabc.right),
+            });
+        }
+        Ok(())
+    }
+
     /// Begins a snippet: of notes, or of NABC.
     fn add_snippet(&mut self, node: Node) -> Result<(), AllocError> {
         self.lettering.close()?;
-        self.nabc.end(&mut self.part)?;
+        self.end_nabc()?;
         if node.a == 0 {
             self.end_snippet()?;
             self.begin_snippet();
@@ -394,7 +410,7 @@ impl<'a> Sheet<'a> {
             | Kind::NabcSpace
             | Kind::NabcGlyph
             | Kind::NabcPoints
-            | Kind::NabcLetters => self.nabc.add(node, &mut self.part),
+            | Kind::NabcLetters => self.add_nabc(node),
             _ => self.add_item(node, next),
         }
     }
@@ -408,11 +424,11 @@ impl<'a> Sheet<'a> {
         match node.kind {
             Kind::Clef => self.add_clef(node),
             Kind::Alteration => self.add_alteration(node),
-            Kind::Bar => self.add_bar(node, text_of(self.input, node.begin, node.end)),
+            Kind::Bar => self.add_bar(node, text_between(self.input, node.begin, node.end)),
             Kind::Custos => self.add_custos_of(node, next),
             Kind::Attribute => self.add_attribute(node),
             Kind::Spacing => {
-                let text = text_of(self.input, node.begin, node.end);
+                let text = text_between(self.input, node.begin, node.end);
                 self.add_space(distance_of(node.a, text));
                 Ok(())
             }
@@ -447,7 +463,7 @@ impl<'a> Sheet<'a> {
     /// Ends the part: with its text, if it is the first one of its syllable.
     pub(crate) fn end_part(&mut self, alloc: Global) -> Result<(), AllocError> {
         self.lettering.close()?;
-        self.nabc.end(&mut self.part)?;
+        self.end_nabc()?;
         if self.part.is_first {
             self.put_text(alloc)?;
         }
@@ -461,55 +477,11 @@ impl<'a> Sheet<'a> {
     }
 
     /// Puts the part to those that are done, and begins a further one of its syllable.
-    fn push_part(&mut self, alloc: Global) -> Result<(), AllocError> {
+    pub(crate) fn push_part(&mut self, alloc: Global) -> Result<(), AllocError> {
         let mut next = Measures::new(alloc, self.part.place, false);
         std::mem::swap(&mut self.part, &mut next);
         self.about = None;
         self.done.push(next)?;
         Ok(())
-    }
-
-    /// Puts the text of the syllable, with its translation and the texts over the staff. Of a text
-    /// that is wider than a row the first line is put.
-    fn put_text(&mut self, alloc: Global) -> Result<(), AllocError> {
-        let left = self.part.notes.map_or(Distance::ZERO, |notes| notes.left);
-        self.further = self.lettering.cut(alloc, self.room)?;
-        let middle = if self.further.is_empty() {
-            self.lettering.middle(self.language)
-        } else {
-            Distance::ZERO
-        };
-        let x = self.part.anchor.map_or(left, |anchor| anchor - middle);
-        if !self.lettering.is_empty() {
-            self.lettering.put(x, &mut self.part.signs)?;
-            self.part.text = Some(Extent {
-                left: x,
-                right: x + self.lettering.width,
-            });
-        }
-        let from = if self.lettering.is_empty() { left } else { x };
-        let room = self.room;
-        if let Some(right) = self
-            .lettering
-            .put_translation(from, room, &mut self.part.signs)?
-        {
-            self.part.translation = Some(Extent { left: from, right });
-        }
-        if let Some(right) = self.lettering.put_above(left, room, &mut self.part.signs)? {
-            self.part.above = Some(self.part.above.map_or(right, |it| it.max(right)));
-        }
-        Ok(())
-    }
-
-    /// Adds the line of the text with this `number`, of those after the first one, as a part.
-    pub(crate) fn end_further(&mut self, alloc: Global, number: usize) -> Result<(), AllocError> {
-        if let Some(line) = self.further.get(number) {
-            line.put(Distance::ZERO, Level::Text, &mut self.part.signs)?;
-            self.part.text = Some(Extent {
-                left: Distance::ZERO,
-                right: line.width,
-            });
-        }
-        self.push_part(alloc)
     }
 }

@@ -1,10 +1,9 @@
 //! What stands over a score by its headers: its name, its commentary, and its annotations if no
 //! initial has them.
 
-use crate::reading::text_of;
 use crate::runs::{Run, Side, add_runs, lines_of};
-use crate::spaces;
 use gabc_marks::{Distance, Level, Sign, Styles};
+use gabc_pen::{spaces, text_between};
 use gabc_tree::{Kind, Node};
 use std::alloc::{AllocError, Global};
 
@@ -27,9 +26,9 @@ pub(crate) fn headers<'a>(
     let mut values = Vec::new(alloc);
     for node in nodes {
         match node.kind {
-            Kind::HeaderName => is_named = text_of(input, node.begin, node.end) == name,
+            Kind::HeaderName => is_named = text_between(input, node.begin, node.end) == name,
             Kind::HeaderValue if is_named => {
-                values.push(text_of(input, node.begin, node.end).trim())?;
+                values.push(text_between(input, node.begin, node.end).trim())?;
             }
             Kind::ScoreLine => break,
             _ => {}
@@ -44,7 +43,7 @@ fn header_bytes(nodes: &[Node], input: &str, name: &str) -> (u32, u32) {
     let mut found = (0, 0);
     for node in nodes {
         match node.kind {
-            Kind::HeaderName => is_named = text_of(input, node.begin, node.end) == name,
+            Kind::HeaderName => is_named = text_between(input, node.begin, node.end) == name,
             Kind::HeaderValue if is_named => found = (node.begin, node.end),
             Kind::ScoreLine => return found,
             _ => {}
@@ -57,7 +56,7 @@ fn header_bytes(nodes: &[Node], input: &str, name: &str) -> (u32, u32) {
 /// its ends; nothing if there is none.
 pub(crate) fn header<'a>(nodes: &[Node], input: &'a str, name: &str) -> &'a str {
     let (begin, end) = header_bytes(nodes, input, name);
-    text_of(input, begin, end).trim()
+    text_between(input, begin, end).trim()
 }
 
 /// Where lines stand: from `x` on, in a room of this `width`, in type of this `size`.

@@ -30,16 +30,16 @@ impl Model for HeaderBook {
 
     ghost Value = { List (List ℕ × List ℕ) };
 
-    ghost view = { λ b. spelled_entries (string_bytes b.text) b.headers.items };
+    ghost view = { λ b. spelled_entries (string_bytes b.text) b.headers.0 };
 
-    ghost invariant = { λ b. IsBook (string_bytes b.text) b.headers.items };
+    ghost invariant = { λ b. IsBook (string_bytes b.text) b.headers.0 };
 }
 
 impl HeaderBook {
     /// The book of these headers of a text, of which it keeps a copy as far as values stand in it.
     pub(crate) fn of(alloc: Global, text: &str, headers: EntryMap) -> Result<HeaderBook, AllocError>
-        requires { IsBook text.now headers.items }
-        ensures { IfOk result (λ book. book ≡ spelled_entries text.now headers.items) }
+        requires { IsBook text.now headers.0 }
+        ensures { IfOk result (λ book. book ≡ spelled_entries text.now headers.0) }
     {
         let end = headers.end(text);
         Ok(HeaderBook {

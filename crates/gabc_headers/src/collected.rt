@@ -5,7 +5,7 @@ ghost use Rattle.std.specs.Str.{chars};
 ghost use Rattle.gabc_headers.specs.Book as book;
 ghost use Rattle.gabc_headers.specs.machine.Collected as spec;
 ghost use Rattle.gabc_headers.specs.machine.Collected.{IsGoodEvent, AreGoodEvents, collected_with, collected_with_all, found_with, found_list, of_headers};
-ghost use Rattle.gabc_headers.specs.machine.EntryMap.{HasPlace};
+ghost use Rattle.gabc_headers.specs.machine.EntryMap.{HasPlace, named_entries};
 ghost use Rattle.gabc_headers.specs.machine.Shown.{shown};
 
 use crate::entry_map::EntryMap;
@@ -42,12 +42,12 @@ fn finding_at(line: u64, code: Code) -> Finding
 pub(crate) fn take_event(headers: &mut EntryMap, text: &str, event: HeaderEvent) -> Option<Finding>
     requires good { IsGoodEvent text.now event }
     requires room { HasPlace headers.old }
-    ensures headers { headers.new.items
-        ≡ (collected_with text.now event (of_headers headers.old.items)).headers }
-    ensures limit { headers.new.limit ≡ headers.old.limit }
-    ensures hasher { headers.new.hasher ≡ headers.old.hasher }
+    ensures headers { named_entries headers.new.0
+        ≡ (collected_with text.now event (of_headers (named_entries headers.old.0))).headers }
+    ensures limit { headers.new.1 ≡ headers.old.1 }
+    ensures hasher { headers.new.2 ≡ headers.old.2 }
     ensures found { found_list result
-        ≡ found_with text.now event (of_headers headers.old.items) }
+        ≡ found_with text.now event (of_headers (named_entries headers.old.0)) }
 {
     match event {
         HeaderEvent::LeftOut { line, point: _ } => Some(finding_at(line, Code::E4)),
@@ -76,8 +76,8 @@ impl Collected {
         requires room { HasPlace self.old.headers }
         ensures taken { OnOk result
             (shown self.new ≡ collected_with text.now event (shown self.old)) }
-        ensures limit { self.new.headers.limit ≡ self.old.headers.limit }
-        ensures hasher { self.new.headers.hasher ≡ self.old.headers.hasher }
+        ensures limit { self.new.headers.1 ≡ self.old.headers.1 }
+        ensures hasher { self.new.headers.2 ≡ self.old.headers.2 }
     {
         if let Some(finding) = take_event(&mut self.headers, text, event) {
             self.findings.push(finding)?;
@@ -96,7 +96,7 @@ pub(crate) fn collect(
     requires { AreGoodEvents text.now events.now }
     ensures all { IfOk result (λ collected. shown collected
         ≡ collected_with_all text.now events.now (record { headers = []; findings = [] })) }
-    ensures hasher { IfOk result (λ collected. collected.headers.hasher ≡ hasher) }
+    ensures hasher { IfOk result (λ collected. collected.headers.2 ≡ hasher) }
 {
     let mut collected = Collected {
         headers: EntryMap::with_limit(alloc, events.len(), hasher)?,

@@ -4,7 +4,7 @@ ghost use Rattle.std.specs.Prelude.{◌≡◌, ◌≤◌, ◌<◌, ◌-◌, ◌^
 ghost use Rattle.std.specs.Str.{chars};
 ghost use Rattle.gabc_headers.specs.Canonical.{header_lines};
 ghost use Rattle.gabc_headers.specs.Entries.{key_name, spelled_entries};
-ghost use Rattle.gabc_headers.specs.machine.EntryMap.{HasPlace, IsKeyOf, comes_again, AreWithin, values_end};
+ghost use Rattle.gabc_headers.specs.machine.EntryMap.{HasPlace, IsKeyOf, named_entries, comes_again, AreWithin, values_end};
 ghost use Rattle.gabc_headers.specs.EntryMap.{put_entry};
 ghost use Rattle.gabc_headers.specs.Lines.{bytes_len};
 
@@ -60,17 +60,16 @@ pub(crate) struct EntryMap {
 }
 
 impl Model for EntryMap {
+    ghost use Rattle.std.specs.Prelude.{ℕ, List};
+    ghost use Rattle.std.specs.declared.hash.DefaultHasher.{DefaultHasher};
     ghost use Rattle.indexmap.specs.IndexMap.{hasher_of, spare};
-    ghost use Rattle.gabc_headers.specs.Entries.{EntryMapState, named_entries};
+    ghost use Rattle.gabc_places.specs.declared.place.Span.{Span};
+    ghost use Rattle.gabc_headers.specs.declared.entry_map.Key.{Key};
     ghost use Rattle.gabc_headers.specs.machine.EntryMap.{IsEntryRoom};
 
-    ghost Value = { EntryMapState };
+    ghost Value = { List (Key × Span) × ℕ × DefaultHasher };
 
-    ghost view = { λ g. record {
-      items = named_entries g.map.entries;
-      limit = g.limit;
-      hasher = (hasher_of g.map).first;
-    } };
+    ghost view = { λ g. (g.map.entries, g.limit, (hasher_of g.map).first) };
 
     ghost invariant = { λ g. IsEntryRoom g.limit (spare g.map) g.map.entries };
 }
@@ -83,8 +82,7 @@ impl EntryMap {
         limit: usize,
         hasher: DefaultHasher,
     ) -> Result<EntryMap, AllocError>
-        ensures { IfOk result (λ map. map
-            ≡ record { items = []; limit = limit; hasher = hasher }) }
+        ensures { IfOk result (λ map. map ≡ ([], limit, hasher)) }
     {
         Ok(EntryMap {
             map: IndexMap::with_capacity_and_hasher(alloc, limit, NameHashers { first: hasher })?,
@@ -94,7 +92,7 @@ impl EntryMap {
 
     /// Forgets the headers. Their memory stays reserved.
     pub(crate) fn clear(&mut self)
-        ensures { self.new ≡ record self.old { items = [] } }
+        ensures { self.new ≡ ([], self.old.1, self.old.2) }
     {
         self.map.clear();
     }
@@ -104,10 +102,11 @@ impl EntryMap {
     pub(crate) fn put(&mut self, name: &str, value: Span) -> bool
         requires short { length name.now ≤ 64 }
         requires room { HasPlace self.old }
-        ensures put { self.new ≡ record self.old {
-          items = put_entry self.old.items (chars name.now) value;
-        } }
-        ensures again { result ≡ comes_again self.old.items (chars name.now) }
+        ensures put { named_entries self.new.0
+            ≡ put_entry (named_entries self.old.0) (chars name.now) value }
+        ensures limit { self.new.1 ≡ self.old.1 }
+        ensures hasher { self.new.2 ≡ self.old.2 }
+        ensures again { result ≡ comes_again (named_entries self.old.0) (chars name.now) }
     {
         let key = Key::of(name, self.map.len());
         if let Some(index) = self.map.get_index_of(&key) {
@@ -122,15 +121,15 @@ impl EntryMap {
 
     /// The number of headers.
     pub(crate) fn len(&self) -> usize
-        ensures { result ≡ length self.now.items }
+        ensures { result ≡ length self.now.0 }
     {
         self.map.len()
     }
 
     /// The name of a header, by its index.
     pub(crate) fn name(&self, index: usize) -> &str
-        requires { index < length self.now.items }
-        ensures { IsSomeAnd (slice_get self.now.items index) (λ entry. chars result.now ≡ entry.0) }
+        requires { index < length self.now.0 }
+        ensures { IsSomeAnd (slice_get self.now.0 index) (λ entry. chars result.now ≡ key_name entry.0) }
     {
         match self.map.get_index(index) {
             Some((key, _)) => key.name(),
@@ -140,17 +139,17 @@ impl EntryMap {
 
     /// Where the value of a header stands, by its index.
     fn value(&self, index: usize) -> Span
-        requires { index < length self.now.items }
-        ensures { IsSomeAnd (slice_get self.now.items index) (λ entry. entry.1 ≡ result) }
+        requires { index < length self.now.0 }
+        ensures { IsSomeAnd (slice_get self.now.0 index) (λ entry. entry.1 ≡ result) }
     {
         self.map[index]
     }
 
     /// The value of a header of a text, by its index.
     pub(crate) fn value_in<'a>(&self, text: &'a str, index: usize) -> &'a str
-        requires within { AreWithin text.now self.now.items }
-        requires index { index < length self.now.items }
-        ensures { IsSomeAnd (slice_get (spelled_entries text.now self.now.items) index)
+        requires within { AreWithin text.now self.now.0 }
+        requires index { index < length self.now.0 }
+        ensures { IsSomeAnd (slice_get (spelled_entries text.now self.now.0) index)
             (λ entry. chars result.now ≡ entry.1) }
     {
         let value = self.value(index);
@@ -160,8 +159,8 @@ impl EntryMap {
     /// The number of bytes of the canonical lines of these headers of a text, or the largest number
     /// if there are more.
     pub(crate) fn canonical_len(&self, text: &str) -> usize
-        requires { AreWithin text.now self.now.items }
-        ensures { result ≡ min (bytes_len (header_lines (spelled_entries text.now self.now.items)))
+        requires { AreWithin text.now self.now.0 }
+        ensures { result ≡ min (bytes_len (header_lines (spelled_entries text.now self.now.0)))
             (2 ^ 64 - 1) }
     {
         let mut counter = ByteCounter::new();
@@ -173,10 +172,10 @@ impl EntryMap {
 
     /// Returns the byte of a text after the last of these values, or 0 where there are none.
     pub(crate) fn end(&self, text: &str) -> usize
-        requires { AreWithin text.now self.now.items }
-        ensures exact { result ≡ values_end self.now.items }
+        requires { AreWithin text.now self.now.0 }
+        ensures exact { result ≡ values_end self.now.0 }
         ensures last { IsCharBoundary text.now result }
-        ensures within { AreWithin (take result text.now) self.now.items }
+        ensures within { AreWithin (take result text.now) self.now.0 }
     {
         let mut end = 0;
         for index in 0..self.len() {

@@ -73,12 +73,12 @@ impl Model for HeaderStage {
     ghost Value = { HeaderStageState };
 
     ghost view = { λ s.
-        let book = book_in s.part (string_bytes s.text) s.headers.items in
+        let book = book_in s.part (string_bytes s.text) s.headers.0 in
         record {
           limits = s.limits;
           progress = progress_in s.part (string_bytes s.text) book;
           book = book;
-          hasher = s.headers.hasher;
+          hasher = s.headers.2;
         } };
 
     ghost invariant = { λ s. IsStageIn s.part s.limits (string_bytes s.text)

@@ -31,9 +31,9 @@ impl<'a> Model for Headers<'a> {
 
     ghost Value = { List (List ℕ × List ℕ) };
 
-    ghost view = { λ h. drop h.first (spelled_entries h.text.now h.headers.now.items) };
+    ghost view = { λ h. drop h.first (spelled_entries h.text.now h.headers.now.0) };
 
-    ghost invariant = { λ h. AreWithin h.text.now h.headers.now.items };
+    ghost invariant = { λ h. AreWithin h.text.now h.headers.now.0 };
 }
 
 /// The name of a macro's header.
@@ -66,8 +66,8 @@ fn lines_in(value: &str) -> u8
 impl<'a> Headers<'a> {
     /// All of these headers of a text.
     pub(crate) fn of(text: &'a str, headers: &'a EntryMap) -> Headers<'a>
-        requires { AreWithin text.now headers.now.items }
-        ensures { result ≡ spelled_entries text.now headers.now.items }
+        requires { AreWithin text.now headers.now.0 }
+        ensures { result ≡ spelled_entries text.now headers.now.0 }
     {
         Headers {
             text,
@@ -78,7 +78,7 @@ impl<'a> Headers<'a> {
 
     /// None of these headers.
     pub(crate) fn none(text: &'a str, headers: &'a EntryMap) -> Headers<'a>
-        requires { AreWithin text.now headers.now.items }
+        requires { AreWithin text.now headers.now.0 }
         ensures { result ≡ [] }
     {
         Headers {

@@ -44,9 +44,9 @@ pub(crate) fn score_len(
     place: Place,
     open_line: Option<u64>,
 ) -> Result<usize, Fault>
-    requires { AreWithin text.now headers.now.items }
+    requires { AreWithin text.now headers.now.0 }
     ensures { result
-        ≡ len_at_score limits place open_line (spelled_entries text.now headers.now.items) }
+        ≡ len_at_score limits place open_line (spelled_entries text.now headers.now.0) }
 {
     if let Some(line) = open_line {
         return Err(value_fault(line));

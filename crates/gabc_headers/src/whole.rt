@@ -77,10 +77,10 @@ fn at_score(
     open_line: Option<u64>,
     collected: Collected,
 ) -> Result<Result<Heads, HeadFault>, AllocError>
-    requires { AreWithin text.now collected.headers.items }
+    requires { AreWithin text.now collected.headers.0 }
     ensures { IfOk result (λ read. read
         ≡ heads_at_score limits place body open_line
-        (spelled_entries text.now collected.headers.items) collected.findings) }
+        (spelled_entries text.now collected.headers.0) collected.findings) }
 {
     match score_len(limits, text, &collected.headers, place, open_line) {
         Ok(_) => {}

@@ -13,8 +13,8 @@ use Rattle.gabc_marks.specs.declared.picture.Part.{Part}
 abbrev pub height_at : ℕ → ℤ
 height_at pitch = pos 1500 -ℤ pos (500 * pitch)
 
--- the pitches of the notes of a neume, of which the first is p, and each further one is higher or
--- lower by so many steps
+-- the pitches of the notes of a neume, of which the first is p, and each further one lies a, b or c
+-- steps above or below the one before it
 abbrev pub pitches_of_family : Family → ℕ → ℕ → ℕ → ℕ → List ℕ
 pitches_of_family family.Flexus p a b c = p ∷ (p - a) ∷ []
 pitches_of_family family.FlexusOriscus p a b c = p ∷ (p - a) ∷ []

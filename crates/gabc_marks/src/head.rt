@@ -85,7 +85,7 @@ impl Metrics {
         }
     }
 
-    /// Returns those of a broad stroke that falls by so many steps.
+    /// Returns those of a broad stroke that falls by `steps` of the staff.
     fn of_stroke(steps: u8) -> Metrics {
         let steps = i32::from(steps);
         Metrics::new(1460 + 120 * steps, 340, 500 * steps + 340)

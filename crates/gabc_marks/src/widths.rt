@@ -56,10 +56,11 @@ fn small_capital_width(c: char) -> u32 {
     }
 }
 
-/// Returns so many thousandths of `size`.
+/// Returns `thousandths` of `size`, rounded to the nearest number: what is cut down would add up
+/// over the texts of a row.
 fn part_of(size: Distance, thousandths: u32) -> Distance {
-    let width = i64::from(thousandths).saturating_mul(i64::from(size.0)) / 1000;
-    Distance(i32::try_from(width).unwrap_or(i32::MAX))
+    let width = i64::from(thousandths).saturating_mul(i64::from(size.0));
+    Distance(i32::try_from(width.saturating_add(500) / 1000).unwrap_or(i32::MAX))
 }
 
 /// Returns the width of `text` in plain type of this `size`.

@@ -1,3 +1,4 @@
 pub mod EscapedTexts
+pub mod PlainTexts
 pub mod Written
 pub mod RowsOneByOne

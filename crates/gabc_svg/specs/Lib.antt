@@ -3,3 +3,4 @@ pub mod Laws
 pub mod OutlineNames
 pub mod Page
 pub mod Xml
+pub mod machine

@@ -153,7 +153,7 @@ row_content row parts =
     Element tag.Group (valued name.Class (codes "row") ∷ moved_to row.x.0 row.y.0 ∷ [])
     (and_then (signs_content row.levels row.signs.items) (parts_content row.levels parts)) Nothing
 
--- how many of so many parts stand in a row before these rows: the last row has all that are left
+-- how many of the parts that are left stand in a row before these rows: the last row has them all
 abbrev pub parts_in : Row → List Row → ℕ → ℕ
 parts_in row [] left = left
 parts_in row (next ∷ later) left = min row.parts left

@@ -2,7 +2,9 @@
 
 ghost use Rattle.std.specs.Prelude.{◌≡◌, ◌<◌, encode_utf8};
 ghost use Rattle.std.specs.Fmt.{decimal, signed_decimal};
+ghost use Rattle.std.specs.List.{list_all};
 ghost use Rattle.gabc_svg.specs.Escape.{escaped, escaped_char, escaped_control, is_hidden as hides};
+ghost use Rattle.gabc_svg.specs.machine.Plain.{is_plain};
 
 use gabc_places::Put;
 use itoa::Buffer;
@@ -58,8 +60,22 @@ fn put_escaped_char<S: Put>(c: char, out: &mut S)
     }
 }
 
-/// Puts `text` as it stands in a text or in the value of an attribute.
-pub(crate) fn put_escaped<S: Put>(text: &str, out: &mut S)
+/// Returns whether `byte` is a character that stands in a text as it is.
+fn is_plain(byte: u8) -> bool
+    ensures { result ≡ is_plain byte }
+{
+    32 <= byte && byte <= 126 && !(byte == b'&' || byte == b'<' || byte == b'>' || byte == b'"')
+}
+
+/// Returns whether all of `text` stands as it is.
+fn are_plain(text: &str) -> bool
+    ensures { result ≡ list_all is_plain text.now }
+{
+    text.bytes().all(|byte| is_plain(byte))
+}
+
+/// Puts the characters of `text`, each as it stands in a text or in the value of an attribute.
+fn put_chars<S: Put>(text: &str, out: &mut S)
     ensures { out.new ≡ S.taken out.old (escaped text.now) }
 {
     for c in text.chars() {
@@ -67,16 +83,30 @@ pub(crate) fn put_escaped<S: Put>(text: &str, out: &mut S)
     }
 }
 
+/// Puts `text` as it stands in a text or in the value of an attribute.
+#[tactic(auto, using(crate::proofs::PlainTexts::plain_stays))]
+pub(crate) fn put_escaped<S: Put>(text: &str, out: &mut S)
+    ensures { out.new ≡ S.taken out.old (escaped text.now) }
+{
+    if are_plain(text) {
+        out.put(text.as_bytes());
+    } else {
+        put_chars(text, out);
+    }
+}
+
 /// Puts `number` in decimal digits.
+#[tactic(auto, using(crate::proofs::PlainTexts::decimal_stays))]
 pub(crate) fn put_decimal<S: Put>(number: u32, out: &mut S)
     ensures { out.new ≡ S.taken out.old (escaped (decimal number)) }
 {
-    put_escaped(Buffer::new().format(number), out);
+    out.put(Buffer::new().format(number).as_bytes());
 }
 
 /// Puts `number` in decimal digits, with its sign if it is below 0.
+#[tactic(auto, using(crate::proofs::PlainTexts::signed_stays))]
 pub(crate) fn put_signed<S: Put>(number: i32, out: &mut S)
     ensures { out.new ≡ S.taken out.old (escaped (signed_decimal number)) }
 {
-    put_escaped(Buffer::new().format(number), out);
+    out.put(Buffer::new().format(number).as_bytes());
 }

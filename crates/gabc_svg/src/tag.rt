@@ -41,57 +41,73 @@ pub enum Name {
 }
 
 impl Tag {
-    ghost use Rattle.std.specs.Prelude.{◌≡◌};
-    ghost use Rattle.gabc_svg.specs.Xml.{text_of_tag};
+    ghost use Rattle.std.specs.Prelude.{◌≡◌, ◌++◌, codes};
+    ghost use Rattle.gabc_svg.specs.Xml.{closed, text_of_tag};
 
-    /// Returns the name as it stands in a text.
-    pub fn text(self) -> &'static str
-        ensures { result.now ≡ text_of_tag self }
+    /// Returns what begins the tag that opens the element: its attributes follow.
+    pub fn begin(self) -> &'static str
+        ensures { result.now ≡ codes "<" ++ text_of_tag self }
     {
         match self {
-            Tag::Svg => "svg",
-            Tag::Title => "title",
-            Tag::Group => "g",
-            Tag::Rect => "rect",
-            Tag::Use => "use",
-            Tag::Text => "text",
-            Tag::Path => "path",
+            Tag::Svg => "<svg",
+            Tag::Title => "<title",
+            Tag::Group => "<g",
+            Tag::Rect => "<rect",
+            Tag::Use => "<use",
+            Tag::Text => "<text",
+            Tag::Path => "<path",
+        }
+    }
+
+    /// Returns the tag that closes the element.
+    #[tactic(auto, unfolding(crate::specs::Xml::closed))]
+    pub fn close(self) -> &'static str
+        ensures { result.now ≡ closed self }
+    {
+        match self {
+            Tag::Svg => "</svg>",
+            Tag::Title => "</title>",
+            Tag::Group => "</g>",
+            Tag::Rect => "</rect>",
+            Tag::Use => "</use>",
+            Tag::Text => "</text>",
+            Tag::Path => "</path>",
         }
     }
 }
 
 impl Name {
-    ghost use Rattle.std.specs.Prelude.{◌≡◌};
+    ghost use Rattle.std.specs.Prelude.{◌≡◌, ◌++◌, codes};
     ghost use Rattle.gabc_svg.specs.Xml.{text_of_name};
 
-    /// Returns the name as it stands in a text.
-    pub fn text(self) -> &'static str
-        ensures { result.now ≡ text_of_name self }
+    /// Returns what begins the attribute in a text: its value follows.
+    pub fn begin(self) -> &'static str
+        ensures { result.now ≡ codes " " ++ (text_of_name self ++ codes "=\"") }
     {
         match self {
-            Name::Xmlns => "xmlns",
-            Name::Space => "xml:space",
-            Name::ViewBox => "viewBox",
-            Name::Width => "width",
-            Name::Height => "height",
-            Name::Class => "class",
-            Name::FontSize => "font-size",
-            Name::Role => "role",
-            Name::Transform => "transform",
-            Name::X => "x",
-            Name::Y => "y",
-            Name::Href => "href",
-            Name::TextLength => "textLength",
-            Name::LengthAdjust => "lengthAdjust",
-            Name::FontWeight => "font-weight",
-            Name::FontStyle => "font-style",
-            Name::FontVariant => "font-variant",
-            Name::FontFamily => "font-family",
-            Name::TextDecoration => "text-decoration",
-            Name::Id => "id",
-            Name::Begin => "data-begin",
-            Name::End => "data-end",
-            Name::Course => "d",
+            Name::Xmlns => " xmlns=\"",
+            Name::Space => " xml:space=\"",
+            Name::ViewBox => " viewBox=\"",
+            Name::Width => " width=\"",
+            Name::Height => " height=\"",
+            Name::Class => " class=\"",
+            Name::FontSize => " font-size=\"",
+            Name::Role => " role=\"",
+            Name::Transform => " transform=\"",
+            Name::X => " x=\"",
+            Name::Y => " y=\"",
+            Name::Href => " href=\"",
+            Name::TextLength => " textLength=\"",
+            Name::LengthAdjust => " lengthAdjust=\"",
+            Name::FontWeight => " font-weight=\"",
+            Name::FontStyle => " font-style=\"",
+            Name::FontVariant => " font-variant=\"",
+            Name::FontFamily => " font-family=\"",
+            Name::TextDecoration => " text-decoration=\"",
+            Name::Id => " id=\"",
+            Name::Begin => " data-begin=\"",
+            Name::End => " data-end=\"",
+            Name::Course => " d=\"",
         }
     }
 }

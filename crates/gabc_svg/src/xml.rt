@@ -14,27 +14,21 @@ use gabc_places::Put;
 pub(crate) fn begin_tag<S: Put>(tag: Tag, out: &mut S)
     ensures { out.new ≡ S.taken out.old (opened tag []) }
 {
-    out.put(b"<");
-    out.put(tag.text().as_bytes());
+    out.put(tag.begin().as_bytes());
 }
 
 /// Puts the tag that closes the element `tag`.
-#[tactic(auto, using(crate::proofs::Written::steps), unfolding(crate::specs::Xml::closed))]
 pub(crate) fn close_tag<S: Put>(tag: Tag, out: &mut S)
     ensures { out.new ≡ S.taken out.old (closed tag) }
 {
-    out.put(b"</");
-    out.put(tag.text().as_bytes());
-    out.put(b">");
+    out.put(tag.close().as_bytes());
 }
 
 /// Puts what begins the attribute `name`: its value follows.
 pub(crate) fn begin_value<S: Put>(name: Name, out: &mut S)
     ensures { out.new ≡ S.taken out.old (codes " " ++ (text_of_name name ++ codes "=\"")) }
 {
-    out.put(b" ");
-    out.put(name.text().as_bytes());
-    out.put(b"=\"");
+    out.put(name.begin().as_bytes());
 }
 
 /// Puts the attribute `name` with this `value`.

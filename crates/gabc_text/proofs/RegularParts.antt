@@ -1,5 +1,5 @@
 -- Parts of a regular text, one after another.
-use Rattle.std.proofs.Common.{◌≡◌, ℕ, ◌<◌, ◌≤◌, ◌+◌, ◌-◌, ◌==◌, List, [], ◌∷◌, ◌++◌, Bool, true, false, not, length, refl, sym, ap, ap₂, subst, ◌∙◌, arith, take, drop, get_or, map, append_assoc, length-append, Option, Some, None, zero, suc, filter, append-nil}
+use Rattle.std.proofs.Common.{◌≡◌, ℕ, ◌<◌, ◌≤◌, ◌+◌, ◌-◌, ◌==◌, List, [], ◌∷◌, ◌++◌, Bool, true, false, not, length, refl, sym, ap, ap₂, subst, ◌∙◌, arith, take, drop, get_or, map, append_assoc, length-append, Option, Some, None, zero, suc, filter, append-nil, codes}
 use Rattle.std.specs.Cmp.Lexicographic.{pointwise}
 use Rattle.std.proofs.lemmas.Bool.{true≢false, not-false}
 use Rattle.std.proofs.lemmas.Bool.Decides.{Decides-eqb}
@@ -12,10 +12,11 @@ use Rattle.gabc_text.specs.declared.styles.Style.{Style}
 use Rattle.gabc_text.specs.declared.span_mark.SpanMark.{SpanMark}
 use Rattle.gabc_text.specs.declared.regular.Before.{Before}
 use Rattle.gabc_text.specs.Token.{spelling}
-use Rattle.gabc_text.specs.View.{PieceFacts, is_same, all_styles}
+use Rattle.gabc_text.specs.TagNames.{all_styles, style_name}
+use Rattle.gabc_text.specs.View.{PieceFacts, is_same}
 use Rattle.gabc_text.specs.ViewFacts.{tags_among}
 use Rattle.gabc_text.specs.RegularText.{tags_of}
-use Rattle.gabc_text.specs.Printed.{print_from, text_of_tokens, opening_tag, closing_tag, name_of}
+use Rattle.gabc_text.specs.Printed.{print_from, text_of_tokens, opening_tag, closing_tag}
 use Rattle.gabc_text.specs.machine.PrintedPieces.{Good, AllGood}
 use Rattle.gabc_text.specs.machine.RegularBytes.{in_style, is_style, word_after, blank_after, first_styles, last_styles, AreApart, printed_text, IsSpelled, IsRun, IsEnclosed, IsPart, IsBegun, nothing_before, is_low}
 use Rattle.gabc_text.proofs.printing.PiecesPrintWell.{good_after}
@@ -61,7 +62,7 @@ pub plain_part : (bs : List ℕ) → IsRun bs → 0 < length bs → IsPart None 
 plain_part bs r some = part_of None (λ s. false) bs bs r some refl (subst (λ (t : List ℕ). IsSpelled t bs) (sym (plain_printed r.pieces)) r.spells)
 
 -- tags are of ASCII
-name_low : (s : Style) → list_all is_low (name_of s) ≡ true
+name_low : (s : Style) → list_all is_low (style_name s ++ codes ">") ≡ true
 name_low s = grind arith
 
 opening_spelled : (s : Style) → IsSpelled (spelling (opening_tag s)) (spelling (opening_tag s))

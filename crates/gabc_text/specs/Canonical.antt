@@ -3,7 +3,6 @@ use Rattle.std.specs.Prelude.{ℕ, ◌+◌, ◌==◌, List, [], ◌∷◌, ◌++
 use Rattle.std.specs.List.{filter, flat_map}
 use Rattle.gabc_places.specs.declared.place.Span.{Span}
 use Rattle.gabc_text.specs.declared.styles.Style.{Style}
-use Rattle.gabc_text.specs.declared.styles.Style.TheVariants.{B, C, E, I, Sc, Tt, Ul}
 use Rattle.gabc_text.specs.declared.styles.Styles.{Styles}
 use Rattle.gabc_text.specs.declared.view.PieceKind.{PieceKind}
 use Rattle.gabc_text.specs.declared.view.PieceKind.TheVariants as piece
@@ -11,7 +10,8 @@ use Rattle.gabc_text.specs.declared.view.Piece.{Piece}
 use Rattle.gabc_text.specs.TextView.{ViewContent}
 use Rattle.gabc_text.specs.TextFacts.{has_style}
 use Rattle.gabc_text.specs.Token.{is_special}
-use Rattle.gabc_text.specs.View.{all_styles, is_same}
+use Rattle.gabc_text.specs.TagNames.{all_styles, style_name}
+use Rattle.gabc_text.specs.View.{is_same}
 
 -- ---- the tags and braces of a boundary
 
@@ -26,22 +26,10 @@ after_common (s ∷ old) [] = (s ∷ old, [])
 after_common (s ∷ old) (r ∷ new) = cond (is_same s r) (after_common old new) (s ∷ old, r ∷ new)
 
 abbrev pub style_opening : Style → List ℕ
-style_opening B = codes "<b>"
-style_opening C = codes "<c>"
-style_opening E = codes "<e>"
-style_opening I = codes "<i>"
-style_opening Sc = codes "<sc>"
-style_opening Tt = codes "<tt>"
-style_opening Ul = codes "<ul>"
+style_opening s = codes "<" ++ (style_name s ++ codes ">")
 
 abbrev pub style_closing : Style → List ℕ
-style_closing B = codes "</b>"
-style_closing C = codes "</c>"
-style_closing E = codes "</e>"
-style_closing I = codes "</i>"
-style_closing Sc = codes "</sc>"
-style_closing Tt = codes "</tt>"
-style_closing Ul = codes "</ul>"
+style_closing s = codes "</" ++ (style_name s ++ codes ">")
 
 -- the braces before the piece with this index
 abbrev pub braces : Option Span → ℕ → List ℕ

@@ -3,32 +3,22 @@
 use Rattle.std.specs.Prelude.{ℕ, ◌+◌, List, [], ◌∷◌, ◌++◌, Bool, true, false, cond, ◌==◌, Option, Some, None, map, reverse, codes}
 use Rattle.std.specs.List.{concat}
 use Rattle.gabc_text.specs.declared.styles.Style.{Style}
-use Rattle.gabc_text.specs.declared.styles.Style.TheVariants.{B, C, E, I, Sc, Tt, Ul}
 use Rattle.gabc_text.specs.declared.view.PieceKind.{PieceKind}
 use Rattle.gabc_text.specs.declared.view.PieceKind.TheVariants as piece
 use Rattle.gabc_text.specs.declared.token.TokenKind.{TokenKind}
 use Rattle.gabc_text.specs.declared.token.TokenKind.TheVariants as kind
+use Rattle.gabc_text.specs.TagNames.{style_name}
 use Rattle.gabc_text.specs.Token.{Token, spelling, is_special}
 use Rattle.gabc_places.specs.declared.place.Span.{Span}
 use Rattle.gabc_text.specs.View.{PieceFacts}
 use Rattle.gabc_text.specs.ViewFacts.{ViewFacts}
 use Rattle.gabc_text.specs.Canonical.{after_common}
 
--- what stands in a style's tags, with the `>`
-abbrev pub name_of : Style → List ℕ
-name_of B = codes "b>"
-name_of C = codes "c>"
-name_of E = codes "e>"
-name_of I = codes "i>"
-name_of Sc = codes "sc>"
-name_of Tt = codes "tt>"
-name_of Ul = codes "ul>"
-
 abbrev pub opening_tag : Style → Token
-opening_tag s = record { kind = kind.Tag; first = 60; more = name_of s }
+opening_tag s = record { kind = kind.Tag; first = 60; more = style_name s ++ codes ">" }
 
 abbrev pub closing_tag : Style → Token
-closing_tag s = record { kind = kind.Tag; first = 60; more = 47 ∷ name_of s }
+closing_tag s = record { kind = kind.Tag; first = 60; more = codes "/" ++ (style_name s ++ codes ">") }
 
 -- the braces at a position
 abbrev pub begin_brace : Token

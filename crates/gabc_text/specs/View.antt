@@ -1,9 +1,8 @@
 -- What a text means, by its tokens. In these definitions `before` are the tokens before a place,
 -- the nearest first.
-use Rattle.std.specs.Prelude.{if◌then◌else◌, ℕ, ◌+◌, List, [], ◌∷◌, ◌++◌, Bool, true, false, cond, not, ◌||◌, ◌&&◌, ◌==◌, length, take, filter, min, Option, Some, None, is_some, map, reverse, drop}
+use Rattle.std.specs.Prelude.{if◌then◌else◌, ℕ, ◌+◌, List, [], ◌∷◌, ◌++◌, Bool, true, false, cond, not, ◌||◌, ◌&&◌, length, take, filter, min, Option, Some, None, is_some, map, reverse, drop}
 use Rattle.std.specs.List.{list_any}
 use Rattle.gabc_text.specs.declared.styles.Style.{Style}
-use Rattle.gabc_text.specs.declared.styles.Style.TheVariants.{B, C, E, I, Sc, Tt, Ul}
 use Rattle.gabc_text.specs.declared.view.PieceKind.{PieceKind}
 use Rattle.gabc_text.specs.declared.view.PieceKind.TheVariants as piece
 use Rattle.gabc_places.specs.declared.code.Code.{Code}
@@ -19,7 +18,8 @@ use Rattle.gabc_text.specs.declared.token.TokenKind.{TokenKind}
 use Rattle.gabc_text.specs.declared.token.TokenKind.TheVariants.{Letter, Blank, Comment, Stray, Begin, End, Tag, Raw, Translation, OpenTag, OpenTranslation}
 use Rattle.gabc_text.specs.declared.token.TagEffect.{TagEffect}
 use Rattle.gabc_text.specs.declared.token.TagEffect.TheVariants.{Opens, Closes, Mark, Other}
-use Rattle.gabc_text.specs.Token.{Token, spelling, tokens, effect_of}
+use Rattle.gabc_text.specs.TagNames.{all_styles, style_name}
+use Rattle.gabc_text.specs.Token.{Token, spelling, tokens, is_text, effect_of}
 
 -- what a token does to the styles and spans
 abbrev pub effect_as : TokenKind → List ℕ → TagEffect
@@ -51,20 +51,9 @@ bytes_of (c ∷ t) = len_utf8 c + bytes_of t
 
 -- ---- styles
 
-abbrev pub rank : Style → ℕ
-rank B = 0
-rank C = 1
-rank E = 2
-rank I = 3
-rank Sc = 4
-rank Tt = 5
-rank Ul = 6
-
+-- they have the same name
 abbrev pub is_same : Style → Style → Bool
-is_same r s = rank r == rank s
-
-abbrev pub all_styles : List Style
-all_styles = B ∷ C ∷ E ∷ I ∷ Sc ∷ Tt ∷ Ul ∷ []
+is_same r s = is_text (style_name r) (style_name s)
 
 -- the style is open after a tag of this sort, if it was open or not before it
 abbrev pub is_open_after : Style → TagEffect → Bool → Bool

@@ -8,7 +8,8 @@ ghost use Rattle.gabc_text.specs.witness.FactsPast.{leaves_out};
 ghost use Rattle.gabc_text.specs.witness.EventsLeft.{piece_by, codes_by};
 ghost use Rattle.gabc_text.specs.TextFacts.{has_style, no_facts};
 ghost use Rattle.gabc_text.specs.machine.TokenState.{keep, keep_first};
-ghost use Rattle.gabc_text.specs.View.{all_styles, piece_kind};
+ghost use Rattle.gabc_text.specs.TagNames.{all_styles};
+ghost use Rattle.gabc_text.specs.View.{piece_kind};
 
 use crate::styles::Styles;
 use crate::token::{TagEffect, TokenKind, is_blank_kind, single};

@@ -1,18 +1,20 @@
 -- The nodes of a syllable's text, by the tokens of its kept text. In these definitions `before` are
 -- the tokens before a place, the nearest first, and `after` those after it.
 use Rattle.std.specs.Prelude.{if◌then◌else◌, ℕ, ◌+◌, List, [], ◌∷◌, ◌++◌, Bool, true, false, not, ◌&&◌, ◌==◌, nat_lt, length, Option, Some, None, is_some, codes, option_to_list}
-use Rattle.std.specs.List.{list_any, starts_with}
+use Rattle.std.specs.List.{list_any, position_or_len, starts_with}
 use Rattle.std.specs.Str.{chars}
 use Rattle.gabc_places.specs.declared.place.Span.{Span}
 use Rattle.gabc_text.specs.declared.span_mark.SpanMark.{SpanMark}
 use Rattle.gabc_text.specs.declared.span_mark.SpanMark.TheVariants.{OpensEu, ClosesEu, OpensNlba, ClosesNlba}
+use Rattle.gabc_text.specs.declared.styles.Style.{Style}
 use Rattle.gabc_text.specs.declared.styles.Styles.{Styles}
 use Rattle.gabc_text.specs.declared.token.TagEffect.{TagEffect}
 use Rattle.gabc_text.specs.declared.token.TagEffect.TheVariants.{Opens, Closes, Mark}
 use Rattle.gabc_text.specs.declared.token.TokenKind.{TokenKind}
 use Rattle.gabc_text.specs.declared.token.TokenKind.TheVariants.{Letter, Blank, Begin, End, Tag, Raw, Translation}
 use Rattle.gabc_text.specs.Token.{Token, spelling, tokens}
-use Rattle.gabc_text.specs.View.{effect, kind_of, rank, has_begin, has_end, has_translation}
+use Rattle.gabc_text.specs.TagNames.{all_styles}
+use Rattle.gabc_text.specs.View.{effect, kind_of, is_same, has_begin, has_end, has_translation}
 use Rattle.gabc_text.specs.Events.{styles_of, is_blank_at}
 use Rattle.gabc_text.specs.KeptText.{bytes_before}
 use Rattle.gabc_text.specs.RegularText.{mark_at}
@@ -58,12 +60,16 @@ number_of_mark (Some OpensNlba) = 2
 number_of_mark (Some ClosesNlba) = 3
 number_of_mark None = 0
 
+-- the index of a style among all of them
+abbrev pub number_of_style : Style → ℕ
+number_of_style s = position_or_len (is_same s) all_styles
+
 -- ---- the node of a token
 
 -- of a tag with these bytes, numbers and spelling, by what it does
 abbrev pub tag_node : Span → ℕ → List ℕ → TagEffect → Node
-tag_node span n s (Opens r) = text_node span kind.StyleTag 0 (rank r) 0
-tag_node span n s (Closes r) = text_node span kind.StyleTag 0 (rank r) 1
+tag_node span n s (Opens r) = text_node span kind.StyleTag 0 (number_of_style r) 0
+tag_node span n s (Closes r) = text_node span kind.StyleTag 0 (number_of_style r) 1
 tag_node span n s Mark = text_node span kind.SpanMark n (number_of_mark (mark_at s)) 0
 tag_node span n s _ = text_node span kind.Tag n 0 0
 

@@ -1,15 +1,12 @@
 -- What an engine writes of an input in memory is put as it comes.
-use Rattle.std.proofs.Common.{◌≡◌, ℕ, ◌+◌, List, [], ◌++◌, take, drop, Option, take-append-drop, append_assoc, append-nil, refl, sym, ap, ◌∙◌, arith}
+use Rattle.std.proofs.Common.{◌≡◌, ℕ, ◌+◌, List, [], ◌++◌, take, drop, take-append-drop, append_assoc, false, refl, sym, ap, ◌∙◌, arith}
 use Rattle.std.proofs.lemmas.List.{drop-drop}
-use Rattle.gabc_places.specs.declared.code.Fault.{Fault}
 use Rattle.gabc_places.specs.declared.limits.Limits.{Limits}
 use Rattle.gregorio_jobs.specs.declared.job.Job.{Job}
-use Rattle.gregorio_jobs.specs.declared.job.Status.{Status}
 use Rattle.gregorio.specs.declared.source_ending.SourceEnding.{SourceEnding}
-use Rattle.gregorio.specs.Engine.{RunsJob, with_waiting}
+use Rattle.gregorio.specs.Engine.{NothingWaits, RunsJob, is_running, with_waiting}
 use Rattle.gregorio.specs.witness.Engine.{EngineState, streams_left}
-use Rattle.gregorio.specs.Streams.{Streams, after_bytes, ended_with}
-use Rattle.gregorio.specs.machine.InMemory.{TakeTheSame}
+use Rattle.gregorio.specs.Streams.{Streams, TakeTheSame, after_bytes}
 use Rattle.gregorio.proofs.PiecesAreSent.{IsTaken}
 
 -- what is left of an input, once an engine took n bytes more
@@ -22,6 +19,16 @@ left_past e f g input count k law forgets ending more =
     ∙ (law (drop k rest ++ more) ending
     ∙ (ap (λ (l : List ℕ). with_waiting f (streams_left f ending (l ++ more))) (drop-drop k count input)
     ∙ ap (λ (s : EngineState). after_bytes f.output f.messages (streams_left s ending (drop (count + k) input ++ more))) (sym forgets))))
+
+-- an engine in which nothing waits stays as it is if what waits is forgotten
+forgets_nothing : (e f : EngineState) → NothingWaits e → f ≡ record e { output = []; messages = [] } → f ≡ e
+forgets_nothing e f waits forgets = grind arith
+
+-- an engine that was over, and stood as it did, stands so after a piece
+pub still_over : (e f g h : EngineState) → f ≡ e → is_running e ≡ false → NothingWaits f → (is_running f ≡ false → g ≡ f) → h ≡ record g { output = []; messages = [] } → h ≡ e
+still_over e f g h same over waits takes forgets =
+    let stays : g ≡ f = takes (ap (λ (x : EngineState). is_running x) same ∙ over) in
+    forgets_nothing f h waits (forgets ∙ ap (λ (x : EngineState). record x { output = []; messages = [] }) stays) ∙ same
 
 -- what waits is none of its job
 pub runs_where_taken : (f g : EngineState) (job : Job) (limits : Limits) → g ≡ record f { output = []; messages = [] } → RunsJob job limits f → RunsJob job limits g
@@ -36,8 +43,3 @@ module _ {A B : Type 0} (takes : A → List ℕ → A) (takes_too : B → List �
     pub more_taken : (o p q : A) (m n r : B) (s t u : Streams) (output lines : List ℕ) → TakeTheSame takes takes_too o m s p n t → t ≡ after_bytes output lines u
         → q ≡ takes p output → r ≡ takes_too n lines → TakeTheSame takes takes_too o m s q r u
     more_taken o p q m n r s t u output lines h parts i j = grind arith
-
-  -- they took the last
-  pub last_taken : (o p q : A) (m n r : B) (s t : Streams) (output lines : List ℕ) (status : Status) (fault : Option Fault) → TakeTheSame takes takes_too o m s p n t → t ≡ after_bytes output lines (ended_with status fault)
-      → q ≡ takes p output → r ≡ takes_too n lines → (q ≡ takes o s.output) × (r ≡ takes_too m s.messages) × ((status ≡ s.status) × (fault ≡ s.fault))
-  last_taken o p q m n r s t output lines status fault h parts i j = grind (arith, append-nil)

@@ -1,6 +1,6 @@
 -- What a run writes: its output, its messages and its status; the texts of which an output is
--- joined.
-use Rattle.std.specs.Prelude.{ℕ, ◌+◌, ◌-◌, ◌^◌, min, List, [], ◌∷◌, ◌++◌, Bool, Option, encode_utf8_all, codes, map, if◌then◌else◌}
+-- joined; when two ways of writing it come to the same.
+use Rattle.std.specs.Prelude.{◌≡◌, ℕ, ◌+◌, ◌-◌, ◌^◌, min, List, [], ◌∷◌, ◌++◌, Bool, Option, encode_utf8_all, codes, map, if◌then◌else◌}
 use Rattle.std.specs.Borrow.{Bor}
 use Rattle.gabc_places.specs.declared.code.Fault.{Fault}
 use Rattle.gabc_places.specs.StageLaw.{concat_of}
@@ -36,6 +36,13 @@ streams_of_outcome job outcome = record { output = output_of job.format outcome;
 -- these bytes, and what follows them
 abbrev pub after_bytes : List ℕ → List ℕ → Streams → Streams
 after_bytes output messages rest = record rest { output = output ++ rest.output; messages = messages ++ rest.messages }
+
+-- Once two ends have taken these streams, they are as two others are that have taken those.
+pub record TakeTheSame {A B : Type 0} (takes : A → List ℕ → A) (takes_too : B → List ℕ → B) (out : A) (messages : B) (streams : Streams) (out_then : A) (messages_then : B) (streams_then : Streams) : Type 0 where
+  pub output : takes out_then streams_then.output ≡ takes out streams.output
+  pub lines : takes_too messages_then streams_then.messages ≡ takes_too messages streams.messages
+  pub status : streams_then.status ≡ streams.status
+  pub fault : streams_then.fault ≡ streams.fault
 
 -- what stands before the syllables
 abbrev pub heads_text : Format → List (List ℕ × List ℕ) → List ℕ

@@ -1,14 +1,15 @@
-//! A run over an input in memory.
+//! A run over an input in memory, in one piece or in several.
 
 ghost use Rattle.std.specs.Prelude.{◌≡◌, List, [], ◌++◌, ℕ, false};
 ghost use Rattle.gregorio.specs.declared.source_ending.SourceEnding.{SourceEnding as EndOfSource};
-ghost use Rattle.gregorio.specs.declared.source_ending.SourceEnding.TheVariants.{Whole};
-ghost use Rattle.gregorio.specs.Engine.{NothingWaits, StillRuns, fault_of, is_running};
-ghost use Rattle.gregorio.specs.Streams.{ended_with};
+ghost use Rattle.gregorio.specs.declared.source_ending.SourceEnding.TheVariants.{Broken, Whole};
+ghost use Rattle.gregorio.specs.Engine.{IsPrompt, NothingWaits, StillRuns, fault_of, is_running};
+ghost use Rattle.gregorio.specs.Streams.{TakeTheSame, ended_with};
 ghost use Rattle.gregorio.specs.witness.Engine.{streams_left};
-ghost use Rattle.gregorio.specs.machine.InMemory.{TakeTheSame};
 
 use crate::engine::Engine;
+use crate::engine_laws;
+use crate::source_ending::SourceEnding;
 use gabc_places::Put;
 use gregorio_jobs::Status;
 
@@ -23,29 +24,60 @@ pub(crate) fn put_waiting<O: Put, M: Put>(engine: &mut Engine, out: &mut O, mess
     engine.taken();
 }
 
-/// Feeds all of `input`, and puts what is written at it. What follows it, and how all of it ends,
-/// makes no difference.
-pub(crate) fn feed_input<O: Put, M: Put>(
+/// Ends a run, and puts what is written then. Returns how it ended.
+pub(crate) fn end_by<O: Put, M: Put>(
     engine: &mut Engine,
-    input: &[u8],
+    ending: SourceEnding,
     out: &mut O,
     messages: &mut M,
-)
+) -> Status
     requires waits { NothingWaits engine.old }
-    ensures waits { NothingWaits engine.new }
+    ensures out { out.new ≡ O.taken out.old (streams_left engine.old ending []).output }
+    ensures messages { messages.new
+        ≡ M.taken messages.old (streams_left engine.old ending []).messages }
+    ensures status { result ≡ (streams_left engine.old ending []).status }
+    ensures fault { fault_of engine.new ≡ (streams_left engine.old ending []).fault }
     ensures job { StillRuns engine.old engine.new }
-    ensures put { (ending : EndOfSource) (more : List ℕ) → TakeTheSame O.taken M.taken
-        out.old messages.old (streams_left engine.old ending (input.now ++ more))
-        out.new messages.new (streams_left engine.new ending more) }
+    ensures waits { NothingWaits engine.new }
+    ensures over { is_running engine.new ≡ false }
+    ensures last { (bytes : List ℕ) (later : EndOfSource) →
+        streams_left engine.new later bytes ≡ ended_with result (fault_of engine.new) }
+    ensures hasher { engine.new.heads.hasher ≡ engine.old.heads.hasher }
 {
-    let mut count = 0;
-    while count < input.len() {
-        count += engine.fill(&input[count..]);
-        put_waiting(engine, out, messages);
-    }
+    let status = match ending {
+        SourceEnding::Whole => engine.end(),
+        SourceEnding::Broken => engine.broken(),
+    };
+    put_waiting(engine, out, messages);
+    status
 }
 
 impl Engine {
+    /// Feeds all of `piece`, and puts what is written at it into `out` and `messages`. Nothing may
+    /// wait before, and nothing waits afterwards. What is put now and what is still to be written
+    /// then are together what was to be written before, whatever follows the piece and however the
+    /// input ends: how it is cut into pieces changes nothing. All that is known is put, but for the
+    /// held syllable. After a fatal fault or the end it puts nothing, and changes nothing. An end
+    /// that takes less than all is left as its `put` leaves it.
+    pub fn feed_all<O: Put, M: Put>(&mut self, piece: &[u8], out: &mut O, messages: &mut M)
+        requires waits { NothingWaits self.old }
+        ensures waits { NothingWaits self.new }
+        ensures put { (ending : EndOfSource) (more : List ℕ) → TakeTheSame O.taken M.taken
+            out.old messages.old (streams_left self.old ending (piece.now ++ more))
+            out.new messages.new (streams_left self.new ending more) }
+        ensures prompt { IsPrompt self.new.written.format (streams_left self.new Broken []) }
+        ensures job { StillRuns self.old self.new }
+        ensures over { is_running self.old ≡ false → self.new ≡ self.old }
+        ensures hasher { self.new.heads.hasher ≡ self.old.heads.hasher }
+    {
+        let mut count = 0;
+        while count < piece.len() {
+            count += self.fill(&piece[count..]);
+            put_waiting(self, out, messages);
+        }
+        engine_laws::nothing_is_kept_back(self);
+    }
+
     /// Reads `input`, the whole rest of the input, and puts all that is still to be written into
     /// `out` and `messages`. Returns how the run ended. Nothing may wait before, and nothing waits
     /// afterwards: the run is over then, as after `end`. An end that takes less than all is left as
@@ -68,10 +100,9 @@ impl Engine {
         ensures over { is_running self.new ≡ false }
         ensures last { (bytes : List ℕ) (ending : EndOfSource) →
             streams_left self.new ending bytes ≡ ended_with result (fault_of self.new) }
+        ensures hasher { self.new.heads.hasher ≡ self.old.heads.hasher }
     {
-        feed_input(self, input, out, messages);
-        let status = self.end();
-        put_waiting(self, out, messages);
-        status
+        self.feed_all(input, out, messages);
+        end_by(self, SourceEnding::Whole, out, messages)
     }
 }

@@ -3,14 +3,13 @@
 
 ghost use Rattle.std.specs.Prelude.{◌≡◌, ◌+◌, ◌*◌, ◌≤◌, ℕ, List, [], ◌++◌, length, max, IfErr, IfOk, OnOk};
 ghost use Rattle.gregorio.specs.declared.source_ending.SourceEnding.{SourceEnding as EndOfSource};
-ghost use Rattle.gregorio.specs.Engine.{NothingWaits};
 ghost use Rattle.gregorio.specs.Outcome.{outcome_of};
-ghost use Rattle.gregorio.specs.Streams.{joined, streams_of_outcome};
+ghost use Rattle.gregorio.specs.Streams.{TakeTheSame, joined, streams_of_outcome};
 ghost use Rattle.gregorio.specs.witness.Engine.{streams_left};
-ghost use Rattle.gregorio.specs.machine.InMemory.{IsBetweenPieces, TakeTheSame};
+ghost use Rattle.gregorio.specs.machine.InMemory.{IsBetweenPieces};
 
 use crate::engine::Engine;
-use crate::in_memory::{feed_input, put_waiting};
+use crate::in_memory::end_by;
 use crate::restored_laws;
 use crate::source_ending::SourceEnding;
 use crate::state_fault::StateFault;
@@ -39,7 +38,7 @@ fn feed_and_restore<O: Put, M: Put>(
         out.new messages.new (streams_left engine.new ending more)) }
     ensures memory { IfErr result (λ fault. fault ≡ StateFault.K0) }
 {
-    feed_input(engine, piece, out, messages);
+    engine.feed_all(piece, out, messages);
     if engine.running() {
         let restored = restored_laws::a_restored_run_goes_on(alloc, engine, job, limits, buf)?;
         // A proof follows a call faster than all that lies inside an engine.
@@ -71,27 +70,6 @@ fn feed_pieces<O: Put, M: Put>(
         feed_and_restore(alloc, engine, job, limits, piece, buf, out, messages)?;
     }
     Ok(())
-}
-
-/// Ends a run, and puts what is written then. Returns how it ended.
-fn end_by<O: Put, M: Put>(
-    engine: &mut Engine,
-    ending: SourceEnding,
-    out: &mut O,
-    messages: &mut M,
-) -> Status
-    requires waits { NothingWaits engine.old }
-    ensures out { out.new ≡ O.taken out.old (streams_left engine.old ending []).output }
-    ensures messages { messages.new
-        ≡ M.taken messages.old (streams_left engine.old ending []).messages }
-    ensures status { result ≡ (streams_left engine.old ending []).status }
-{
-    let status = match ending {
-        SourceEnding::Whole => engine.end(),
-        SourceEnding::Broken => engine.broken(),
-    };
-    put_waiting(engine, out, messages);
-    status
 }
 
 /// A run that is saved and restored after each of `pieces`, however its input is cut into them and

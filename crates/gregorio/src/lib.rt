@@ -28,6 +28,7 @@ mod filling;
 mod findings;
 mod held_headers;
 mod in_memory;
+pub mod in_pieces;
 pub mod interrupted;
 mod judging;
 pub mod laws;

@@ -92,7 +92,7 @@ fn feed_piece<O: Sink, M: Sink>(
 
 /// Reads a source up to its end, its first failure or one byte more than `limit`, feeds all to
 /// `engine`, and sends what it writes.
-fn feed_all<S: Source, O: Sink, M: Sink>(
+fn feed_source<S: Source, O: Sink, M: Sink>(
     engine: &mut Engine,
     limit: u32,
     source: &mut S,
@@ -157,7 +157,7 @@ fn run<S: Source, O: Sink, M: Sink>(
         (used O.written O.calls out.old out.new)
         (used M.written M.calls messages.old messages.new) result }
 {
-    let Ok(ending) = feed_all(engine, limits.input, source, out, messages) else {
+    let Ok(ending) = feed_source(engine, limits.input, source, out, messages) else {
         return Status::WriteFault;
     };
     let status = end_by(engine, ending);

@@ -41,6 +41,7 @@ fn named(name: &str) -> Option<Whole> {
         "gabc_tree::tree_of" => Whole::Tree,
         "gabc_tree::tree_of_with_hasher" => Whole::HashedTree,
         "gabc_draw::draw" | "gabc_draw::picture_of" => Whole::Drawing,
+        name if name.starts_with("gabc_pen::") => Whole::Drawing,
         "gregorio::Outcome::of" => Whole::Outcome,
         "gregorio::Outcome::of_with_hasher" => Whole::HashedOutcome,
         _ => return None,

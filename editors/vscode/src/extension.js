@@ -9,7 +9,7 @@ import { Picture } from "./picture.js";
 import { Scores } from "./scores.js";
 
 export const LANGUAGE = "gabc";
-// A score is read when nothing was typed for so many milliseconds.
+// How long nothing has to be typed before a score is read, in milliseconds.
 const PAUSE = 150;
 
 const fileOf = (context, name) => vscode.workspace.fs.readFile(vscode.Uri.joinPath(context.extensionUri, name));

@@ -39,7 +39,7 @@ class Score {
     return findingsOf({ messages: this.compiled.messages, tree: this.tree }, this.text, this.places, HELPS);
   }
 
-  /** Returns the picture of a score of at most 50,000 bytes, so many pixels wide. */
+  /** Returns the picture of a score of at most 50,000 bytes, of this width in pixels. */
   picture(width) {
     return this.text.length > MOST_DRAWN ? undefined : this.#calls.draw(this.text, { width });
   }

@@ -8,7 +8,7 @@ const USUAL = ["gregorio-chant", "server"];
 const FIX_ALL = "source.fixAll.gregorio-chant";
 const TRIGGERS = ["<", ">", "|"];
 const TOKENS = ["property", "comment", "keyword", "parameter", "class", "operator", "variable", "function"];
-// A server that ends more often than this within so many milliseconds is not started again.
+// A server that ends more often than this within a time, in milliseconds, is not started again.
 const MOST_ENDS = 3;
 const WITHIN = 180_000;
 const CAPABILITIES = {

@@ -24,6 +24,15 @@ class Kind(str, enum.Enum):
     FATAL = "fatal"
 
 
+class ShownMessages(str, enum.Enum):
+    """Which messages stand in a picture: none, those of errors and faults, or those of warnings
+    too."""
+
+    NONE = "none"
+    ERRORS = "errors"
+    ALL = "all"
+
+
 class Status(enum.IntEnum):
     """The status of a score: read to its end without an error, read to its end with errors, read up
     to a fatal fault, or, by `Run.broken`, up to the failure of its source."""

@@ -14,9 +14,10 @@ from gregorio_chant.commands.words import (
     shared,
 )
 from gregorio_chant.errors import UsageError
-from gregorio_chant.picture import OWN, USUAL_WIDTH, Face, Look
-from gregorio_chant.picture.nabc import AUTO, NAMES
-from gregorio_chant.picture.symbols import square_face
+from gregorio_chant.pictures.alone import USUAL_WIDTH
+from gregorio_chant.pictures.look import Look
+from gregorio_chant.pictures.outlines import AUTO, HANDS, SQUARE, TEXT, Face
+from gregorio_chant.pictures.plain import PlainFace
 from gregorio_chant.show import showing
 from gregorio_chant.work.needs import need
 from gregorio_chant.work.statuses import CANNOT_READ_OR_WRITE
@@ -33,6 +34,8 @@ EPILOG = epilog(
         "gregorio-chant show --svg --no-messages score.gabc >score.svg",
     )
 )
+
+_HANDS = (AUTO, *HANDS, TEXT)
 
 
 def add(parser: Parser) -> None:
@@ -62,10 +65,10 @@ def add(parser: Parser) -> None:
     )
     parser.add_argument(
         "--neumes",
-        choices=NAMES,
+        choices=_HANDS,
         default=AUTO,
         metavar="HAND",
-        help=f"the hand of NABC: {', '.join(NAMES)}; auto (default) chooses it by the score",
+        help=f"the hand of NABC: {', '.join(_HANDS)}; auto (default) chooses it by the score",
     )
     parser.add_argument(
         "--font",
@@ -133,12 +136,12 @@ def _face(words: argparse.Namespace) -> Face:
     """Returns the outlines that are wanted. Raises `OSError` if a font cannot be read."""
     if words.font is not None:
         return _face_of(words.font)
-    return OWN if words.face == "plain" else square_face()
+    return PlainFace() if words.face == "plain" else SQUARE
 
 
 def _face_of(font: str) -> Face:
     need("show --font", "fonttools")
-    from gregorio_chant.picture.font import NoFace, face_of
+    from gregorio_chant.pictures.font import NoFace, face_of
 
     try:
         return face_of(font)

@@ -5,8 +5,9 @@ import shutil
 import tempfile
 from pathlib import Path
 
-from gregorio_chant.picture import Names, Picture, draw
-from gregorio_chant.picture.page import MOST_BYTES, Shown, leading_to, page_of
+from gregorio_chant.pictures.drawing import Picture, draw
+from gregorio_chant.pictures.names import Names
+from gregorio_chant.pictures.page import MOST_BYTES, Shown, leading_to, page_of
 from gregorio_chant.report.reports import Checked
 from gregorio_chant.server.document import Document
 from gregorio_chant.server.formats import RequestRefused

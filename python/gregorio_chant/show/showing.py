@@ -14,8 +14,10 @@ from gregorio_chant.errors import UsageError
 from gregorio_chant.linting import checking
 from gregorio_chant.objects.compiled import MOST_BYTES, Compiled, TooLong
 from gregorio_chant.objects.sounds import sounds_of_score
-from gregorio_chant.picture import Look, Names, draw
-from gregorio_chant.picture.page import NARROW, Entry, Shown, index_of, page_of
+from gregorio_chant.pictures.drawing import draw
+from gregorio_chant.pictures.look import Look
+from gregorio_chant.pictures.names import Names
+from gregorio_chant.pictures.page import NARROW, Entry, Shown, index_of, page_of
 from gregorio_chant.report.reports import Checked, counted, summary_of
 from gregorio_chant.text.source import text_of
 from gregorio_chant.work import files, scores

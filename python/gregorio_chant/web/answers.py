@@ -7,8 +7,11 @@ from dataclasses import dataclass
 from gregorio_chant.linting import checking
 from gregorio_chant.objects.compiled import Compiled
 from gregorio_chant.objects.sounds import sounds_of_score
-from gregorio_chant.picture import USUAL_WIDTH, Look, Names, draw
-from gregorio_chant.picture.page import notes_of
+from gregorio_chant.pictures.alone import USUAL_WIDTH
+from gregorio_chant.pictures.drawing import draw
+from gregorio_chant.pictures.look import Look
+from gregorio_chant.pictures.names import Names
+from gregorio_chant.pictures.page import notes_of
 from gregorio_chant.report.reports import Checked
 from gregorio_chant.work.settings import Finder
 from gregorio_chant.work.streams import STDIN

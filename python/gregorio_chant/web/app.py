@@ -14,8 +14,8 @@ from starlette.routing import Route
 from starlette.types import ASGIApp
 
 from gregorio_chant import __version__
-from gregorio_chant.picture import USUAL_WIDTH
-from gregorio_chant.picture.page import CHANT_STYLE, MOST_BYTES, SINGER
+from gregorio_chant.pictures.alone import USUAL_WIDTH
+from gregorio_chant.pictures.page import CHANT_STYLE, MOST_BYTES, SINGER
 from gregorio_chant.web.answers import Answers
 from gregorio_chant.web.computing import Computations, GivenUp, TooMany
 from gregorio_chant.web.guard import STILL, Guard, TooLong, too_long

@@ -9,7 +9,7 @@ from starlette.responses import PlainTextResponse
 from starlette.types import ASGIApp, Message, Receive, Scope, Send
 
 from gregorio_chant.errors import GregorioError
-from gregorio_chant.picture.page import MOST_BYTES
+from gregorio_chant.pictures.page import MOST_BYTES
 from gregorio_chant.web.loopback import is_of_this_place
 
 # The policy for a page with its style and its pictures in itself, and with no script.

@@ -15,7 +15,7 @@ _HELPS = _HERE.parent / "linting" / "helps.json"
 # What the page of a server has of the package for JavaScript: it reads trees.
 _READERS = ("bytes.js", "kinds.js", "library.js", "tree.js")
 # What the page of one file alone has.
-_ALONE = ("alone.js", "drawn.js", "reader.js", "worker.js")
+_ALONE = ("alone.js", "drawn.js", "reader.js", "rows.js", "worker.js")
 
 
 def page_source(name: str) -> str:

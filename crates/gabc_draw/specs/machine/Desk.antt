@@ -1,10 +1,10 @@
 -- What stands on a desk.
-use Rattle.std.specs.Prelude.{ℕ, List, [], ◌∷◌, ◌++◌, cond}
+use Rattle.std.specs.Prelude.{List, [], ◌∷◌, ◌++◌, cond}
 use Rattle.std.specs.List.{flat_map}
 use Rattle.gabc_marks.specs.Heads.{Bytes, Shown, Syllable, notes_of, pitches_of_heads}
 use Rattle.gabc_draw.specs.declared.group.Group.{Group}
-use Rattle.gabc_draw.specs.declared.note.Note.{Note}
-use Rattle.gabc_draw.specs.machine.Notes.{pitches_of_notes}
+use Rattle.gabc_pen.specs.declared.note.Note.{Note}
+use Rattle.gabc_pen.specs.Notes.{pitches_of_notes}
 
 abbrev pub bytes_of_group : Group → Bytes
 bytes_of_group g = record { begin = g.begin; end = g.end }

@@ -11,13 +11,12 @@ use Rattle.gabc_headers.specs.declared.events.HeaderEvent.TheVariants.{LeftOut, 
 use Rattle.gabc_headers.specs.Lines.{bytes_len}
 use Rattle.gabc_headers.specs.Parts.{HeaderPart, left_out, header, unended}
 use Rattle.gabc_headers.specs.EntryMap.{is_annotation, put_entry, with_value}
-use Rattle.gabc_headers.specs.Entries.{spelled_entries, text_at}
-use Rattle.gabc_headers.specs.machine.EntryMap.{AreWithin}
+use Rattle.gabc_headers.specs.Entries.{text_at}
 use Rattle.gabc_headers.specs.machine.Spans.{IsWithin}
 use Rattle.gabc_headers.specs.machine.Collected.{AreGoodEvents, Collected, collected_with, finding_at}
 use Rattle.gabc_headers.specs.Book.{is_kept}
 use Rattle.gabc_places.specs.declared.code.Code.TheVariants.{E5, W2}
-use Rattle.gabc_headers.specs.machine.EntryMap.{comes_again}
+use Rattle.gabc_headers.specs.machine.EntryMap.{AreWithin, comes_again, spelled_named}
 use Rattle.gabc_headers.specs.machine.Events.{SpanHolds, AreEventsOf}
 use Rattle.gabc_headers.proofs.entries.TextsAsBytes.{length-encodes}
 
@@ -82,23 +81,23 @@ good_events t (Header k a b p ∷ es) (header j n v q ∷ ps) u h g =
 good_events t (e ∷ es) (q ∷ ps) u h g = absurd h.0
 
 -- the headers after some entries, and what is found after these names
-pub spelled-put : (text : List ℕ) (es : List (List ℕ × Span)) (name : List ℕ) (s : Span) → spelled_entries text (put_entry es name s) ≡ put_entry (spelled_entries text es) name (text_at text s)
+pub spelled-put : (text : List ℕ) (es : List (List ℕ × Span)) (name : List ℕ) (s : Span) → spelled_named text (put_entry es name s) ≡ put_entry (spelled_named text es) name (text_at text s)
 spelled-put text es name s = by (is_annotation name)
   where
-    pushed : (es : List (List ℕ × Span)) → spelled_entries text (es ++ (name, s) ∷ []) ≡ spelled_entries text es ++ (name, text_at text s) ∷ []
+    pushed : (es : List (List ℕ × Span)) → spelled_named text (es ++ (name, s) ∷ []) ≡ spelled_named text es ++ (name, text_at text s) ∷ []
     pushed [] = refl
     pushed (e ∷ es) = ap (λ (x : List (List ℕ × List ℕ)). (e.0, text_at text e.1) ∷ x) (pushed es)
 
-    branch : (b : Bool) (e : List ℕ × Span) (es r : List (List ℕ × Span)) (q : List (List ℕ × List ℕ)) → spelled_entries text r ≡ q
-        → spelled_entries text (cond b ((e.0, s) ∷ es) (e ∷ r)) ≡ cond b ((e.0, text_at text s) ∷ spelled_entries text es) ((e.0, text_at text e.1) ∷ q)
+    branch : (b : Bool) (e : List ℕ × Span) (es r : List (List ℕ × Span)) (q : List (List ℕ × List ℕ)) → spelled_named text r ≡ q
+        → spelled_named text (cond b ((e.0, s) ∷ es) (e ∷ r)) ≡ cond b ((e.0, text_at text s) ∷ spelled_named text es) ((e.0, text_at text e.1) ∷ q)
     branch true e es r q h = refl
     branch false e es r q h = ap (λ (x : List (List ℕ × List ℕ)). (e.0, text_at text e.1) ∷ x) h
 
-    replaced : (es : List (List ℕ × Span)) → spelled_entries text (with_value es name s) ≡ with_value (spelled_entries text es) name (text_at text s)
+    replaced : (es : List (List ℕ × Span)) → spelled_named text (with_value es name s) ≡ with_value (spelled_named text es) name (text_at text s)
     replaced [] = refl
-    replaced (e ∷ es) = branch (bytes_eq name e.0) e es (with_value es name s) (with_value (spelled_entries text es) name (text_at text s)) (replaced es)
+    replaced (e ∷ es) = branch (bytes_eq name e.0) e es (with_value es name s) (with_value (spelled_named text es) name (text_at text s)) (replaced es)
 
-    by : (b : Bool) → spelled_entries text (cond b (es ++ (name, s) ∷ []) (with_value es name s)) ≡ cond b (spelled_entries text es ++ (name, text_at text s) ∷ []) (with_value (spelled_entries text es) name (text_at text s))
+    by : (b : Bool) → spelled_named text (cond b (es ++ (name, s) ∷ []) (with_value es name s)) ≡ cond b (spelled_named text es ++ (name, text_at text s) ∷ []) (with_value (spelled_named text es) name (text_at text s))
     by true = pushed es
     by false = replaced es
 

@@ -11,8 +11,7 @@ use Rattle.gabc_headers.specs.Parts.{HeaderPart, left_out, header}
 use Rattle.gabc_headers.specs.Book.{is_kept, repeats, entries, is_one_of}
 use Rattle.gabc_headers.specs.Heads.{findings_after, known_at, line_place}
 use Rattle.gabc_headers.specs.EntryMap.{is_annotation, put_entry, put_all}
-use Rattle.gabc_headers.specs.Entries.{spelled_entries}
-use Rattle.gabc_headers.specs.machine.EntryMap.{names, comes_again, AreWithin}
+use Rattle.gabc_headers.specs.machine.EntryMap.{names, comes_again, AreWithin, spelled_named}
 use Rattle.gabc_headers.specs.machine.Collected.{collected_with, collected_with_all, finding_at}
 use Rattle.gabc_headers.specs.machine.Events.{AreEventsOf}
 use Rattle.gabc_headers.proofs.order.FoundBeforeAPoint.{all_known}
@@ -32,7 +31,7 @@ names-put es name v n = grind (arith, names-push, is_one_of-push, names-with_val
 
 -- what a list of events makes of what is there
 pub record Follows (text : List ℕ) (seen : List (List ℕ)) (ps : List HeaderPart) (c d : Collected) : Type 0 where
-  pub headers : spelled_entries text d.headers ≡ put_all (spelled_entries text c.headers) (entries ps)
+  pub headers : spelled_named text d.headers ≡ put_all (spelled_named text c.headers) (entries ps)
   pub findings : d.findings ≡ c.findings ++ all_known (findings_after seen ps)
   pub within : AreWithin text d.headers
 
@@ -70,7 +69,7 @@ follow t (Header k a b p ∷ es) (header j n v q ∷ ps) seen c u h s w =
         let f = r (n ∷ seen) m u h.1 same (within-put (encodes t) c.headers n b w (holds_within t v b u h.0.2)) in
         record {
           headers = rw e (f.headers ∙ (ap (λ (x : List (List ℕ × List ℕ)). put_all x (entries ps)) (spelled-put (encodes t) c.headers n b)
-              ∙ ap (λ (y : List ℕ). put_all (put_entry (spelled_entries (encodes t) c.headers) n y) (entries ps)) (holds_shown t v b u h.0.2)));
+              ∙ ap (λ (y : List ℕ). put_all (put_entry (spelled_named (encodes t) c.headers) n y) (entries ps)) (holds_shown t v b u h.0.2)));
           findings = rw (e, repeats-same seen (names c.headers) n s) (f.findings ∙ again (comes_again c.headers n) j q (all_known (findings_after (n ∷ seen) ps)) c.findings (findings_after (n ∷ seen) ps) refl);
           within = f.within;
         }

@@ -12,8 +12,7 @@ use Rattle.gabc_headers.specs.declared.events.HeaderEnding.TheVariants.{Score, L
 use Rattle.gabc_headers.specs.Lines.{lines, head_of}
 use Rattle.gabc_headers.specs.witness.Parts.{outside}
 use Rattle.gabc_headers.specs.Book.{book_of, entries}
-use Rattle.gabc_headers.specs.Entries.{spelled_entries}
-use Rattle.gabc_headers.specs.machine.EntryMap.{AreWithin}
+use Rattle.gabc_headers.specs.machine.EntryMap.{AreWithin, spelled_named}
 use Rattle.gabc_headers.specs.Heads.{findings_after, line_place, heads_of}
 use Rattle.gabc_headers.specs.machine.Collected.{AreGoodEvents, collected_with_all, none, heads_at_body, heads_at_score, fault_at_end}
 use Rattle.gabc_headers.specs.machine.Events.{AreHeaderEvents, EndsAs}
@@ -39,7 +38,7 @@ module _ (limits : Limits) (t : List ℕ) (events : List HeaderEvent) (end : Hea
   pub read_within : AreWithin (encodes t) (collected_of t events).headers
   read_within = (follow t events emitted.emitted [] none u emitted.are_events_of (λ n. refl) tt).within
 
-  read_book : spelled_entries (encodes t) (collected_of t events).headers ≡ book_of emitted.emitted
+  read_book : spelled_named (encodes t) (collected_of t events).headers ≡ book_of emitted.emitted
   read_book = (follow t events emitted.emitted [] none u emitted.are_events_of (λ n. refl) tt).headers ∙ put-book (entries emitted.emitted)
 
   read_found : (collected_of t events).findings ≡ all_known (findings_after [] emitted.emitted)
@@ -65,12 +64,12 @@ module _ (limits : Limits) (t : List ℕ) (events : List HeaderEvent) (end : Hea
   case_score_open place body k q = grind (arith, ends_as, read_found, score_open)
 
   pub case_score_ended : (place : Place) (body : ℕ) → end ≡ Score place body None
-      → heads_at_body limits place body (spelled_entries (encodes t) (collected_of t events).headers) (collected_of t events).findings ≡ heads_of limits t
+      → heads_at_body limits place body (spelled_named (encodes t) (collected_of t events).headers) (collected_of t events).findings ≡ heads_of limits t
   case_score_ended place body q = grind (arith, ends_as, append-nil, read_book, read_found, score_ended)
 
   -- at the line `%%`
   pub case_score : (place : Place) (body : ℕ) (line : Option ℕ) → end ≡ Score place body line
-      → heads_at_score limits place body line (spelled_entries (encodes t) (collected_of t events).headers) (collected_of t events).findings ≡ heads_of limits t
+      → heads_at_score limits place body line (spelled_named (encodes t) (collected_of t events).headers) (collected_of t events).findings ≡ heads_of limits t
   case_score place body line q = grind (arith, case_score_ended, case_score_open)
 
   -- at the end of the text

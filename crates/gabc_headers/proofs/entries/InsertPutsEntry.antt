@@ -9,8 +9,8 @@ use Rattle.indexmap.proofs.MapLemmas.{Found-position, insert_entry-first}
 use Rattle.gabc_headers.specs.declared.entry_map.Key.{Key}
 use Rattle.gabc_headers.specs.declared.entry_map.Key.TheVariants.{Name, Annotation}
 use Rattle.gabc_headers.specs.EntryMap.{is_annotation, with_value, put_entry}
-use Rattle.gabc_headers.specs.Entries.{key_name, named_entries}
-use Rattle.gabc_headers.specs.machine.EntryMap.{names, comes_again, IsKeyBelow, IsKeyOf, AreKeysBelow}
+use Rattle.gabc_headers.specs.Entries.{key_name}
+use Rattle.gabc_headers.specs.machine.EntryMap.{named_entries, names, comes_again, IsKeyBelow, IsKeyOf, AreKeysBelow}
 use Rattle.gabc_headers.specs.Book.{is_one_of}
 
 pub more_below : {X : Type 0} (n m : ℕ) (es : List (Key × X)) → n ≤ m → AreKeysBelow n es → AreKeysBelow m es

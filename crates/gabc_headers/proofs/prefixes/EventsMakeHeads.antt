@@ -29,8 +29,7 @@ use Rattle.gabc_headers.specs.declared.header_machine.HeaderStep.TheVariants.{Re
 use Rattle.gabc_headers.specs.Heads.{heads_of, findings_of, head_len}
 use Rattle.gabc_headers.specs.HeadEvents.{event_of_book, inputs_after, body_characters, events_of_heads}
 use Rattle.gabc_headers.specs.witness.HeadEvents.{HeadProgress, reading, after_headers, over, events_by, events_at, progress_by, events_left, new_findings}
-use Rattle.gabc_headers.specs.Entries.{spelled_entries}
-use Rattle.gabc_headers.specs.machine.EntryMap.{AreWithin}
+use Rattle.gabc_headers.specs.machine.EntryMap.{AreWithin, spelled_named}
 use Rattle.gabc_headers.specs.machine.Collected.{heads_at_score}
 use Rattle.gabc_headers.specs.machine.HeaderMachine.{push_one, take_one, then_take, fresh_machine}
 use Rattle.gabc_headers.specs.machine.Events.{with_event}
@@ -101,7 +100,7 @@ ends_body place body book found false false true = whole _ [] refl (sym (append-
 ends_body place body book found false false false = whole _ _ refl refl
 
 pub ends_with : (limits : Limits) (t : List ℕ) (c : Collected) (end : HeaderEnding) → IsNoText (Ended end) → EndsWith c.findings (heads_at limits t c end)
-ends_with limits t c (Score place body None) h = ends_body place body (spelled_entries (encodes t) c.headers) c.findings _ _ _
+ends_with limits t c (Score place body None) h = ends_body place body (spelled_named (encodes t) c.headers) c.findings _ _ _
 ends_with limits t c (Text place line) h = absurd h
 ends_with limits t c _ h = stopped _ refl refl refl
 
@@ -231,10 +230,10 @@ module _ (limits : Limits) (held xs : List ℕ) (c : ℕ) (r new : HeaderMachine
       ∙ heads_at_end limits (held ++ c ∷ xs) es end u (read_ended limits.header held r new es c end h p xs)
 
   same_spelled : (end : HeaderEnding) → push_one r c ≡ (new, Ended end)
-      → spelled_entries (encodes (held ++ c ∷ xs)) (collected_of held es).headers ≡ spelled_entries (encodes longer) (collected_of held es).headers
+      → spelled_named (encodes (held ++ c ∷ xs)) (collected_of held es).headers ≡ spelled_named (encodes longer) (collected_of held es).headers
   same_spelled end p =
-      ap (λ (x : List ℕ). spelled_entries x (collected_of held es).headers) (sym (ap encodes whole_is) ∙ encodes-append longer xs)
-      ∙ spelled_longer (encodes longer) (encodes xs) (collected_of held es).headers
+      ap (λ (x : List ℕ). spelled_named x (collected_of held es).headers) (sym (ap encodes whole_is) ∙ encodes-append longer xs)
+      ∙ spelled_longer (λ n. n) (encodes longer) (encodes xs) (collected_of held es).headers
       (subst (λ (x : Collected). AreWithin (encodes longer) x.headers) same_collected (read_within limits longer es end u_longer (read_ended limits.header held r new es c end h p [])))
 
   pub same_heads : (end : HeaderEnding) → IsNoText (Ended end) → push_one r c ≡ (new, Ended end) → heads_of limits (held ++ c ∷ xs) ≡ heads_of limits longer

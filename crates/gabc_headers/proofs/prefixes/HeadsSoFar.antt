@@ -6,6 +6,7 @@ use Rattle.gabc_places.specs.declared.limits.Limits.{Limits}
 use Rattle.gabc_places.specs.declared.code.Finding.{Finding}
 use Rattle.gabc_headers.specs.declared.heads.Heads.{Heads}
 use Rattle.gabc_headers.specs.declared.heads.HeadFault.{HeadFault}
+use Rattle.gabc_headers.specs.machine.EntryMap.{spelled_named}
 use Rattle.gabc_headers.specs.machine.Collected.{Collected}
 use Rattle.gabc_headers.specs.declared.events.HeaderEvent.{HeaderEvent}
 use Rattle.gabc_headers.specs.declared.events.HeaderEnding.{HeaderEnding}
@@ -15,7 +16,6 @@ use Rattle.gabc_places.specs.Place.{next_place}
 use Rattle.gabc_headers.specs.declared.header_machine.HeaderMachine.{HeaderMachine}
 use Rattle.gabc_headers.specs.declared.header_machine.HeaderStep.TheVariants.{Read, Ended}
 use Rattle.gabc_headers.specs.machine.Collected.{fault_at_end, heads_at_score, collected_with_all, found_with, none}
-use Rattle.gabc_headers.specs.Entries.{spelled_entries}
 use Rattle.gabc_headers.specs.machine.PartMachine.{open_in}
 use Rattle.gabc_headers.specs.machine.HeaderMachine.{push_one, end_here, fresh_machine}
 use Rattle.gabc_headers.specs.machine.Events.{AreHeaderEvents, with_event}
@@ -52,7 +52,7 @@ kept_so_far limit t xs r es u h = grown t xs es (read_all limit t r es h).emitte
 -- what stands at an end of the headers, by what is collected
 abbrev pub heads_at : Limits → List ℕ → Collected → HeaderEnding → Result Heads HeadFault
 heads_at limits t c (Limit place) = Err (record { fault = record { place = place; code = F4 }; findings = c.findings; at_end = false })
-heads_at limits t c (Score place body line) = heads_at_score limits place body line (spelled_entries (encodes t) c.headers) c.findings
+heads_at limits t c (Score place body line) = heads_at_score limits place body line (spelled_named (encodes t) c.headers) c.findings
 heads_at limits t c (Text place line) = Err (fault_at_end place line c.findings)
 
 pub heads_at_end : (limits : Limits) (t : List ℕ) (es : List HeaderEvent) (end : HeaderEnding) → scalars t ≡ true → AreHeaderEvents limits.header t es end

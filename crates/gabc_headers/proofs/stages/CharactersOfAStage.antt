@@ -13,8 +13,9 @@ use Rattle.gabc_headers.specs.declared.header_stage.HeadPart.TheVariants.{InHead
 use Rattle.gabc_headers.specs.Heads.{heads_of}
 use Rattle.gabc_headers.specs.witness.HeadEvents.{IsInHeaders, reading, after_headers, over, HeaderStageState, stage_at, events_at, events_at_end, events_of_end, text_held, progress_with}
 use Rattle.gabc_headers.specs.machine.Collected.{found_list, name_found}
-use Rattle.gabc_headers.specs.Entries.{EntryMapState, spelled_entries}
+use Rattle.gabc_headers.specs.Entries.{spelled_entries}
 use Rattle.gabc_headers.specs.ShownStage.{book_in, progress_in}
+use Rattle.gabc_headers.specs.machine.EntryMap.{EntryMapState}
 use Rattle.gabc_headers.specs.machine.HeaderStage.{IsReading, KeepsHeaders, IsStageIn, part_over}
 use Rattle.gabc_headers.proofs.stages.EventsOfAStage.{values_lie_within}
 
@@ -22,9 +23,9 @@ use Rattle.gabc_headers.proofs.stages.EventsOfAStage.{values_lie_within}
 abbrev pub view_of : Limits → HeadPart → List ℕ → EntryMapState → HeaderStageState
 view_of limits part text headers = record {
   limits = limits;
-  progress = progress_in part text (book_in part text headers.items);
-  book = book_in part text headers.items;
-  hasher = headers.hasher;
+  progress = progress_in part text (book_in part text headers.0);
+  book = book_in part text headers.0;
+  hasher = headers.2;
 }
 
 -- a stage in the headers
@@ -39,7 +40,7 @@ stands limits part text space machine headers view e r i = grind arith
 -- the events of a character are those at the text
 pub events_in : (limits : Limits) (part : HeadPart) (text : List ℕ) (headers : EntryMapState) (view : HeaderStageState) (c : ℕ) → part ≡ InHeaders → view_of limits part text headers ≡ view
     → events_at view.limits (text_held view.progress) c ≡ events_at limits (chars text) c
-events_in limits part text headers view c p e = sym (ap (λ (v : HeaderStageState). events_at v.limits (text_held v.progress) c) e) ∙ ap (λ (p : HeadPart). events_at limits (text_held (progress_in p text (book_in p text headers.items))) c) p
+events_in limits part text headers view c p e = sym (ap (λ (v : HeaderStageState). events_at v.limits (text_held v.progress) c) e) ∙ ap (λ (p : HeadPart). events_at limits (text_held (progress_in p text (book_in p text headers.0))) c) p
 
 -- what is added for it
 pub out_is : (limits : Limits) (part : HeadPart) (text : List ℕ) (headers : EntryMapState) (view : HeaderStageState) (c : ℕ) (events : List HeadEvent) (out new : BoundedList HeadEvent)
@@ -54,7 +55,7 @@ few_is limits part text headers view c events p e q l = subst (λ (x : List Head
 
 -- the state after a character with which the headers go on
 pub state_on : (limits : Limits) (part : HeadPart) (text more : List ℕ) (headers now : EntryMapState) (view : HeaderStageState) (c : ℕ) → part ≡ InHeaders → view_of limits part text headers ≡ view
-    → now.hasher ≡ headers.hasher → progress_with limits (chars text) c ≡ reading (chars more) → view_of limits part more now ≡ stage_at view (progress_with view.limits (text_held view.progress) c)
+    → now.2 ≡ headers.2 → progress_with limits (chars text) c ≡ reading (chars more) → view_of limits part more now ≡ stage_at view (progress_with view.limits (text_held view.progress) c)
 state_on limits part text more headers now view c p e h q = rw (← e, p, q, h) refl
 
 -- with which they are stopped
@@ -64,26 +65,26 @@ state_over limits part text headers view new c p e q n = n ∙ rw (← e, p, q) 
 
 -- with which they are whole
 pub state_after : (limits : Limits) (part : HeadPart) (text : List ℕ) (headers : EntryMapState) (view : HeaderStageState) (c : ℕ) → part ≡ InHeaders → view_of limits part text headers ≡ view
-    → progress_with limits (chars text) c ≡ after_headers (spelled_entries text headers.items) → view_of limits After text headers ≡ stage_at view (progress_with view.limits (text_held view.progress) c)
+    → progress_with limits (chars text) c ≡ after_headers (spelled_entries text headers.0) → view_of limits After text headers ≡ stage_at view (progress_with view.limits (text_held view.progress) c)
 state_after limits part text headers view c p e q = rw (← e, p, q) refl
 
 -- ---- the end
 
 pub end_reading : (limits : Limits) (part : HeadPart) (text : List ℕ) (headers : EntryMapState) (view : HeaderStageState) (events : List HeadEvent) → part ≡ InHeaders → view_of limits part text headers ≡ view
     → events_at_end (heads_of limits (chars text)) ≡ events → events_of_end view.limits view.progress ≡ events
-end_reading limits part text headers view events p e q = sym (ap (λ (v : HeaderStageState). events_of_end v.limits v.progress) e) ∙ (ap (λ (p : HeadPart). events_of_end limits (progress_in p text (book_in p text headers.items))) p ∙ q)
+end_reading limits part text headers view events p e q = sym (ap (λ (v : HeaderStageState). events_of_end v.limits v.progress) e) ∙ (ap (λ (p : HeadPart). events_of_end limits (progress_in p text (book_in p text headers.0))) p ∙ q)
 
 pub end_after : (limits : Limits) (part : HeadPart) (text : List ℕ) (headers : EntryMapState) (view : HeaderStageState) → part ≡ After → view_of limits part text headers ≡ view
     → events_of_end view.limits view.progress ≡ End ∷ []
-end_after limits part text headers view p e = sym (ap (λ (v : HeaderStageState). events_of_end v.limits v.progress) e) ∙ ap (λ (p : HeadPart). events_of_end limits (progress_in p text (book_in p text headers.items))) p
+end_after limits part text headers view p e = sym (ap (λ (v : HeaderStageState). events_of_end v.limits v.progress) e) ∙ ap (λ (p : HeadPart). events_of_end limits (progress_in p text (book_in p text headers.0))) p
 
 pub end_over : (limits : Limits) (part : HeadPart) (text : List ℕ) (headers : EntryMapState) (view : HeaderStageState) → part ≡ Over → view_of limits part text headers ≡ view
     → events_of_end view.limits view.progress ≡ []
-end_over limits part text headers view p e = sym (ap (λ (v : HeaderStageState). events_of_end v.limits v.progress) e) ∙ ap (λ (p : HeadPart). events_of_end limits (progress_in p text (book_in p text headers.items))) p
+end_over limits part text headers view p e = sym (ap (λ (v : HeaderStageState). events_of_end v.limits v.progress) e) ∙ ap (λ (p : HeadPart). events_of_end limits (progress_in p text (book_in p text headers.0))) p
 
 pub end_stopped : (limits : Limits) (part : HeadPart) (text : List ℕ) (headers : EntryMapState) (view : HeaderStageState) → part ≡ Stopped → view_of limits part text headers ≡ view
     → events_of_end view.limits view.progress ≡ []
-end_stopped limits part text headers view p e = sym (ap (λ (v : HeaderStageState). events_of_end v.limits v.progress) e) ∙ ap (λ (p : HeadPart). events_of_end limits (progress_in p text (book_in p text headers.items))) p
+end_stopped limits part text headers view p e = sym (ap (λ (v : HeaderStageState). events_of_end v.limits v.progress) e) ∙ ap (λ (p : HeadPart). events_of_end limits (progress_in p text (book_in p text headers.0))) p
 
 -- ---- after the last event
 

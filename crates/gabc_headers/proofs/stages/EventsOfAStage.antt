@@ -22,18 +22,20 @@ use Rattle.gabc_headers.specs.declared.header_machine.HeaderStep.TheVariants.{Re
 use Rattle.gabc_headers.specs.declared.heads.Heads.{Heads}
 use Rattle.gabc_headers.specs.declared.heads.HeadFault.{HeadFault}
 use Rattle.gabc_headers.specs.Book.{has_header}
-use Rattle.gabc_headers.specs.Entries.{EntryMapState, spelled_entries}
+use Rattle.gabc_headers.specs.Entries.{key_name, spelled_entries}
 use Rattle.gabc_headers.specs.Heads.{heads_of}
 use Rattle.gabc_headers.specs.HeadEvents.{event_of_book}
 use Rattle.gabc_headers.specs.witness.HeadEvents.{HeadProgress, reading, after_headers, over, events_at, events_at_end, progress_with}
 use Rattle.gabc_headers.specs.Lines.{bytes_len}
 use Rattle.gabc_headers.specs.machine.Collected.{Collected, IsGoodEvent, AreGoodEvents, collected_with, collected_with_all, of_headers, none, name_found, len_at_score, end_fault}
-use Rattle.gabc_headers.specs.machine.EntryMap.{AreWithin, HasPlace}
+use Rattle.gabc_headers.specs.machine.EntryMap.{EntryMapState, AreWithin, HasPlace, named_entries, spelled_named}
 use Rattle.gabc_headers.specs.machine.Events.{with_event}
 use Rattle.gabc_headers.specs.machine.HeaderMachine.{IsBounded, fresh_machine, push_one, end_here}
 use Rattle.gabc_headers.specs.machine.HeaderStage.{Takes, IsReading}
 use Rattle.gabc_headers.proofs.collecting.HeadsFollowFromEvents.{collected_of, read_good, read_within}
 use Rattle.gabc_headers.proofs.collecting.HeadsWithinLimits.{by_len, heads_by_len, at_text_end}
+use Rattle.gabc_headers.proofs.entries.HeadersAreSpelled.{spelled_by_names, within_by_names}
+use Rattle.gabc_headers.proofs.entries.MapIsReadByEntry.{length-named}
 use Rattle.gabc_headers.proofs.entries.TextsAsBytes.{bytes_len-append, bytes_len-chars}
 use Rattle.gabc_headers.proofs.entries.TextsGoOn.{spelled_longer}
 use Rattle.gabc_headers.proofs.prefixes.EventsGrow.{with_last}
@@ -72,13 +74,13 @@ good_last text (d ∷ es) (Some e) h = good_last text es (Some e) h.1
 -- ---- the values
 
 -- they lie in the text that is read
-pub values_lie_within : (limits : Limits) (text : List ℕ) (space : ℕ) (machine : HeaderMachine) (headers : EntryMapState) → IsUtf8 text → IsReading limits text space machine headers → AreWithin text headers.items
+pub values_lie_within : (limits : Limits) (text : List ℕ) (space : ℕ) (machine : HeaderMachine) (headers : EntryMapState) → IsUtf8 text → IsReading limits text space machine headers → AreWithin text headers.0
 values_lie_within limits text space machine headers u h =
     let t = chars text in
     let bytes_are : encodes t ≡ text = encodes-chars text u in
-    let items_are : headers.items ≡ (collected_of t h.events).headers = h.put ∙ ap (λ (x : List ℕ). (collected_with_all x h.events none).headers) (sym bytes_are) in
-    subst (λ (x : List (List ℕ × Span)). AreWithin text x) (sym items_are) (subst (λ (x : List ℕ). AreWithin x (collected_of t h.events).headers) bytes_are
-    (read_within limits t h.events (end_here machine) (scalars-chars text u) (read_all limits.header t machine h.events (has_read limits.header t machine h.events h.taken))))
+    let items_are : named_entries headers.0 ≡ (collected_of t h.events).headers = h.put ∙ ap (λ (x : List ℕ). (collected_with_all x h.events none).headers) (sym bytes_are) in
+    within_by_names text headers.0 (subst (λ (x : List (List ℕ × Span)). AreWithin text x) (sym items_are) (subst (λ (x : List ℕ). AreWithin x (collected_of t h.events).headers) bytes_are
+    (read_within limits t h.events (end_here machine) (scalars-chars text u) (read_all limits.header t machine h.events (has_read limits.header t machine h.events h.taken)))))
 
 -- ---- a character
 
@@ -87,9 +89,9 @@ pub record ReadsOn (limits : Limits) (text : List ℕ) (space : ℕ) (new : Head
   pub fits : length text + length (encode c) ≤ space
   pub good : IsGoodOption (text ++ encode c) e
   pub room : HasPlace headers
-  pub events : events_at limits (chars text) c ≡ map (λ f. Found f) (found_at (text ++ encode c) e (of_headers headers.items))
+  pub events : events_at limits (chars text) c ≡ map (λ f. Found f) (found_at (text ++ encode c) e (of_headers (named_entries headers.0)))
   pub progress : progress_with limits (chars text) c ≡ reading (chars (text ++ encode c))
-  pub next : (now : EntryMapState) (more : ℕ) → space ≤ more → now.items ≡ put_at (text ++ encode c) e headers.items → now.limit ≡ headers.limit
+  pub next : (now : EntryMapState) (more : ℕ) → space ≤ more → named_entries now.0 ≡ put_at (text ++ encode c) e (named_entries headers.0) → now.1 ≡ headers.1
       → IsReading limits (text ++ encode c) more new now
 
 -- what a character emits that ends the headers
@@ -125,10 +127,10 @@ module _ (limits : Limits) (text : List ℕ) (space : ℕ) (machine new : Header
   pub read : HasRead limits.header t machine h.events
   read = has_read limits.header t machine h.events h.taken
 
-  items_are : headers.items ≡ (collected_of t h.events).headers
+  items_are : named_entries headers.0 ≡ (collected_of t h.events).headers
   items_are = h.put ∙ ap (λ (x : List ℕ). (collected_with_all x h.events none).headers) (sym bytes_are)
 
-  items_more : headers.items ≡ (collected_with_all more h.events none).headers
+  items_more : named_entries headers.0 ≡ (collected_with_all more h.events none).headers
   items_more = grind (arith, items_are, kept_so_far, scalars_more, read, bytes_more)
 
   pub reads_on : (e : Option HeaderEvent) → IsBounded new → push_one machine c ≡ (new, Read e) → ReadsOn limits text space new headers c e
@@ -173,7 +175,7 @@ module _ (limits : Limits) (text : List ℕ) (space : ℕ) (machine new : Header
           let r = room_for_one limits.header t text machine h.events h.taken (let b = h.bounded.bytes in let l = (counted limits.header t machine h.events h.taken).limit in omega (arith, b, l)) in
           let i = ap (λ (x : List (List ℕ × Span)). length x) h.put in
           let l = h.limit in
-          omega (arith, r, i, l)
+          omega (arith, r, i, l, length-named headers.0)
 
   -- the text is too long
   pub emits_limit : (place : Place) → push_one machine c ≡ (new, Ended (Limit place)) → EndsHeaders limits text c (Stop (record { place = place; code = F4 }) ∷ []) over
@@ -185,16 +187,17 @@ module _ (limits : Limits) (text : List ℕ) (space : ℕ) (machine new : Header
   -- ---- the line `%%`
 
   abbrev book : List (List ℕ × List ℕ)
-  book = spelled_entries text headers.items
+  book = spelled_entries text headers.0
 
-  book_is : spelled_entries (encodes longer) (collected_of t h.events).headers ≡ book
-  book_is = ap (λ (x : List ℕ). spelled_entries x (collected_of t h.events).headers) bytes_more ∙ (ap (λ (x : List (List ℕ × Span)). spelled_entries more x) (sym items_are) ∙ spelled_longer text (encode c) headers.items (values_lie_within limits text space machine headers u h))
+  book_is : spelled_named (encodes longer) (collected_of t h.events).headers ≡ book
+  book_is = ap (λ (x : List ℕ). spelled_named x (collected_of t h.events).headers) bytes_more ∙ (ap (λ (x : List (List ℕ × Span)). spelled_named more x) (sym items_are) ∙ spelled_by_names more headers.0
+      ∙ spelled_longer key_name text (encode c) headers.0 (values_lie_within limits text space machine headers u h))
 
   heads_are : (place : Place) (body : ℕ) (line : Option ℕ) → push_one machine c ≡ (new, Ended (Score place body line))
       → heads_of limits longer ≡ heads_by_len place body book (collected_of t h.events).findings (len_at_score limits place line book)
   heads_are place body line p =
       sym (now_is limits t [] c machine new h.events scalars_more read (Score place body line) p)
-      ∙ (by_len limits place body line (spelled_entries (encodes longer) (collected_of t h.events).headers) (collected_of t h.events).findings
+      ∙ (by_len limits place body line (spelled_named (encodes longer) (collected_of t h.events).headers) (collected_of t h.events).findings
       ∙ ap (λ (x : List (List ℕ × List ℕ)). heads_by_len place body x (collected_of t h.events).findings (len_at_score limits place line x)) book_is)
 
   pub emits_stop : (place : Place) (body : ℕ) (line : Option ℕ) (fault : Fault) → push_one machine c ≡ (new, Ended (Score place body line)) → len_at_score limits place line book ≡ Err fault

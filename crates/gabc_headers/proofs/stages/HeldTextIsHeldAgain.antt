@@ -10,7 +10,6 @@ use Rattle.gabc_places.specs.declared.place.Char.{Char}
 use Rattle.gabc_places.specs.declared.code.Fault.{Fault}
 use Rattle.gabc_places.specs.declared.limits.Limits.{Limits}
 use Rattle.gabc_places.specs.StageLaw.{concat_of}
-use Rattle.gabc_headers.specs.Entries.{EntryMapState}
 use Rattle.gabc_headers.specs.declared.head_event.HeadEvent.{HeadEvent}
 use Rattle.gabc_headers.specs.declared.head_event.HeadEvent.TheVariants.{Found}
 use Rattle.gabc_headers.specs.declared.header_machine.HeaderMachine.{HeaderMachine}
@@ -20,6 +19,7 @@ use Rattle.gabc_headers.specs.Heads.{findings_of}
 use Rattle.gabc_headers.specs.HeadEvents.{events_of_broken, inputs_after, emitted_by}
 use Rattle.gabc_headers.specs.witness.HeadEvents.{HeadProgress, reading, after_headers, over, book_at, stage_past, text_held, progress_by, progress_with, events_at, events_left}
 use Rattle.gabc_headers.specs.HeldText.{IsHeld, findings_held, holding, text_in, inputs_of}
+use Rattle.gabc_headers.specs.machine.EntryMap.{EntryMapState}
 use Rattle.gabc_headers.specs.machine.HeaderMachine.{fresh_machine}
 use Rattle.gabc_headers.specs.machine.HeaderStage.{IsReading}
 use Rattle.gabc_headers.proofs.prefixes.EventsMakeHeads.{concat-cons, open_progress}

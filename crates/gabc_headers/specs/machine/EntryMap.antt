@@ -1,18 +1,33 @@
 -- What is gathered: names with values, each name at the place of its first and with the value of
 -- its last.
-use Rattle.std.specs.Prelude.{ℕ, ◌+◌, ◌<◌, ◌≤◌, ◌≡◌, length, max, List, [], ◌∷◌, Bool, true, false, not, ◌&&◌, IsUtf8}
+use Rattle.std.specs.Prelude.{ℕ, ◌+◌, ◌<◌, ◌≤◌, ◌≡◌, length, map, max, List, [], ◌∷◌, Bool, true, false, not, ◌&&◌, IsUtf8}
 use Rattle.std.specs.Str.{chars}
+use Rattle.std.specs.declared.hash.DefaultHasher.{DefaultHasher}
 use Rattle.gabc_places.specs.declared.place.Span.{Span}
 use Rattle.gabc_headers.specs.declared.entry_map.Key.{Key}
 use Rattle.gabc_headers.specs.declared.entry_map.Key.TheVariants.{Name, Annotation}
 use Rattle.gabc_headers.specs.Book.{is_one_of}
-use Rattle.gabc_headers.specs.Entries.{EntryMapState}
+use Rattle.gabc_headers.specs.Entries.{key_name, text_at}
 use Rattle.gabc_headers.specs.machine.Spans.{IsWithin}
 use Rattle.gabc_headers.specs.EntryMap.{is_annotation}
 
+-- what a map of headers shows: the keys with the spans of their values, for how many it has room,
+-- and from where it hashes names
+abbrev pub EntryMapState : Type 0
+EntryMapState = List (Key × Span) × ℕ × DefaultHasher
+
 -- there is room for one header more
 abbrev pub HasPlace : EntryMapState → Type 0
-HasPlace map = length map.items < map.limit
+HasPlace map = length map.0 < map.1
+
+-- the entries, with the names that the keys stand for
+abbrev pub named_entries : {X : Type 0} → List (Key × X) → List (List ℕ × X)
+named_entries [] = []
+named_entries (e ∷ es) = (key_name e.0, e.1) ∷ named_entries es
+
+-- the names, each with the characters of its span of a text's bytes
+abbrev pub spelled_named : List ℕ → List (List ℕ × Span) → List (List ℕ × List ℕ)
+spelled_named text es = map (λ e. (e.0, text_at text e.1)) es
 
 -- the names of the entries
 abbrev pub names : {X : Type 0} → List (List ℕ × X) → List (List ℕ)
@@ -44,11 +59,11 @@ pub record IsEntryRoom (limit room : ℕ) (es : List (Key × Span)) : Type 0 whe
   pub fits : limit ≤ length es + room
 
 -- each span lies in the text, between characters
-abbrev pub AreWithin : List ℕ → List (List ℕ × Span) → Type 0
+abbrev pub AreWithin : {K : Type 0} → List ℕ → List (K × Span) → Type 0
 AreWithin text [] = Unit {0}
 AreWithin text (e ∷ es) = IsWithin text e.1 × AreWithin text es
 
 -- the end of the last of these spans, or 0
-abbrev pub values_end : List (List ℕ × Span) → ℕ
+abbrev pub values_end : {K : Type 0} → List (K × Span) → ℕ
 values_end [] = 0
 values_end (e ∷ es) = max e.1.to (values_end es)

@@ -8,8 +8,7 @@ use Rattle.gabc_headers.specs.declared.header_machine.HeaderStep.TheVariants.{Re
 use Rattle.gabc_headers.specs.declared.header_stage.HeadPart.{HeadPart}
 use Rattle.gabc_headers.specs.declared.header_stage.HeadPart.TheVariants.{InHeaders, After, Stopped, Over}
 use Rattle.gabc_headers.specs.machine.Collected.{collected_with_all, none}
-use Rattle.gabc_headers.specs.Entries.{EntryMapState}
-use Rattle.gabc_headers.specs.machine.EntryMap.{AreWithin}
+use Rattle.gabc_headers.specs.machine.EntryMap.{EntryMapState, AreWithin, named_entries}
 use Rattle.gabc_headers.specs.machine.Events.{with_event}
 use Rattle.gabc_headers.specs.machine.HeaderMachine.{IsBounded, fresh_machine, push_one}
 
@@ -30,15 +29,15 @@ pub record IsReading (limits : Limits) (text : List ℕ) (room : ℕ) (machine :
   pub taken : Takes (fresh_machine limits.header) [] (chars text) machine events
   pub bounded : IsBounded machine
   pub fits : limits.header + 1 ≤ room
-  pub put : headers.items ≡ (collected_with_all text events none).headers
-  pub limit : headers.limit ≡ headers_within limits
+  pub put : named_entries headers.0 ≡ (collected_with_all text events none).headers
+  pub limit : headers.1 ≡ headers_within limits
 
 -- The memory stays reserved: for the text, and for the headers that count. And their values lie in
 -- the text.
 pub record KeepsHeaders (limits : Limits) (text : List ℕ) (space : ℕ) (headers : EntryMapState) : Type 0 where
   pub text_fits : limits.header + 1 ≤ space
-  pub headers_fit : headers.limit ≡ headers_within limits
-  pub within : AreWithin text headers.items
+  pub headers_fit : headers.1 ≡ headers_within limits
+  pub within : AreWithin text headers.0
 
 abbrev pub IsStageIn : HeadPart → Limits → List ℕ → ℕ → HeaderMachine → EntryMapState → Type 0
 IsStageIn InHeaders limits text space machine headers = IsReading limits text space machine headers

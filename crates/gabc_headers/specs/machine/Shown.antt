@@ -1,6 +1,7 @@
 -- What is collected, without the room for it.
 use Rattle.gabc_headers.specs.declared.collected.Collected.{Collected as Room}
 use Rattle.gabc_headers.specs.machine.Collected.{Collected}
+use Rattle.gabc_headers.specs.machine.EntryMap.{named_entries}
 
 abbrev pub shown : Room → Collected
-shown c = record { headers = c.headers.items; findings = c.findings }
+shown c = record { headers = named_entries c.headers.0; findings = c.findings }

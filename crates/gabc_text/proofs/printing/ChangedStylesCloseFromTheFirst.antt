@@ -3,12 +3,12 @@ use Rattle.std.proofs.Common.{arith, ◌≡◌, ℕ, ◌&&◌, not, [], ◌∷�
 use Rattle.std.proofs.lemmas.Bool.{and_parts, not-true}
 use Rattle.std.proofs.Math.Bool.{beq, and-true}
 use Rattle.std.specs.List.{filter, flat_map}
-use Rattle.gabc_text.proofs.printing.NothingIsFoundInPrintedText.{itself}
-use Rattle.gabc_text.proofs.machine.TokenStateByCharacter.{turned}
+use Rattle.gabc_text.proofs.printing.NothingIsFoundInPrintedText.{itself, other_too}
 use Rattle.gabc_text.specs.declared.styles.Style.{Style}
 use Rattle.gabc_text.specs.declared.styles.Styles.{Styles}
 use Rattle.gabc_text.specs.TextFacts.{has_style}
-use Rattle.gabc_text.specs.View.{all_styles, is_same, rank}
+use Rattle.gabc_text.specs.TagNames.{all_styles}
+use Rattle.gabc_text.specs.View.{is_same}
 use Rattle.gabc_text.specs.Canonical.{listed_styles, after_common, boundary, style_opening, style_closing}
 use Rattle.gabc_text.specs.machine.ChangedStyles.{common_styles, differs, changed_styles}
 
@@ -36,7 +36,7 @@ after_one s old new h = grind arith
 
 after_other : (s : Style) (old new : List Style) → lacking s old ≡ true → after_common old (s ∷ new) ≡ (old, s ∷ new)
 after_other s [] new h = refl
-after_other s (r ∷ old) new h = rw (turned (rank r) (rank s) (not-true (is_same s r) (and_parts _ (lacking s old) h).0)) refl
+after_other s (r ∷ old) new h = rw (other_too s r (not-true (is_same s r) (and_parts _ (lacking s old) h).0)) refl
 
 lacking_filter : (s : Style) (f : Style → Bool) (ss : List Style) → lacking s ss ≡ true → lacking s (filter f ss) ≡ true
 lacking_filter s f [] h = refl

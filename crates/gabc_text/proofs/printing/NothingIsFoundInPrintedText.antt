@@ -1,5 +1,5 @@
 -- Nothing is found in a printed text whose tags are all known.
-use Rattle.std.proofs.Common.{eq-eqb, ◌≡◌, ℕ, ◌+◌, ◌≤◌, ◌<◌, List, [], ◌∷◌, ◌++◌, Bool, true, false, ◌||◌, ◌&&◌, not, cond, refl, sym, ap, ap₂, ◌∙◌, map, reverse, append-nil, append_assoc, Option, Some, length, length-append, arith}
+use Rattle.std.proofs.Common.{◌≡◌, ℕ, ◌+◌, ◌≤◌, ◌<◌, List, [], ◌∷◌, ◌++◌, Bool, true, false, ◌||◌, ◌&&◌, not, cond, refl, sym, ap, ap₂, ◌∙◌, map, reverse, append-nil, append_assoc, Option, Some, length, length-append, arith}
 use Rattle.std.proofs.lemmas.Bool.{or_parts, or_right, false_from_ne_true, true_from_ne_false}
 use Rattle.std.proofs.lemmas.List.{reverse-append}
 use borrow.Author.Clash.{clash}
@@ -15,7 +15,7 @@ use Rattle.gabc_text.specs.declared.view.PieceKind.{PieceKind}
 use Rattle.gabc_text.specs.declared.token.TokenKind.{TokenKind}
 use Rattle.gabc_text.specs.declared.token.TagEffect.{TagEffect}
 use Rattle.gabc_text.specs.Token.{Token, spelling}
-use Rattle.gabc_text.specs.View.{along, effect, effect_as, piece_kind, PieceFacts, is_same, rank, is_open, is_open_after, is_begin, is_end, has_begin, has_end, is_translation, has_translation, is_left_out, kept_at, kept_as, follows_space, early_codes, late_codes, found_at, findings_at, codes_at_end, findings_at_end, place_of, is_word_kind, is_blank_piece}
+use Rattle.gabc_text.specs.View.{along, effect, effect_as, piece_kind, PieceFacts, is_same, is_open, is_open_after, is_begin, is_end, has_begin, has_end, is_translation, has_translation, is_left_out, kept_at, kept_as, follows_space, early_codes, late_codes, found_at, findings_at, codes_at_end, findings_at_end, place_of, is_word_kind, is_blank_piece}
 use Rattle.gabc_text.specs.ViewFacts.{ViewFacts}
 use Rattle.gabc_text.specs.Canonical.{after_common}
 use Rattle.gabc_text.specs.Printed.{opening_tag, closing_tag, brace_tokens, tokens_between, printed_piece, print_from, text_of_tokens, text_tokens, translation_tokens, word_break, print_tokens}
@@ -30,15 +30,18 @@ use Rattle.gabc_text.proofs.machine.TokensOneAfterAnother.{onto}
 use Rattle.gabc_text.specs.machine.PrintedPieces.{AllGood, Good}
 use Rattle.gabc_places.proofs.NothingAfterAnEnd.{both_empty}
 use Rattle.gabc_text.proofs.printing.LineFeedBeginsWord.{Alike, break_alike}
-use Rattle.gabc_text.proofs.machine.TokenStateByCharacter.{turned}
 
 -- ---- styles, none of which stands twice
 
 pub itself : (s : Style) → is_same s s ≡ true
-itself s = eq-eqb (rank s) (rank s) refl
+itself s = grind arith
 
 in_head : (y : Style) (ys : List Style) → member y (y ∷ ys) ≡ true
 in_head y ys = rw (itself y) refl
+
+-- a style that is not another is not it
+pub other_too : (r s : Style) → is_same r s ≡ false → is_same s r ≡ false
+other_too r s h = false_from_ne_true (is_same s r) (λ e. clash (is_same r s) (ap (λ (x : Style). is_same x s) (sym (same_style s r e)) ∙ itself s) h)
 
 -- a style is not among others that one of them is not
 other_than : (y s : Style) (ys : List Style) → member y ys ≡ false → member s ys ≡ true → is_same y s ≡ false
@@ -48,7 +51,7 @@ once_more : (xs : List Style) (y : Style) → AllOnce xs → member y xs ≡ fal
 once_more [] y h g = (refl, tt)
 once_more (x ∷ xs) y h g =
     let n = or_parts (is_same x y) (member y xs) g in
-    (list_any-append (λ (r : Style). is_same r x) xs (y ∷ []) ∙ rw (h.0, turned (rank y) (rank x) n.0) refl, once_more xs y h.1 n.1)
+    (list_any-append (λ (r : Style). is_same r x) xs (y ∷ []) ∙ rw (h.0, other_too x y n.0) refl, once_more xs y h.1 n.1)
 
 once_turned : (xs : List Style) → AllOnce xs → AllOnce (reverse xs)
 once_turned [] h = tt

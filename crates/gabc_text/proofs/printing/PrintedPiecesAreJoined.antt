@@ -8,7 +8,8 @@ use Rattle.gabc_places.specs.declared.place.Span.{Span}
 use Rattle.gabc_text.specs.declared.styles.Style.{Style}
 use Rattle.gabc_text.specs.declared.view.PieceKind.TheVariants as piece
 use Rattle.gabc_text.specs.Token.{Token, spelling}
-use Rattle.gabc_text.specs.View.{PieceFacts, all_styles, is_word_kind, is_blank_piece}
+use Rattle.gabc_text.specs.TagNames.{all_styles}
+use Rattle.gabc_text.specs.View.{PieceFacts, is_word_kind, is_blank_piece}
 use Rattle.gabc_text.specs.ViewFacts.{but_blank, tags_among, LiesAmong}
 use Rattle.gabc_text.specs.Canonical.{after_common}
 use Rattle.gabc_text.specs.Printed.{opening_tag, closing_tag, begin_brace, end_brace, brace_tokens, tokens_between, print_from, text_of_tokens}

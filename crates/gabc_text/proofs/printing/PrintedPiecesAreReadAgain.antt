@@ -7,7 +7,8 @@ use Rattle.gabc_text.specs.declared.view.PieceKind.TheVariants as piece
 use Rattle.gabc_text.specs.declared.token.TokenKind.{TokenKind}
 use Rattle.gabc_text.specs.declared.token.TokenKind.TheVariants as kind
 use Rattle.gabc_text.specs.Token.{Token}
-use Rattle.gabc_text.specs.View.{along, tag_piece, is_open, all_styles, open_styles, kind_of, is_word_kind, has_word, follows_blank, starts_word, pieces_at, PieceFacts, is_space, is_blank_piece, is_translation}
+use Rattle.gabc_text.specs.TagNames.{all_styles}
+use Rattle.gabc_text.specs.View.{along, tag_piece, is_open, open_styles, kind_of, is_word_kind, has_word, follows_blank, starts_word, pieces_at, PieceFacts, is_space, is_blank_piece, is_translation}
 use Rattle.gabc_text.specs.Printed.{opening_tag, closing_tag, tokens_between, brace_tokens, printed_piece, print_from}
 use Rattle.gabc_text.proofs.printing.TokensAreReadAgain.{opening_stable, closing_stable}
 use Rattle.gabc_text.proofs.printing.PrintedTagsOpenStyles.{along_append, tag_opens, tag_closes, member, AllOnce, Quiet, across, styles_again, once}

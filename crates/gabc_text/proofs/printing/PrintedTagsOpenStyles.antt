@@ -8,7 +8,8 @@ use Rattle.std.proofs.Math.Bool.{and-false, and-true, or-false, or-true, or_comm
 use Rattle.gabc_text.proofs.machine.TokensOneAfterAnother.{onto}
 use Rattle.gabc_text.specs.declared.styles.Style.{Style}
 use Rattle.gabc_text.specs.Token.{Token}
-use Rattle.gabc_text.specs.View.{along, effect, is_open_after, is_open, is_same, all_styles, open_styles}
+use Rattle.gabc_text.specs.TagNames.{all_styles}
+use Rattle.gabc_text.specs.View.{along, effect, is_open_after, is_open, is_same, open_styles}
 use Rattle.gabc_text.specs.Canonical.{after_common}
 use Rattle.gabc_text.specs.Printed.{opening_tag, closing_tag, tokens_between}
 use Rattle.gabc_text.specs.declared.token.TagEffect.{TagEffect}

@@ -6,7 +6,7 @@ use Rattle.std.proofs.lemmas.List.Elements.{filter-append}
 use Rattle.gabc_text.specs.declared.styles.Style.{Style}
 use Rattle.gabc_text.specs.declared.styles.Styles.{Styles}
 use Rattle.gabc_text.specs.TextFacts.{has_style}
-use Rattle.gabc_text.specs.View.{all_styles}
+use Rattle.gabc_text.specs.TagNames.{all_styles}
 use Rattle.gabc_text.specs.Canonical.{listed_styles, style_opening, style_closing}
 
 -- the text of each style that is in the set

@@ -5,7 +5,8 @@ use Rattle.gabc_text.specs.declared.styles.Style.{Style}
 use Rattle.gabc_text.specs.declared.view.PieceKind.{PieceKind}
 use Rattle.gabc_text.specs.declared.view.PieceKind.TheVariants as piece
 use Rattle.gabc_text.specs.Token.{Token, spelling, tokens}
-use Rattle.gabc_text.specs.View.{PieceFacts, all_styles, kind_of, is_word_kind, is_space, is_blank_piece, text_of_piece}
+use Rattle.gabc_text.specs.TagNames.{all_styles}
+use Rattle.gabc_text.specs.View.{PieceFacts, kind_of, is_word_kind, is_space, is_blank_piece, text_of_piece}
 use Rattle.gabc_text.specs.Printed.{printed_piece}
 
 -- a token that is read again, whatever follows

@@ -13,7 +13,8 @@ use Rattle.gabc_text.specs.declared.token.TagEffect.TheVariants as does
 use Rattle.gabc_text.specs.declared.token.TokenKind.{TokenKind}
 use Rattle.gabc_text.specs.declared.token.TokenKind.TheVariants.{Tag, OpenTranslation}
 use Rattle.gabc_text.specs.Token.{Token, tokens}
-use Rattle.gabc_text.specs.View.{effect, is_open, all_styles, has_begin, has_end, codes_at_end, tag_codes_by}
+use Rattle.gabc_text.specs.TagNames.{all_styles}
+use Rattle.gabc_text.specs.View.{effect, is_open, has_begin, has_end, codes_at_end, tag_codes_by}
 use Rattle.gabc_text.specs.KeptText.{view_of_kept, codes_by, codes_with}
 use Rattle.gabc_notes.specs.Events.{ItemText, opens_fusion, closes_fusion, macro_of, is_missing}
 use Rattle.gabc_notes.specs.FirstSound.{first_sound}

@@ -1,4 +1,4 @@
-use Rattle.std.proofs.Common.{rules, arith}
+use Rattle.std.proofs.Common.{rules}
 use Rattle.gabc_draw.proofs.drawing.draw.Goals as goal
 
 pub returns-clause-drawn : goal.returns-clause-drawn

@@ -7,7 +7,7 @@ abbrev pub invariant-loop-event : goal.invariant-loop-event
 invariant-loop-event l = record {
   good : AreGoodEvents l.text (drop l.event-index l.events);
   same : collected_with_all l.text (drop l.event-index l.events) (shown l.collected) ≡ collected_with_all l.text l.events (record { headers = []; findings = [] });
-  limit : l.collected.headers.limit ≡ length l.events;
-  hasher : l.collected.headers.hasher ≡ l.initial.collected.headers.hasher;
-  few : length l.collected.headers.items ≤ l.event-index;
+  limit : l.collected.headers.1 ≡ length l.events;
+  hasher : l.collected.headers.2 ≡ l.initial.collected.headers.2;
+  few : length l.collected.headers.0 ≤ l.event-index;
 }

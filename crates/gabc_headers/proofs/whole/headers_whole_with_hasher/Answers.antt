@@ -9,6 +9,7 @@ use Rattle.gabc_headers.specs.declared.heads.HeadFault.{HeadFault}
 use Rattle.gabc_headers.proofs.collecting.HeadsFollowFromEvents.{scalars_of, read_good, read_within, case_limit, case_score, case_text}
 use Rattle.gabc_headers.proofs.collecting.HeadsWithinLimits.{at_text_end}
 use Rattle.gabc_headers.specs.HeadsOfGroups.{AreHeads}
+use Rattle.gabc_headers.proofs.entries.HeadersAreSpelled.{spelled_by_names, within_by_names}
 use Rattle.gabc_headers.proofs.groups.HeadsAreOfGroups.{of_groups, one_reading}
 use Rattle.gabc_headers.proofs.order.FindingsStandInOrder.{heads_order}
 use Rattle.gabc_headers.proofs.whole.headers_whole_with_hasher.Goals as goal
@@ -17,7 +18,7 @@ pub collect-requires : goal.collect-requires
 collect-requires c = grind (arith, scalars_of, read_good)
 
 pub at_score-requires : goal.at_score-requires
-at_score-requires c = grind (arith, scalars_of, read_within)
+at_score-requires c = grind (arith, scalars_of, read_within, within_by_names)
 
 pub returns-in-Limit-clause-exact : goal.returns-in-Limit-clause-exact
 returns-in-Limit-clause-exact c =
@@ -34,7 +35,7 @@ returns-in-Score-clause-exact c =
     let u = scalars_of c.args.text.now c.as_str-written.result.now c.as_str-written.utf8 c.as_str-written.ensures.bytes in
     let e = case_score c.args.limits c.args.text.now c.in_ok-read.read.events.items c.in_ok-read.read.end u c.in_ok-read.ensures c.in-Score.place c.in-Score.body c.in-Score.open_line c.in-Score.is in
     of_groups_ok c.args.limits c.args.text.now c.at_score.result
-    (rw (← e, ← c.as_str-written.ensures.bytes, ← c.deref.ensures.value, ← ap (λ (x : Collected). x.headers) c.in_ok-collected.ensures.all, ← ap (λ (x : Collected). x.findings) c.in_ok-collected.ensures.all) c.at_score.ensures)
+    (rw (← e, ← c.as_str-written.ensures.bytes, ← c.deref.ensures.value, ← ap (λ (x : Collected). x.headers) c.in_ok-collected.ensures.all, spelled_by_names c.as_str-written.result.now c.in_ok-collected.collected.headers.0, ← ap (λ (x : Collected). x.findings) c.in_ok-collected.ensures.all) c.at_score.ensures)
 
 pub returns-clause-exact : goal.returns-clause-exact
 returns-clause-exact c =

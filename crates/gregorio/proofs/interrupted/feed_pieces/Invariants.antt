@@ -1,8 +1,8 @@
 use Rattle.std.proofs.Common.{◌+◌, ◌*◌, ◌≤◌, length, max, drop}
 use Rattle.gregorio.specs.declared.source_ending.SourceEnding.{SourceEnding}
-use Rattle.gregorio.specs.Streams.{joined}
+use Rattle.gregorio.specs.Streams.{TakeTheSame, joined}
 use Rattle.gregorio.specs.witness.Engine.{streams_left}
-use Rattle.gregorio.specs.machine.InMemory.{IsBetweenPieces, TakeTheSame}
+use Rattle.gregorio.specs.machine.InMemory.{IsBetweenPieces}
 use Rattle.gregorio.proofs.interrupted.feed_pieces.Given as goal
 
 -- with what is left, they will have taken all of it

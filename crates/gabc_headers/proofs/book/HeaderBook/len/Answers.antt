@@ -3,4 +3,4 @@ use Rattle.gabc_headers.proofs.entries.HeadersAreSpelled.{length-spelled}
 use Rattle.gabc_headers.proofs.book.HeaderBook.len.Goals as goal
 
 pub returns : goal.returns
-returns c = rw (← c.self.view_is, length-spelled (string_bytes c.self.inside.text) c.self.inside.headers.items) c.len.ensures
+returns c = rw (← c.self.view_is, length-spelled (string_bytes c.self.inside.text) c.self.inside.headers.0) c.len.ensures

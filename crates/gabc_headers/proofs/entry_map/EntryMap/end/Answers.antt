@@ -8,16 +8,16 @@ loop-index-init c = record { last = IsCharBoundary-start c.args.text.now c.utf8.
 
 pub loop-index-preserved : goal.loop-index-preserved
 loop-index-preserved c =
-    let at = ends_at c.args.text.now c.args.self.now.items c.loop-index.index c.value.result c.requires c.value.ensures in
+    let at = ends_at c.args.text.now c.args.self.now.0 c.loop-index.index c.value.result c.requires c.value.ensures in
     let later = later_end c.args.text.now c.loop-index.end c.value.result.to c.loop-index.invariant.last at in
     record {
       last = rw c.max-end.ensures later.2;
-      ends = rw add-one (ends_on c.args.self.now.items c.loop-index.index c.loop-index.end c.max-end.result c.value.result c.value.ensures (rw c.max-end.ensures later.0) (rw c.max-end.ensures later.1) c.loop-index.invariant.ends);
-      far = rw add-one (sym (far_on c.args.self.now.items c.loop-index.index c.loop-index.end c.max-end.result c.value.result c.value.ensures c.max-end.ensures) ∙ c.loop-index.invariant.far);
+      ends = rw add-one (ends_on c.args.self.now.0 c.loop-index.index c.loop-index.end c.max-end.result c.value.result c.value.ensures (rw c.max-end.ensures later.0) (rw c.max-end.ensures later.1) c.loop-index.invariant.ends);
+      far = rw add-one (sym (far_on c.args.self.now.0 c.loop-index.index c.loop-index.end c.max-end.result c.value.result c.value.ensures c.max-end.ensures) ∙ c.loop-index.invariant.far);
     }
 
 pub returns-clause-within : goal.returns-clause-within
-returns-clause-within c = within_end c.args.text.now c.args.self.now.items c.loop-index.index c.loop-index.end (omega arith) c.requires c.loop-index.invariant.ends
+returns-clause-within c = within_end c.args.text.now c.args.self.now.0 c.loop-index.index c.loop-index.end (omega arith) c.requires c.loop-index.invariant.ends
 
 pub returns-clause-exact : goal.returns-clause-exact
-returns-clause-exact c = sym (far_end c.args.self.now.items c.loop-index.index c.loop-index.end (omega arith)) ∙ c.loop-index.invariant.far
+returns-clause-exact c = sym (far_end c.args.self.now.0 c.loop-index.index c.loop-index.end (omega arith)) ∙ c.loop-index.invariant.far

@@ -3,16 +3,14 @@ use Rattle.std.proofs.lemmas.Bool.{false≢true}
 use Rattle.std.specs.Str.{chars}
 use Rattle.std.specs.Map.{lookup}
 use Rattle.arrayvec.specs.ArrayString.{ArrayString}
-use Rattle.indexmap.specs.IndexMap.{hasher_of, spare, set_value_at}
+use Rattle.indexmap.specs.IndexMap.{spare, set_value_at}
 use Rattle.indexmap.proofs.CallerLemmas.{index_map_len-with_value_at}
 use Rattle.gabc_places.specs.declared.place.Span.{Span}
 use Rattle.gabc_headers.specs.contracts.entry_map.KeyPartialEq.TheImpl.{eq-value}
 use Rattle.gabc_headers.specs.declared.entry_map.Key.{Key}
 use Rattle.gabc_headers.specs.declared.entry_map.Key.TheVariants.{Name}
-use Rattle.gabc_headers.specs.Entries.{named_entries}
-use Rattle.gabc_headers.specs.machine.EntryMap.{IsKeyOf, AreKeysBelow}
+use Rattle.gabc_headers.specs.machine.EntryMap.{IsKeyOf, AreKeysBelow, named_entries}
 use Rattle.gabc_headers.proofs.entries.TextsAsBytes.{bytes_eq-chars}
-use Rattle.gabc_headers.proofs.entries.MapIsReadByEntry.{fits_inside}
 use Rattle.gabc_headers.proofs.entries.InsertPutsEntry.{Puts, puts, set_found}
 use Rattle.gabc_headers.proofs.entry_map.EntryMap.put.Goals as goal
 
@@ -44,7 +42,7 @@ returns-in-Some-clause-put c =
     let es = c.self.inside.map.entries in
     let p = put_key c.args.name.now c.args.value es c.of-key.result c.len.result c.utf8.name c.of-key.ensures c.len.ensures.len c.self.invariant.keys in
     let found = set_found keys_same same (λ i j. refl) (λ s i. refl) (λ s i. refl) c.of-key.result c.args.value es c.in-Some.index (sym c.in-Some.ensures.index) in
-    rw (← c.self.view_is) (ap (λ (x : List (List ℕ × Span)). record { items = x; limit = c.self.inside.limit; hasher = (hasher_of c.self.inside.map).first }) (ap named_entries found ∙ p.entries))
+    rw (← c.self.view_is) (ap named_entries found ∙ p.entries)
 
 pub returns-in-Some-clause-again : goal.returns-in-Some-clause-again
 returns-in-Some-clause-again c =
@@ -54,7 +52,7 @@ returns-in-Some-clause-again c =
 
 pub unreachable-requires : goal.unreachable-requires
 unreachable-requires c =
-    let room = fits_inside c.self.inside.map.entries c.self.inside.limit (hasher_of c.self.inside.map).first c.args.self.now c.self.view_is c.requires.room in
+    let room : length c.self.inside.map.entries < c.self.inside.limit = rw (← c.self.view_is) at c.requires.room in
     let f = c.self.invariant.fits in
     let some : 0 < spare c.self.inside.map = omega (arith, room, f) in
     false≢true (c.in_default-insert.ensures.succeeds some)

@@ -7,4 +7,4 @@ pub range-requires : goal.range-requires
 range-requires c = grind (arith, within_get)
 
 pub returns : goal.returns
-returns c = rw c.range.ensures.value (value_spelled c.args.text.now c.args.self.now.items c.args.index c.value-value.result c.value-value.ensures)
+returns c = rw c.range.ensures.value (value_spelled c.args.text.now c.args.self.now.0 c.args.index c.value-value.result c.value-value.ensures)

@@ -81,8 +81,8 @@ returns-in-Ok-score_len c =
     let emits = emits_whole c.self.inside.limits (string_bytes c.self.inside.text) (string_capacity c.self.inside.text) c.self.inside.machine c.push.new.self c.self.inside.headers c.args.c (IsUtf8-string_bytes c.self.inside.text) c.ranges.c.0 st.reads c.in-Ended-Score.place c.in-Ended-Score.field-0-1 c.in-Ended-Score.open_line c.in-Ok-score_len.size (sym c.in-Ended-Score.ensures.pushes ∙ ap (λ (x : HeaderEnding). (c.push.new.self, Ended x)) c.in-Ended-Score.field-0-is) (rw (← c.as_str-text.ensures.value, ← c.in-Ended-Score.place-is, ← c.in-Ended-Score.open_line-is) (sym c.in-Ok-score_len.ensures)) in
     record {
       state = state_after c.self.inside.limits c.self.inside.part (string_bytes c.self.inside.text) c.self.inside.headers c.args.self.now c.args.c st.part_is c.self.view_is emits.progress_is;
-      out = out_is c.self.inside.limits c.self.inside.part (string_bytes c.self.inside.text) c.self.inside.headers c.args.self.now c.args.c (map (λ f. Found f) (name_found c.in-Ended-Score.place (spelled_entries (string_bytes c.self.inside.text) c.self.inside.headers.items)) ++ event_of_book (spelled_entries (string_bytes c.self.inside.text) c.self.inside.headers.items) ∷ []) c.args.out.now c.emit_heads.new.out st.part_is c.self.view_is emits.events_are (rw (← c.in-Ended-Score.place-is, ← c.as_str-text.ensures.value, ← c.of.ensures) c.emit_heads.ensures);
-      few = few_is c.self.inside.limits c.self.inside.part (string_bytes c.self.inside.text) c.self.inside.headers c.args.self.now c.args.c (map (λ f. Found f) (name_found c.in-Ended-Score.place (spelled_entries (string_bytes c.self.inside.text) c.self.inside.headers.items)) ++ event_of_book (spelled_entries (string_bytes c.self.inside.text) c.self.inside.headers.items) ∷ []) st.part_is c.self.view_is emits.events_are (few_heads c.in-Ended-Score.place (spelled_entries (string_bytes c.self.inside.text) c.self.inside.headers.items) (event_of_book (spelled_entries (string_bytes c.self.inside.text) c.self.inside.headers.items)));
+      out = out_is c.self.inside.limits c.self.inside.part (string_bytes c.self.inside.text) c.self.inside.headers c.args.self.now c.args.c (map (λ f. Found f) (name_found c.in-Ended-Score.place (spelled_entries (string_bytes c.self.inside.text) c.self.inside.headers.0)) ++ event_of_book (spelled_entries (string_bytes c.self.inside.text) c.self.inside.headers.0) ∷ []) c.args.out.now c.emit_heads.new.out st.part_is c.self.view_is emits.events_are (rw (← c.in-Ended-Score.place-is, ← c.as_str-text.ensures.value, ← c.of.ensures) c.emit_heads.ensures);
+      few = few_is c.self.inside.limits c.self.inside.part (string_bytes c.self.inside.text) c.self.inside.headers c.args.self.now c.args.c (map (λ f. Found f) (name_found c.in-Ended-Score.place (spelled_entries (string_bytes c.self.inside.text) c.self.inside.headers.0)) ++ event_of_book (spelled_entries (string_bytes c.self.inside.text) c.self.inside.headers.0) ∷ []) st.part_is c.self.view_is emits.events_are (few_heads c.in-Ended-Score.place (spelled_entries (string_bytes c.self.inside.text) c.self.inside.headers.0) (event_of_book (spelled_entries (string_bytes c.self.inside.text) c.self.inside.headers.0)));
     }
 
 pub returns-in-Err : goal.returns-in-Err

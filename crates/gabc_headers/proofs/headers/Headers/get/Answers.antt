@@ -13,7 +13,7 @@ loop-index-init c = ap (λ (es : List (List ℕ × List ℕ)). value_named (char
 pub returns-then-eq : goal.returns-then-eq
 returns-then-eq c =
     let text = c.self.inside.text.now in
-    let headers = c.self.inside.headers.now.items in
+    let headers = c.self.inside.headers.now.0 in
     c.loop-index.invariant
     ∙ named_here c.args.name.now c.name.result.now c.value_in.result.now (spelled_entries text headers) c.loop-index.index c.utf8.name c.name.utf8
     (name_spelled text headers c.loop-index.index c.name.result.now c.name.ensures) c.value_in.ensures (sym c.if-eq.ensures)
@@ -21,7 +21,7 @@ returns-then-eq c =
 pub loop-index-preserved : goal.loop-index-preserved
 loop-index-preserved c =
     let text = c.self.inside.text.now in
-    let headers = c.self.inside.headers.now.items in
+    let headers = c.self.inside.headers.now.0 in
     rw add-one (c.loop-index.invariant
     ∙ named_later c.args.name.now c.name.result.now (spelled_entries text headers) c.loop-index.index c.utf8.name c.name.utf8 (name_spelled text headers c.loop-index.index c.name.result.now c.name.ensures) (sym c.if-eq.ensures))
 

@@ -10,7 +10,7 @@ returns-then-self-len-clause-steps c = grind (arith, length-spelled, drop_of_len
 pub returns-clause-steps : goal.returns-clause-steps
 returns-clause-steps c =
     let text = c.self.inside.text.now in
-    let headers = c.self.inside.headers.now.items in
+    let headers = c.self.inside.headers.now.0 in
     rw (← c.self.view_is, add-one)
     (left_here (spelled_entries text headers) c.self.inside.first c.name-name.result.now c.value_in-value.result.now (name_spelled text headers c.self.inside.first c.name-name.result.now c.name-name.ensures) c.value_in-value.ensures)
 

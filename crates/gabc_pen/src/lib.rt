@@ -1,0 +1,39 @@
+//! Draws what stands in one syllable: from the nodes of a tree (`gabc_tree`) to heads and signs
+//! (`gabc_marks`).
+//!
+//! A pen writes neumes (`pen`, `neume`), by how their notes follow one another (`plan`) and by the
+//! outline that shows them (`outline`), with the signs around them (`rhythm`, `episemata`, `staff`,
+//! `curves`). NABC over them is read (`nabc`) as descriptors (`descriptor`), each a cluster of
+//! outlines (`cluster`).
+#![tactic(auto)]
+
+mod cluster;
+mod curves;
+mod descriptor;
+mod episemata;
+mod extent;
+mod heads;
+mod nabc;
+mod nabc_rows;
+mod neume;
+mod note;
+mod outline;
+mod pen;
+mod plan;
+mod reading;
+mod rhythm;
+pub mod spaces;
+mod staff;
+
+pub use curves::{Curve, CurveKind, CurveRole, Curves};
+pub use episemata::{SnippetNote, put_signs};
+pub use extent::Extent;
+pub use nabc::{Hands, Nabc, hands_of};
+pub use nabc_rows::{NabcRows, PerLine, Reach, add_reach, join_rows, line_over};
+pub use neume::write_neume;
+pub use note::{Covers, EpisemaSize, Liquescence, Note, Shape, Side};
+pub use pen::{Drawn, PUNCTUM, Pen};
+pub use plan::{GlyphKind, Joint, Planned, plan_notes};
+pub use reading::{distance_of, text_between, thousandths_of};
+pub use rhythm::{height_of_step, put_around};
+pub use staff::{Clef, OneClef, custos, put_alteration, put_bar};

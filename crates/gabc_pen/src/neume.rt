@@ -1,0 +1,188 @@
+//! Neumes.
+
+ghost use Rattle.std.specs.Prelude.{◌≡◌, ◌≤◌, ◌-◌, ◌++◌, ◌∷◌, [], length, OnOk, IfOk, IfSome};
+ghost use Rattle.gabc_marks.specs.Heads.{pitches_of_heads, pitches_of_family};
+ghost use Rattle.gabc_pen.specs.Notes.{pitches_of_note, pitches_of_planned};
+
+use crate::heads::push_head;
+use crate::outline::joined_outline;
+use crate::pen::{Drawn, PUNCTUM, Pen, STROKE_FOOT};
+use crate::plan::{GlyphKind, Joint, Planned, fall_between};
+use gabc_marks::{Distance, Head, Joined, NoteHead, height_of};
+use std::alloc::AllocError;
+
+/// Returns by how many steps the broad stroke falls that shows just `first` and `second`, if
+/// `first` begins one.
+fn stroke_of(first: Planned, second: Planned) -> Option<u8>
+    ensures { IfSome result (λ fall. pitches_of_note first.note ++ pitches_of_note second.note
+        ≡ first.note.pitch ∷ (first.note.pitch - fall) ∷ []) }
+{
+    let begins = first.joint == Joint::StemmedStroke || first.joint == Joint::Stroke;
+    if !begins || first.note.times != 1 || second.note.times != 1 {
+        return None;
+    }
+    let fall = fall_between(first.note, second.note)?;
+    if second.note.pitch == first.note.pitch.saturating_sub(fall) {
+        Some(fall)
+    } else {
+        None
+    }
+}
+
+/// Writes `first`, with the note after it if both are a broad stroke, and returns the notes of
+/// `more` that are left.
+#[tactic(auto, using(crate::proofs::HeadsJoin::joined))]
+fn write_next<'p>(
+    first: Planned,
+    more: &'p [Planned],
+    pen: &mut Pen<'_>,
+    heads: &mut Vec<NoteHead>,
+) -> Result<&'p [Planned], AllocError>
+    ensures written { IfOk result (λ rest.
+        pitches_of_heads heads.new.items ++ pitches_of_planned rest.now
+        ≡ pitches_of_heads heads.old.items ++ pitches_of_planned (first ∷ more.now)) }
+    ensures shorter { IfOk result (λ rest. length rest.now ≤ length more.now) }
+{
+    if let [second, after @ ..] = more {
+        if let Some(fall) = stroke_of(first, *second) {
+            pen.write_stroke(first, *second, fall, heads)?;
+            return Ok(after);
+        }
+    }
+    pen.write_note(first, more.first().copied(), heads)?;
+    Ok(more)
+}
+
+/// Writes the notes of `planned`, each by itself or as a broad stroke.
+fn write_notes(
+    planned: &[Planned],
+    pen: &mut Pen<'_>,
+    heads: &mut Vec<NoteHead>,
+) -> Result<(), AllocError>
+    ensures { OnOk result (pitches_of_heads heads.new.items
+        ≡ pitches_of_heads heads.old.items ++ pitches_of_planned planned.now) }
+{
+    let mut rest = planned;
+    while let [first, more @ ..] = rest {
+        rest = write_next(*first, more, pen, heads)?;
+    }
+    Ok(())
+}
+
+/// Returns how many notes of a neume stand before its tail, and before each note by itself.
+fn front_of(planned: &[Planned]) -> usize
+    ensures { result ≤ length planned.now }
+{
+    for (at, it) in planned.iter().enumerate() {
+        if matches!(it.joint, Joint::Diamond | Joint::Virga | Joint::Alone) {
+            return at;
+        }
+    }
+    planned.len()
+}
+
+/// Returns in how many columns the heads of `planned` stand.
+fn columns_in(planned: &[Planned]) -> i32 {
+    let count = planned.iter().filter(|it| it.joint != Joint::Over).count();
+    i32::try_from(count).unwrap_or(i32::MAX)
+}
+
+/// Returns how many columns stand before the first broad stroke of `planned`, if it has one.
+fn stroke_column(planned: &[Planned]) -> Option<i32> {
+    for (at, it) in planned.iter().enumerate() {
+        if it.joint == Joint::Stroke || it.joint == Joint::StemmedStroke {
+            return Some(columns_in(&planned[..at]));
+        }
+    }
+    None
+}
+
+/// Returns where the head of `planned[at]` stands in an outline of this `width` that shows all of
+/// them: side by side from both ends up to a broad stroke, and evenly if there is none.
+fn column_of(planned: &[Planned], at: usize, width: Distance) -> Distance {
+    let through = at.saturating_add(1).min(planned.len());
+    let number = columns_in(&planned[..through]).saturating_sub(1);
+    let last = columns_in(planned).saturating_sub(1);
+    match stroke_column(planned) {
+        Some(stroke) if number <= stroke => PUNCTUM.times(number),
+        Some(_) => width - PUNCTUM.times(last.saturating_sub(number).saturating_add(1)),
+        None => (width - PUNCTUM).times(number).share(last),
+    }
+}
+
+/// Returns how much lower than that of a head the black of `planned[at]` goes.
+fn foot_of(planned: &[Planned], at: usize) -> Distance {
+    match (planned.get(at), planned.get(at.saturating_add(1))) {
+        (Some(it), Some(next)) if matches!(it.joint, Joint::Stroke | Joint::StemmedStroke) => {
+            let fall = it.note.pitch.saturating_sub(next.note.pitch);
+            STROKE_FOOT + Distance(100 * i32::from(fall))
+        }
+        _ => Distance::ZERO,
+    }
+}
+
+/// Returns whether `planned[at]` stands over the note before.
+fn is_over(planned: &[Planned], at: usize) -> bool {
+    planned.get(at).is_some_and(|it| it.joint == Joint::Over)
+}
+
+/// Notes where the heads of `planned` stand in an outline of this `width` that shows all of them.
+fn note_columns(planned: &[Planned], width: Distance, pen: &mut Pen<'_>) -> Result<(), AllocError> {
+    for (at, it) in planned.iter().enumerate() {
+        pen.drawn.push(Drawn {
+            note: it.note,
+            x: pen.x + column_of(planned, at, width),
+            width: PUNCTUM,
+            covers: is_over(planned, at),
+            covered: is_over(planned, at.saturating_add(1)),
+            foot: foot_of(planned, at),
+        })?;
+    }
+    Ok(())
+}
+
+/// Writes the notes of `planned`, of which the first has this `pitch`, as the outline `joined`.
+fn write_joined(
+    joined: Joined,
+    pitch: u8,
+    planned: &[Planned],
+    pen: &mut Pen<'_>,
+    heads: &mut Vec<NoteHead>,
+) -> Result<(), AllocError>
+    requires { pitches_of_planned planned.now
+        ≡ pitches_of_family joined.family pitch joined.first joined.second joined.third }
+    ensures { OnOk result (pitches_of_heads heads.new.items
+        ≡ pitches_of_heads heads.old.items ++ pitches_of_planned planned.now) }
+{
+    let head = Head::Joined(joined);
+    let outline = head.metrics();
+    push_head(head, pen.x, pitch, heads)?;
+    note_columns(planned, outline.width, pen)?;
+    pen.reach(height_of(pitch), outline);
+    pen.x += outline.width;
+    Ok(())
+}
+
+/// Writes a neume of this `kind`: its first notes by one outline, if there is one, and each other
+/// note by itself.
+#[tactic(auto, using(crate::proofs::HeadsJoin::joined))]
+pub fn write_neume(
+    kind: GlyphKind,
+    planned: &[Planned],
+    pen: &mut Pen<'_>,
+    heads: &mut Vec<NoteHead>,
+) -> Result<(), AllocError>
+    ensures { OnOk result (pitches_of_heads heads.new.items
+        ≡ pitches_of_heads heads.old.items ++ pitches_of_planned planned.now) }
+{
+    let (front, rest) = planned.split_at(front_of(planned));
+    let [first, _, ..] = front else {
+        return write_notes(planned, pen, heads);
+    };
+    let pitch = first.note.pitch;
+    let Some(joined) = joined_outline(kind, pitch, front) else {
+        return write_notes(planned, pen, heads);
+    };
+    write_joined(joined, pitch, front, pen, heads)?;
+    write_notes(rest, pen, heads)
+}

@@ -1,0 +1,447 @@
+//! A pen that writes neumes, one note after the other.
+
+ghost use Rattle.std.specs.Prelude.{◌≡◌, ◌++◌, OnOk};
+ghost use Rattle.gabc_marks.specs.Heads.{pitches_of_heads, pitches_shown};
+ghost use Rattle.gabc_marks.specs.declared.head.Head.TheVariants as Head;
+ghost use Rattle.gabc_pen.specs.Notes.{pitches_of_note};
+
+use crate::heads::{push_head, push_note};
+use crate::note::{Liquescence, Note, Shape};
+use crate::outline::{plain_head, whole};
+use crate::plan::{Joint, Planned};
+use gabc_marks::{Distance, Head, Metrics, NoteHead, Sign, Single, Symbol, height_of};
+use std::alloc::{AllocError, Global};
+
+/// Half a space of the staff: a step.
+pub(crate) const STEP: Distance = Distance(500);
+
+/// How broad a stem is.
+pub(crate) const STEM: Distance = Distance(80);
+
+/// What stands between two heads that are not joined.
+const BETWEEN: Distance = Distance(160);
+
+/// The width of a punctum.
+pub const PUNCTUM: Distance = Distance(526);
+
+/// How much lower than a head a broad stroke of no height would go at its first note.
+pub(crate) const STROKE_FOOT: Distance = Distance(120);
+
+/// A note as it was drawn: where its head stands, whether the next note stands over it or it over
+/// the one before, and how much lower than that of a head its black goes.
+#[derive(Clone, Copy, Debug)]
+pub struct Drawn {
+    pub note: Note,
+    pub x: Distance,
+    pub width: Distance,
+    pub covers: bool,
+    pub covered: bool,
+    pub foot: Distance,
+}
+
+impl Drawn {
+    /// Returns how far below the lowest line of the staff it stands.
+    pub fn y(self) -> Distance {
+        height_of(self.note.pitch)
+    }
+
+    /// Returns where its head ends.
+    pub fn right(self) -> Distance {
+        self.x + self.width
+    }
+}
+
+/// A pen: where it stands, the notes of the neume that it writes, and the signs that it has drawn.
+/// `top` and `bottom` bound all that it has drawn.
+#[derive(Debug, Drop)]
+pub struct Pen<'a> {
+    pub x: Distance,
+    pub drawn: Vec<Drawn>,
+    pub signs: Vec<Sign<'a>>,
+    pub top: Distance,
+    pub bottom: Distance,
+}
+
+impl<'a> Pen<'a> {
+    /// Returns a pen at 0 that has drawn nothing.
+    pub fn new(alloc: Global) -> Pen<'a> {
+        Pen {
+            x: Distance::ZERO,
+            drawn: Vec::new(alloc),
+            signs: Vec::new(alloc),
+            top: Distance::ZERO,
+            bottom: Distance::ZERO,
+        }
+    }
+
+    /// Widens the bounds by an outline at `y`.
+    pub(crate) fn reach(&mut self, y: Distance, outline: Metrics) {
+        self.top = self.top.min(y - outline.up);
+        self.bottom = self.bottom.max(y + outline.down);
+    }
+
+    /// Draws a rectangle.
+    pub fn rect(
+        &mut self,
+        x: Distance,
+        y: Distance,
+        width: Distance,
+        height: Distance,
+    ) -> Result<(), AllocError> {
+        self.signs.push(Sign::Rect {
+            x,
+            y,
+            width,
+            height,
+        })?;
+        self.top = self.top.min(y);
+        self.bottom = self.bottom.max(y + height);
+        Ok(())
+    }
+
+    /// Draws a symbol.
+    pub fn symbol(&mut self, symbol: Symbol, x: Distance, y: Distance) -> Result<(), AllocError> {
+        self.signs.push(Sign::Symbol { symbol, x, y })?;
+        self.reach(y, symbol.metrics());
+        Ok(())
+    }
+
+    /// Draws a stem of this length, downwards from `y`.
+    fn stem(&mut self, x: Distance, y: Distance, length: Distance) -> Result<(), AllocError> {
+        self.rect(x, y, STEM, length)
+    }
+
+    /// Joins a head at `y` with the one before, at the right of which `x` is.
+    fn join(&mut self, x: Distance, y: Distance) -> Result<(), AllocError> {
+        let Some(before) = self.drawn.last() else {
+            return Ok(());
+        };
+        let from = before.y();
+        self.rect(x - STEM, y.min(from), STEM, (y - from).size())
+    }
+
+    /// Notes that `note` was drawn at `x`, with heads of this `outline` that are so wide in all.
+    fn note(
+        &mut self,
+        note: Note,
+        x: Distance,
+        width: Distance,
+        outline: Metrics,
+    ) -> Result<(), AllocError> {
+        self.reach(height_of(note.pitch), outline);
+        self.drawn.push(Drawn {
+            note,
+            x,
+            width,
+            covers: false,
+            covered: false,
+            foot: Distance::ZERO,
+        })?;
+        Ok(())
+    }
+
+    /// Draws the tail of a liquescent note whose head ends at `right`.
+    fn tail(&mut self, note: Note, right: Distance) -> Result<(), AllocError> {
+        let y = height_of(note.pitch);
+        match note.liquescence {
+            _ if note.shape == Shape::Inclinatum => Ok(()),
+            Liquescence::Augmented => self.symbol(Symbol::TailUp, right, y),
+            Liquescence::Diminished => self.symbol(Symbol::TailDown, right, y),
+            Liquescence::None | Liquescence::Deminutus => Ok(()),
+        }
+    }
+
+    /// Draws the lines at both sides of a head that begins at `x`, and its stem.
+    fn around_head(&mut self, note: Note, x: Distance, width: Distance) -> Result<(), AllocError> {
+        let y = height_of(note.pitch);
+        if note.is_lined {
+            self.rect(x - Distance(160), y - Distance(460), STEM, Distance(920))?;
+            self.rect(
+                x + width + Distance(80),
+                y - Distance(460),
+                STEM,
+                Distance(920),
+            )?;
+        }
+        if note.shape.is_virga() {
+            self.stem(x + width - STEM, y, Distance(1300))?;
+        }
+        if note.shape == Shape::VirgaReversa || note.shape == Shape::OriscusScapus {
+            self.stem(x, y, Distance(1300))?;
+        }
+        Ok(())
+    }
+
+    /// Draws what belongs to each head of `note`, of which the first begins at `x`.
+    fn around_heads(
+        &mut self,
+        note: Note,
+        x: Distance,
+        width: Distance,
+        stride: Distance,
+    ) -> Result<(), AllocError> {
+        let mut at = x;
+        for _ in 0..note.times {
+            self.around_head(note, at, width)?;
+            at += stride;
+        }
+        Ok(())
+    }
+
+    /// Writes a note that one outline is, as often as it sounds.
+    fn write_whole(
+        &mut self,
+        single: Single,
+        note: Note,
+        heads: &mut Vec<NoteHead>,
+    ) -> Result<(), AllocError>
+        ensures { OnOk result (pitches_of_heads heads.new.items
+            ≡ pitches_of_heads heads.old.items ++ pitches_of_note note) }
+    {
+        let first = self.x;
+        let stride = single.metrics().width + BETWEEN;
+        push_note(single, note, first, stride, heads)?;
+        let width = stride.times(i32::from(note.times)) - BETWEEN;
+        self.note(note, first, width, single.metrics())?;
+        self.x += width;
+        Ok(())
+    }
+
+    /// Writes a note as a head, as often as it sounds, with what belongs to it.
+    fn write_alone(
+        &mut self,
+        single: Single,
+        note: Note,
+        heads: &mut Vec<NoteHead>,
+    ) -> Result<(), AllocError>
+        ensures { OnOk result (pitches_of_heads heads.new.items
+            ≡ pitches_of_heads heads.old.items ++ pitches_of_note note) }
+    {
+        let left = self.x;
+        let margin = if note.is_lined {
+            Distance(160)
+        } else {
+            Distance::ZERO
+        };
+        let width = single.metrics().width;
+        let stride = width + margin + margin + BETWEEN;
+        push_note(single, note, left + margin, stride, heads)?;
+        self.around_heads(note, left + margin, width, stride)?;
+        let whole = stride.times(i32::from(note.times)) - BETWEEN;
+        self.tail(note, left + whole)?;
+        self.note(note, left, whole, single.metrics())?;
+        self.x += whole;
+        Ok(())
+    }
+
+    /// Writes a punctum inclinatum.
+    fn write_diamond(
+        &mut self,
+        single: Single,
+        note: Note,
+        heads: &mut Vec<NoteHead>,
+    ) -> Result<(), AllocError>
+        ensures { OnOk result (pitches_of_heads heads.new.items
+            ≡ pitches_of_heads heads.old.items ++ pitches_of_note note) }
+    {
+        let room = self.room_before_diamond(note);
+        self.x += room;
+        let width = single.metrics().width;
+        push_note(single, note, self.x, width, heads)?;
+        self.note(note, self.x, width, single.metrics())?;
+        self.x += width;
+        Ok(())
+    }
+
+    /// Returns what stands before a punctum inclinatum: less after another one, and if it is a step
+    /// away.
+    fn room_before_diamond(&self, note: Note) -> Distance {
+        let Some(before) = self.drawn.last() else {
+            return Distance::ZERO;
+        };
+        let near = if before.note.shape == Shape::Inclinatum {
+            Distance(20)
+        } else {
+            Distance(120)
+        };
+        match before.note.pitch.abs_diff(note.pitch) {
+            1 => near - Distance(140),
+            2 => near,
+            _ => near + Distance(80),
+        }
+    }
+
+    /// Writes a note over the one before.
+    fn write_over(
+        &mut self,
+        single: Single,
+        note: Note,
+        heads: &mut Vec<NoteHead>,
+    ) -> Result<(), AllocError>
+        ensures { OnOk result (pitches_of_heads heads.new.items
+            ≡ pitches_of_heads heads.old.items ++ pitches_of_note note) }
+    {
+        let y = height_of(note.pitch);
+        let right = self.drawn.last().map_or(self.x, |below| below.right());
+        let is_near = self.drawn.last().is_some_and(|below| below.y() - y == STEP);
+        let width = single.metrics().width;
+        let single = if is_near && single == Single::Punctum {
+            Single::PunctumOver
+        } else {
+            single
+        };
+        self.join(right, y)?;
+        push_note(single, note, right - width, Distance::ZERO, heads)?;
+        self.tail(note, right)?;
+        self.note(note, right - width, width, single.metrics())?;
+        self.mark_covering();
+        Ok(())
+    }
+
+    /// Notes that the last note stands over the one before.
+    fn mark_covering(&mut self) {
+        let len = self.drawn.len();
+        if 2 <= len {
+            self.drawn[len - 2].covered = true;
+            self.drawn[len - 1].covers = true;
+        }
+    }
+
+    /// Writes a note that is no part of a stroke, is not over another one and is no inclinatum.
+    /// `next` is the note after it.
+    fn write_head(
+        &mut self,
+        planned: Planned,
+        next: Option<Planned>,
+        single: Single,
+        heads: &mut Vec<NoteHead>,
+    ) -> Result<(), AllocError>
+        ensures { OnOk result (pitches_of_heads heads.new.items
+            ≡ pitches_of_heads heads.old.items ++ pitches_of_note planned.note) }
+    {
+        let note = planned.note;
+        self.begin_head(planned, next)?;
+        let is_single = planned.joint == Joint::Virga || planned.joint == Joint::Alone;
+        match (planned.joint, whole(as_virga(planned))) {
+            (_, Some(outline)) if is_single => self.write_whole(outline, note, heads),
+            (Joint::Virga, _) if !note.shape.is_virga() => {
+                let x = self.x + single.metrics().width - STEM;
+                self.stem(x, height_of(note.pitch), Distance(1300))?;
+                self.write_alone(single, note, heads)
+            }
+            _ => self.write_alone(single, note, heads),
+        }
+    }
+
+    /// Draws what stands before a head: the line that joins it, or a stem; or it makes room.
+    fn begin_head(&mut self, planned: Planned, next: Option<Planned>) -> Result<(), AllocError> {
+        let y = height_of(planned.note.pitch);
+        match planned.joint {
+            Joint::Alone if !self.drawn.is_empty() => {
+                self.x += BETWEEN;
+                Ok(())
+            }
+            Joint::Right | Joint::StrokeEnd => self.join(self.x + STEM.half(), y),
+            Joint::Stem => {
+                let fall = next.map_or(1, |next| {
+                    i32::from(planned.note.pitch.saturating_sub(next.note.pitch))
+                });
+                self.stem(self.x, y, Distance(900 + 300 * fall.min(5)))
+            }
+            _ => Ok(()),
+        }
+    }
+
+    /// Writes a note that is no part of a broad stroke. `next` is the note after it.
+    pub(crate) fn write_note(
+        &mut self,
+        planned: Planned,
+        next: Option<Planned>,
+        heads: &mut Vec<NoteHead>,
+    ) -> Result<(), AllocError>
+        ensures { OnOk result (pitches_of_heads heads.new.items
+            ≡ pitches_of_heads heads.old.items ++ pitches_of_note planned.note) }
+    {
+        let single = under(planned, next);
+        self.x += room_for_next(single, next);
+        match planned.joint {
+            Joint::Over => self.write_over(single, planned.note, heads),
+            Joint::Diamond => self.write_diamond(single, planned.note, heads),
+            _ => self.write_head(planned, next, single, heads),
+        }
+    }
+
+    /// Writes a broad stroke that falls by `fall` steps, and shows the notes `first` and `second`.
+    pub(crate) fn write_stroke(
+        &mut self,
+        first: Planned,
+        second: Planned,
+        fall: u8,
+        heads: &mut Vec<NoteHead>,
+    ) -> Result<(), AllocError>
+        requires { pitches_of_note first.note ++ pitches_of_note second.note
+            ≡ pitches_shown (Head.Stroke fall) first.note.pitch }
+        ensures { OnOk result (pitches_of_heads heads.new.items
+            ≡ pitches_of_heads heads.old.items
+            ++ (pitches_of_note first.note ++ pitches_of_note second.note)) }
+    {
+        let y = height_of(first.note.pitch);
+        let head = Head::Stroke(fall);
+        let steps = i32::from(fall);
+        if first.joint == Joint::StemmedStroke {
+            self.stem(self.x, y, Distance(1100 + 200 * steps))?;
+        } else {
+            self.join(self.x + STEM, y)?;
+        }
+        push_head(head, self.x, first.note.pitch, heads)?;
+        self.note(first.note, self.x, PUNCTUM, head.metrics())?;
+        self.mark_foot(STROKE_FOOT + Distance(100 * steps));
+        self.x += head.metrics().width;
+        self.note(
+            second.note,
+            self.x - PUNCTUM,
+            PUNCTUM,
+            Single::Punctum.metrics(),
+        )
+    }
+
+    /// Notes how much lower than that of a head the black of the last note goes.
+    fn mark_foot(&mut self, foot: Distance) {
+        if let Some(last) = self.drawn.len().checked_sub(1) {
+            self.drawn[last].foot = foot;
+        }
+    }
+}
+
+/// Returns `planned` as a virga if it begins a neume with a stem at its right.
+fn as_virga(planned: Planned) -> Planned {
+    let mut virga = planned;
+    if planned.joint == Joint::Virga {
+        virga.note.shape = Shape::Virga;
+    }
+    virga
+}
+
+/// Returns the head of a note; a punctum under one a step higher has no top. `next` is the note
+/// after it.
+fn under(planned: Planned, next: Option<Planned>) -> Single {
+    let single = plain_head(planned);
+    let is_near = next.is_some_and(|next| {
+        next.joint == Joint::Over && next.note.pitch.checked_sub(planned.note.pitch) == Some(1)
+    });
+    if is_near && single == Single::Punctum {
+        Single::PunctumUnder
+    } else {
+        single
+    }
+}
+
+/// Returns how far to the right a head moves, so that a broader one has room over it.
+fn room_for_next(single: Single, next: Option<Planned>) -> Distance {
+    match next {
+        Some(next) if next.joint == Joint::Over => {
+            (plain_head(next).metrics().width - single.metrics().width).max(Distance::ZERO)
+        }
+        _ => Distance::ZERO,
+    }
+}

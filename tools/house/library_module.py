@@ -1,0 +1,74 @@
+"""Writes the module of LLVM that the proved library for C is compiled of. The prover is called as
+for the library itself, with a folder of the kit's compilers whose `clang` keeps the module before
+it compiles it.
+
+As a program: `library_module.py FILE`, by its whole path. The status is 0 where the library was
+proved, FILE is its module, and the archive that came of it is the one that `tools/build_c` keeps;
+else 1."""
+
+from __future__ import annotations
+
+import filecmp
+import os
+import shutil
+import sys
+import tempfile
+
+from house.files import ROOT
+from house.gate_libraries import are_built
+from house.kit import Crate, crate_named, load
+
+CRATE = "gregorio_c"
+_CLANG = """#!/bin/sh
+[ ! -e module.bc ] || cp -- module.bc "{module}" || exit
+exec "{kit}/toolchain/bin/clang" "$@"
+"""
+
+
+def stand_in(kit: str, folder: str, module: str) -> str:
+    """Makes a folder of the kit's compilers whose `clang` copies the module that it is given to
+    this file first, and returns its path."""
+    made = os.path.join(folder, "toolchain")
+    os.makedirs(f"{made}/bin")
+    os.symlink(f"{kit}/toolchain/lib", f"{made}/lib")
+    for name in os.listdir(f"{kit}/toolchain/bin"):
+        if name != "clang":
+            os.symlink(f"{kit}/toolchain/bin/{name}", f"{made}/bin/{name}")
+    with open(f"{made}/bin/clang", "w", encoding="utf-8") as it:
+        it.write(_CLANG.format(kit=kit, module=module))
+    os.chmod(f"{made}/bin/clang", 0o755)
+    return made
+
+
+def build(crate: Crate, kit: str, module: str) -> bool:
+    """Proves and builds the library's archive by the stand-in, and returns whether that is the
+    archive that is kept."""
+    kept, call = f"{crate.folder}/out/lib{CRATE}.a", crate.call
+    with tempfile.TemporaryDirectory() as folder:
+        archive = f"{folder}/lib{CRATE}.a"
+        compilers = stand_in(kit, folder, module)
+        words = {f"{kit}/toolchain": compilers, f"out/lib{CRATE}.a": archive}
+
+        def call_of_stand_in(*given: str) -> int:
+            return call(*(words.get(it, it) for it in given))
+
+        setattr(crate, "call", call_of_stand_in)
+        return not crate.build_static([]) and filecmp.cmp(archive, kept, shallow=False)
+
+
+def main(words: list[str]) -> int:
+    """Writes the module into the file, and returns the exit status."""
+    (file,) = words
+    rt = load("rt")
+    crate = crate_named(rt, ROOT, CRATE)
+    with tempfile.TemporaryDirectory() as folder:
+        made = f"{folder}/module.bc"
+        is_proved = are_built(crate, True) and build(crate, rt.rtlib.KIT, made)
+        if not (is_proved and os.path.exists(made)):
+            return 1
+        shutil.move(made, file)
+    return 0
+
+
+if __name__ == "__main__":
+    sys.exit(main(sys.argv[1:]))
