@@ -79,6 +79,15 @@ class Browsing(InFolder):
     def find(self, selector: str) -> Any:
         return self.browser.find_element("css selector", selector)
 
+    def click(self, selector: str) -> None:
+        """Clicks an element, once more if the page puts another one in its place meanwhile."""
+        from selenium.common.exceptions import StaleElementReferenceException
+
+        try:
+            self.find(selector).click()
+        except StaleElementReferenceException:
+            self.find(selector).click()
+
     def is_seen(self, selector: str) -> bool:
         """Returns whether the element stands within the window."""
         seen = (
@@ -124,14 +133,14 @@ class Shown(Browsing):
         self.put("bad.gabc", FAULTY)
         self.open("long.gabc", "bad.gabc")
         for _ in range(2):
-            self.find("a[href='#p2-m1-at']").click()
+            self.click("a[href='#p2-m1-at']")
             self.assertTrue(self.browser.current_url.endswith("#p2-m1-at"))
             self.assertTrue(self.is_seen("#p2-m1-at"))
-            self.find("#p2-m1-at text").click()
+            self.click("#p2-m1-at text")
             self.assertTrue(self.browser.current_url.endswith("#p2-m1"))
             self.assertTrue(self.is_seen("#p2-m1"))
         self.assertFalse(self.look("document.querySelectorAll('details')[1].open"))
-        self.find("#p2-m1 a").click()
+        self.click("#p2-m1 a")
         self.assertTrue(self.look("document.querySelectorAll('details')[1].open"))
         self.assertTrue(self.is_seen("#p2-l3"))
         self.assert_quiet()
@@ -196,7 +205,7 @@ class Shown(Browsing):
         self.browser.get(Path("pages/index.html").resolve().as_uri())
         self.browser.find_element("link text", "in/a b.gabc").click()
         self.assertEqual(self.look("document.querySelectorAll('svg').length"), 2)
-        self.find(".back a").click()
+        self.click(".back a")
         self.assertTrue(self.browser.current_url.endswith("pages/index.html"))
         self.assert_quiet()
 
@@ -208,7 +217,7 @@ class Shown(Browsing):
         self.open("--play", str(EXAMPLES / "hymn.gabc"), "a.gabc")
         self.assertEqual(self.look("document.querySelectorAll('script').length"), 1)
         self.browser.execute_script("document.querySelector('.sing input').value = 240")
-        self.find(".sing button").click()
+        self.click(".sing button")
         self.await_(lambda: bool(self.look("document.querySelector('.now')")), "no note lights up")
         self.assertEqual(self.find(".sing button").text, "Stop")
         self.assertTrue(
@@ -219,7 +228,7 @@ class Shown(Browsing):
             lambda: bool(self.look("document.querySelector('.now')?.getAttribute('x')") != first),
             "no other note lights up",
         )
-        self.find(".sing button").click()
+        self.click(".sing button")
         self.assertIsNone(self.look("document.querySelector('.now')"))
         self.browser.execute_script(
             "document.querySelector('#p1-s20').dispatchEvent(new MouseEvent('dblclick', { bubbles:"
@@ -282,7 +291,7 @@ class Shown(Browsing):
         self.assertLessEqual(
             self.look("document.querySelector('.narrow svg').getBoundingClientRect().right"), 360
         )
-        self.find("a.narrow").click()
+        self.click("a.narrow")
         self.assertTrue(self.browser.current_url.endswith("#p1-n-m1-at"))
         self.assertTrue(self.is_seen("#p1-n-m1-at"))
 
@@ -384,7 +393,7 @@ class Written(Browsing):
         score = begin + "Ky(f)ri(g) " * 600 + "e(g5)\n" + "Ky(f)ri(g) " * 200
         self.write(score)
         self.await_seen("character left out", "#messages")
-        self.find("#messages button").click()
+        self.click("#messages button")
         self.await_(lambda: self.is_seen("#p1-m1-at"), "the mark is not seen")
         self.await_(
             lambda: score.encode("utf-16-le")[2 * self.cursor() :].startswith(
@@ -395,9 +404,9 @@ class Written(Browsing):
         self.assertEqual(
             self.look("document.querySelector('#picture .here title').textContent"), "e: sol"
         )
-        self.find("#p1-m1-at text").click()
+        self.click("#p1-m1-at text")
         self.assertTrue(self.browser.current_url.endswith("#p1-m1"))
-        self.find("#p1-s2").click()
+        self.click("#p1-s2")
         self.await_(
             lambda: score.encode("utf-16-le")[2 * self.cursor() :].startswith(
                 "\U0001d11e(f)".encode("utf-16-le")
@@ -475,11 +484,11 @@ class Written(Browsing):
         """It sings what stands in the field."""
         self.write(SCORE)
         self.await_seen("Nothing was found", "#totals")
-        self.find("#sing button").click()
+        self.click("#sing button")
         self.await_(
             lambda: bool(self.look("document.querySelector('#picture .now')")), "no note lights up"
         )
-        self.find("#sing button").click()
+        self.click("#sing button")
         self.assertIsNone(self.look("document.querySelector('.now')"))
         self.assert_quiet()
 
@@ -487,8 +496,8 @@ class Written(Browsing):
         """The tree is that of the score, and is opened at the cursor."""
         self.write(FAULTY)
         self.await_seen("character left out", "#messages")
-        self.find("#tree-tab").click()
-        self.find("#messages button").click()
+        self.click("#tree-tab")
+        self.click("#messages button")
         self.await_seen("left out", "#tree [aria-selected=true] > .row")
         self.assert_quiet()
 
