@@ -2,10 +2,10 @@
 //! staff, and no custos (GregorioRef, "Choral Signs", "Braces", "Custom Ledger Lines", "Simple
 //! Slurs", "Above Lines Text Within Notes").
 
-use crate::lettering::ABOVE_SIZE;
 use crate::sheet::Sheet;
-use gabc_marks::{Distance, Level, Sign, Styles, Words, text_width};
-use gabc_pen::{Curve, CurveKind, CurveRole, Drawn, height_of_step, text_between, thousandths_of};
+use gabc_lettering::ABOVE_SIZE;
+use gabc_marks::{Distance, Level, Sign, Styles, Words, text_between, text_width};
+use gabc_pen::{Curve, CurveKind, CurveRole, Drawn, height_of_step, thousandths_of};
 use gabc_tree::{Kind, Node};
 use std::alloc::AllocError;
 

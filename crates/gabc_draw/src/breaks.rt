@@ -3,8 +3,8 @@
 
 use crate::cursor::Cursor;
 use crate::measures::{LineEnd, Measures};
-use gabc_marks::Distance;
-use gabc_pen::{Clef, spaces};
+use gabc_marks::{Distance, spaces};
+use gabc_pen::Clef;
 use std::alloc::{AllocError, Global};
 
 /// What a row costs, in thousandths: by the square of the part of it that is to be spread; if it

@@ -1,8 +1,7 @@
 //! Parts beside each other in one row.
 
 use crate::measures::Measures;
-use gabc_marks::Distance;
-use gabc_pen::spaces;
+use gabc_marks::{Distance, spaces};
 
 /// The width of a hyphen.
 pub(crate) const HYPHEN: Distance = Distance(540);

@@ -6,15 +6,14 @@ ghost use Rattle.gabc_draw.specs.Drawn.{IsPictureOf, Draws};
 use crate::assemble::parts_of;
 use crate::breaks::{Room, spans_of};
 use crate::desk::{LaidOut, lay_out};
-use crate::initial::Initial;
-use crate::language::Language;
-use crate::marks::{Mark, Marks, put_lines};
 use crate::measures::Measures;
 use crate::rows::{Rows, Staff, rows_of};
 use crate::sheet::Sheet;
-use crate::title::{header, put_title};
-use gabc_marks::{Distance, Picture};
-use gabc_pen::{hands_of, spaces};
+use gabc_lettering::{
+    Initial, Language, Mark, Marks, header, initial_rows, put_mark_lines, put_title, take_letter,
+};
+use gabc_marks::{Distance, Picture, spaces};
+use gabc_pen::hands_of;
 use gabc_places::{Put, valid_front};
 use gabc_svg::put_picture;
 use gabc_tree::Node;
@@ -30,6 +29,9 @@ const USUAL_WIDTH: Distance = Distance(72_000);
 const CLEF_AND_CUSTOS: Distance = Distance(4500);
 
 const LEAST_ROOM: Distance = Distance(2000);
+
+/// The most parts in which the letter of an initial is looked for.
+const MOST_PARTS: usize = 20;
 
 /// How a picture looks.
 #[derive(Clone, Copy, Debug)]
@@ -82,6 +84,34 @@ fn sheet_of<'a>(
     )
 }
 
+/// Takes the first letter away from the text of the first of `parts` that has one.
+fn first_letter<'a>(parts: &mut Vec<Measures<'a>>) -> Option<&'a str> {
+    for part in parts.iter_mut().take(MOST_PARTS) {
+        if part.text.is_some() {
+            return take_letter(&mut part.signs, &mut part.text);
+        }
+    }
+    None
+}
+
+/// Returns the initial of the score `input`, whose tree is `nodes`, and takes its letter away from
+/// `parts`; none if the score wants none or begins with no letter.
+fn take_initial<'a>(
+    alloc: Global,
+    nodes: &[Node],
+    input: &'a str,
+    parts: &mut Vec<Measures<'a>>,
+) -> Result<Option<Initial<'a>>, AllocError> {
+    let rows = initial_rows(nodes, input);
+    if rows == 0 {
+        return Ok(None);
+    }
+    match first_letter(parts) {
+        Some(letter) => Ok(Some(Initial::of(alloc, nodes, input, rows, letter)?)),
+        None => Ok(None),
+    }
+}
+
 /// Returns the rows in which `parts` stand below `y`, with `initial` before the first ones.
 fn set_rows<'a>(
     alloc: Global,
@@ -127,12 +157,12 @@ pub fn picture_of<'a>(
         groups,
         mut measures,
     } = lay_out(alloc, nodes, sheet)?;
-    let initial = Initial::take(alloc, nodes, input, &mut measures)?;
+    let initial = take_initial(alloc, nodes, input, &mut measures)?;
     let mut title = Vec::new(alloc);
-    let y = put_lines(marks.before, spaces::MARGIN, &mut title)?;
+    let y = put_mark_lines(marks.before, spaces::MARGIN, &mut title)?;
     let y = put_title(alloc, nodes, input, width, initial.is_some(), y, &mut title)?;
     let rows = set_rows(alloc, measures.as_slice(), initial, staff, y)?;
-    let end = put_lines(marks.after, rows.y, &mut title)?;
+    let end = put_mark_lines(marks.after, rows.y, &mut title)?;
     let parts = parts_of(alloc, groups, measures, rows.places.as_slice())?;
     Ok(Picture {
         width,

@@ -1,27 +1,10 @@
-//! The messages of a score as marks in its picture: a field around what each is about, with its
-//! code over the row.
+//! The messages of a row as marks: a field around what each is about, with its code over the row.
 
 use crate::measures::Measures;
-use gabc_marks::{Distance, Level, Sign, Styles, Words, text_width};
-use gabc_pen::{Extent, spaces};
+use gabc_lettering::CodeRows;
+use gabc_marks::{Distance, Extent, Sign, spaces};
 use gabc_places::{Code, Severity};
-use gabc_tree::{Kind, Node};
 use std::alloc::AllocError;
-
-/// A message that a picture shows: its code, and the byte of the score at which it stands, from 0.
-#[derive(Clone, Copy, Debug, PartialEq, Eq)]
-pub struct Mark {
-    pub at: u32,
-    pub code: Code,
-}
-
-impl Mark {
-    /// Returns whether it belongs to no syllable, if the last one ends at the byte `end`: it stands
-    /// after that, or tells a fatal fault.
-    fn is_after(&self, end: u32) -> bool {
-        end <= self.at || self.code.severity() == Severity::Fatal
-    }
-}
 
 /// A mark of a part: `about` is what it is about, if that is no text.
 #[derive(Clone, Copy, Debug)]
@@ -30,114 +13,10 @@ pub(crate) struct PartMark {
     pub(crate) about: Option<Extent>,
 }
 
-/// The size of a code, and how far one row of codes stands over the next one.
-const CODE_SIZE: Distance = Distance(900);
-
-pub(crate) const CODE_ROW: Distance = Distance(1050);
-
-/// What stands between two codes, and how far the first row stands over all else.
-const BETWEEN: Distance = Distance(300);
-
-const OVER: Distance = Distance(250);
-
 /// How far a field goes beyond what it is around, and its least width.
 const AROUND: Distance = Distance(150);
 
 const LEAST_FIELD: Distance = Distance(600);
-
-const MOST_ROWS: usize = 8;
-
-/// The styles of a code.
-const CODE_STYLES: Styles = Styles {
-    bold: true,
-    red: true,
-    ..Styles::PLAIN
-};
-
-/// Returns the words of a code at this place.
-fn code_words<'a>(text: &'a str, x: Distance, y: Distance) -> Words<'a> {
-    Words {
-        text,
-        x,
-        level: Level::At(y),
-        width: code_width(text),
-        size: CODE_SIZE,
-        styles: CODE_STYLES,
-    }
-}
-
-/// Returns how wide a code is, in letters that are broader than others.
-fn code_width(text: &str) -> Distance {
-    text_width(text, CODE_SIZE).times(13).share(10)
-}
-
-/// The marks of a picture: those before all syllables, those of syllables, and those after them.
-#[derive(Clone, Copy, Debug)]
-pub(crate) struct Marks<'a> {
-    pub(crate) before: &'a [Mark],
-    pub(crate) within: &'a [Mark],
-    pub(crate) after: &'a [Mark],
-}
-
-/// Returns where the first syllable of `nodes` begins, and where the last one ends.
-fn syllables_in(nodes: &[Node]) -> (u32, u32) {
-    let mut begin = None;
-    let mut end = 0;
-    for node in nodes {
-        if node.kind == Kind::Syllable {
-            begin = begin.or(Some(node.begin));
-            end = node.end;
-        }
-    }
-    (begin.unwrap_or(u32::MAX), end)
-}
-
-impl<'a> Marks<'a> {
-    /// Returns `marks`, which stand in the order of their places, parted by the syllables of
-    /// `nodes`. Of a fatal fault, and after it, none belongs to a syllable.
-    pub(crate) fn of(marks: &'a [Mark], nodes: &[Node]) -> Marks<'a> {
-        if marks.is_empty() {
-            return Marks {
-                before: &[],
-                within: &[],
-                after: &[],
-            };
-        }
-        let (begin, end) = syllables_in(nodes);
-        let first = marks
-            .iter()
-            .position(|mark| begin <= mark.at || mark.is_after(end))
-            .unwrap_or(marks.len());
-        let later = marks.get(first..).unwrap_or(&[]);
-        let last = later
-            .iter()
-            .position(|mark| mark.is_after(end))
-            .unwrap_or(later.len());
-        Marks {
-            before: marks.get(..first).unwrap_or(&[]),
-            within: later.get(..last).unwrap_or(&[]),
-            after: later.get(last..).unwrap_or(&[]),
-        }
-    }
-}
-
-/// Adds marks that belong to no syllable to `signs`, below `y`, a line for each, and returns how
-/// far down they go.
-pub(crate) fn put_lines(
-    marks: &[Mark],
-    y: Distance,
-    signs: &mut Vec<Sign<'_>>,
-) -> Result<Distance, AllocError> {
-    let mut down = y;
-    for mark in marks {
-        down += CODE_ROW + Distance(200);
-        let name = code_words(mark.code.name(), spaces::MARGIN, down);
-        let x = spaces::MARGIN + name.width + BETWEEN;
-        signs.push(Sign::Words(name))?;
-        signs.push(Sign::Words(code_words(mark.code.text(), x, down)))?;
-    }
-    Ok(down)
-}
 
 /// Returns from where to where the thing goes that a mark of `part` is about.
 fn field_of(part: &Measures<'_>, mark: PartMark) -> Extent {
@@ -157,90 +36,45 @@ fn field_of(part: &Measures<'_>, mark: PartMark) -> Extent {
     }
 }
 
-/// The codes over a row as they are put: where each row of them ends, and how many rows there are.
-#[derive(Clone, Copy, Debug)]
-pub(crate) struct CodeRows {
-    ends: [Distance; MOST_ROWS],
-    pub(crate) count: usize,
-}
-
-impl CodeRows {
-    /// Returns rows with no codes.
-    pub(crate) fn new() -> CodeRows {
-        CodeRows {
-            ends: [Distance::ZERO; MOST_ROWS],
-            count: 0,
-        }
-    }
-
-    /// Returns the lowest row with room from `x` on, which is the last one if none has.
-    fn row_for(&self, x: Distance) -> usize {
-        let free = self.ends.iter().position(|end| *end <= x);
-        free.unwrap_or(MOST_ROWS - 1)
-    }
-
-    /// Adds the code of `mark` at `x` to `signs`, over `top`, in a row of this `width`.
-    fn put(
-        &mut self,
-        mark: PartMark,
-        x: Distance,
-        width: Distance,
-        top: Distance,
-        signs: &mut Vec<Sign<'_>>,
-    ) -> Result<(), AllocError> {
-        let name = mark.code.name();
-        let x = x.min(width - code_width(name)).max(Distance::ZERO);
-        let row = self.row_for(x);
-        let number = i32::try_from(row).unwrap_or(0);
-        let words = code_words(name, x, top - OVER - CODE_ROW.times(number));
-        if row < MOST_ROWS {
-            self.ends[row] = x + words.width + BETWEEN;
-        }
-        self.count = self.count.max(row.saturating_add(1));
-        signs.push(Sign::Words(words))?;
-        Ok(())
-    }
-
-    /// Adds the field of a part at `x` to `signs`, from `top` down to below the text, and the codes
-    /// of its marks.
-    fn put_part(
-        &mut self,
-        part: &Measures<'_>,
-        x: Distance,
-        row: MarkedRow,
-        signs: &mut Vec<Sign<'_>>,
-    ) -> Result<(), AllocError> {
-        let Some(first) = part.marks.as_slice().first().copied() else {
-            return Ok(());
-        };
-        let mut field = field_of(part, first);
-        let mut is_warning = true;
-        for mark in &part.marks {
-            let own = field_of(part, *mark);
-            field = Extent {
-                left: field.left.min(own.left),
-                right: field.right.max(own.right),
-            };
-            is_warning = is_warning && mark.code.severity() == Severity::Warning;
-            self.put(*mark, x + own.left, row.width, row.top, signs)?;
-        }
-        signs.push(Sign::Field {
-            x: x + field.left - AROUND,
-            y: row.top,
-            width: (field.right - field.left + AROUND + AROUND).max(LEAST_FIELD),
-            height: row.text + spaces::BELOW_TEXT - row.top,
-            is_warning,
-        })?;
-        Ok(())
-    }
-}
-
 /// A row with marks: how wide it is, how high it goes without them, and where its text stands.
 #[derive(Clone, Copy, Debug)]
 pub(crate) struct MarkedRow {
     pub(crate) width: Distance,
     pub(crate) top: Distance,
     pub(crate) text: Distance,
+}
+
+/// Adds the field of a part at `x` to `signs`, from `top` down to below the text, and to the
+/// `codes` of its row those of its marks.
+fn put_part(
+    codes: &mut CodeRows,
+    part: &Measures<'_>,
+    x: Distance,
+    row: MarkedRow,
+    signs: &mut Vec<Sign<'_>>,
+) -> Result<(), AllocError> {
+    let Some(first) = part.marks.as_slice().first().copied() else {
+        return Ok(());
+    };
+    let mut field = field_of(part, first);
+    let mut is_warning = true;
+    for mark in &part.marks {
+        let own = field_of(part, *mark);
+        field = Extent {
+            left: field.left.min(own.left),
+            right: field.right.max(own.right),
+        };
+        is_warning = is_warning && mark.code.severity() == Severity::Warning;
+        codes.put(mark.code, x + own.left, row.width, row.top, signs)?;
+    }
+    signs.push(Sign::Field {
+        x: x + field.left - AROUND,
+        y: row.top,
+        width: (field.right - field.left + AROUND + AROUND).max(LEAST_FIELD),
+        height: row.text + spaces::BELOW_TEXT - row.top,
+        is_warning,
+    })?;
+    Ok(())
 }
 
 /// Adds the marks of `parts` at these `places` to `signs`, and returns how high the row goes then.
@@ -252,8 +86,7 @@ pub(crate) fn put_marks(
 ) -> Result<Distance, AllocError> {
     let mut codes = CodeRows::new();
     for (part, x) in parts.iter().zip(places) {
-        codes.put_part(part, *x, row, signs)?;
+        put_part(&mut codes, part, *x, row, signs)?;
     }
-    let rows = i32::try_from(codes.count).unwrap_or(0);
-    Ok(row.top - CODE_ROW.times(rows))
+    Ok(row.top - codes.height())
 }

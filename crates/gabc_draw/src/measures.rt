@@ -1,8 +1,8 @@
 //! What the layout knows of a part: how far it goes, and what stands in it.
 
 use crate::marks::PartMark;
-use gabc_marks::{Distance, Level, Sign, Styles, Words, char_width, styled_width};
-use gabc_pen::{Clef, Curve, Extent, NabcRows, PerLine};
+use gabc_marks::{Distance, Extent, Sign};
+use gabc_pen::{Clef, Curve, NabcRows, PerLine};
 use std::alloc::Global;
 
 /// How a score wants a line to end.
@@ -112,77 +112,5 @@ impl<'a> Measures<'a> {
     /// Returns whether it begins a word.
     pub(crate) fn begins_word(&self) -> bool {
         self.is_first && self.place.begins_word
-    }
-
-    /// Takes the first letter of its text away, and returns it, if it begins with one.
-    pub(crate) fn take_letter(&mut self) -> Option<&'a str> {
-        for at in 0..self.signs.len() {
-            if let Some(Sign::Words(words)) = self.signs.get(at).copied() {
-                if words.level == Level::Text {
-                    let letter = first_letter(words.text)?;
-                    self.cut_words(at, words, letter);
-                    return Some(letter);
-                }
-            }
-        }
-        None
-    }
-
-    /// Takes `letter` away from `words`, which are the sign `at`, the first ones of the text.
-    fn cut_words(&mut self, at: usize, words: Words<'a>, letter: &str) {
-        let taken = styled_width(letter, words.size, Styles::PLAIN);
-        let rest = words.text.get(letter.len()..).unwrap_or("");
-        if at < self.signs.len() {
-            self.signs[at] = Sign::Words(Words {
-                text: rest,
-                x: words.x + taken,
-                width: words.width - taken,
-                ..words
-            });
-        }
-        self.text = self.text.map(|text| Extent {
-            left: (text.left + taken).min(text.right),
-            ..text
-        });
-        if rest.is_empty() {
-            self.drop_words(at);
-        }
-    }
-
-    /// Takes the sign `at` away, which are words of the text; without others there is no text then.
-    fn drop_words(&mut self, at: usize) {
-        if at < self.signs.len() {
-            let _gone = self.signs.remove(at);
-        }
-        let has_text = self.signs.iter().any(|sign| is_text(*sign));
-        if !has_text {
-            self.text = None;
-        }
-    }
-}
-
-/// Returns whether `sign` is words of the sung text.
-fn is_text(sign: Sign<'_>) -> bool {
-    matches!(sign, Sign::Words(words) if words.level == Level::Text)
-}
-
-/// Returns the letter with which `text` begins, with the marks that stand on it.
-fn first_letter(text: &str) -> Option<&str> {
-    let mut length: usize = 0;
-    for c in text.chars() {
-        let is_more = if length == 0 {
-            c.is_alphabetic()
-        } else {
-            char_width(c) == 0
-        };
-        if !is_more {
-            break;
-        }
-        length = length.saturating_add(c.len_utf8());
-    }
-    if length == 0 {
-        None
-    } else {
-        text.get(..length)
     }
 }

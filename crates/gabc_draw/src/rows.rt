@@ -1,15 +1,12 @@
 //! The rows of a picture: where each part stands in its row, and what else does.
 
 use crate::breaks::{Span, clef_after, start_of};
-use crate::initial::Initial;
-use crate::lettering::ABOVE_SIZE;
 use crate::marks::{MarkedRow, put_marks};
 use crate::measures::Measures;
 use crate::setting::{places_from, put_hyphens, right_of, spread};
-use gabc_marks::{Distance, Levels, Row, Sign};
-use gabc_pen::{
-    Clef, Curves, Extent, Pen, PerLine, custos, height_of_step, join_rows, line_over, spaces,
-};
+use gabc_lettering::{ABOVE_SIZE, Initial};
+use gabc_marks::{Distance, Extent, Levels, Row, Sign, spaces};
+use gabc_pen::{Clef, Curves, Pen, PerLine, custos, height_of_step, join_rows, line_over};
 use std::alloc::{AllocError, Global};
 
 /// The size of a row: its width, and how many lines its staff has.

@@ -2,10 +2,9 @@
 //! hyphens.
 
 use crate::cursor::{Cursor, HYPHEN, HYPHEN_ROOM};
-use crate::lettering::TEXT_SIZE;
 use crate::measures::Measures;
-use gabc_marks::{Distance, Level, Sign, Styles, Words};
-use gabc_pen::spaces;
+use gabc_lettering::TEXT_SIZE;
+use gabc_marks::{Distance, Level, Sign, Styles, Words, spaces};
 use std::alloc::{AllocError, Global};
 
 /// Returns where the parts of a row stand that begins at `start`.

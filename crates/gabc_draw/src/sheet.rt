@@ -1,15 +1,13 @@
 //! The sheet on which a syllable is laid out: its blocks one after the other, its text, its NABC.
 
 use crate::attributes::Attribute;
-use crate::language::Language;
-use crate::lettering::Lettering;
-use crate::marks::{Mark, PartMark};
+use crate::marks::PartMark;
 use crate::measures::{LineEnd, Measures, Place};
-use crate::runs::WordLine;
-use gabc_marks::{Distance, height_of};
+use gabc_lettering::{Language, Lettering, Mark, WordLine};
+use gabc_marks::{Distance, Extent, height_of, spaces, text_between};
 use gabc_pen::{
-    Clef, Extent, Hands, Nabc, PUNCTUM, Pen, SnippetNote, custos, distance_of, height_of_step,
-    put_alteration, put_around, put_bar, put_signs, spaces, text_between,
+    Clef, Hands, Nabc, PUNCTUM, Pen, SnippetNote, custos, distance_of, height_of_step,
+    put_alteration, put_around, put_bar, put_signs,
 };
 use gabc_tree::{Kind, Node};
 use std::alloc::{AllocError, Global};
@@ -28,7 +26,6 @@ pub(crate) enum BlockKind {
 #[derive(Debug, Drop)]
 pub(crate) struct Sheet<'a> {
     pub(crate) lines: i32,
-    pub(crate) language: Language,
     pub(crate) pen: Pen<'a>,
     pub(crate) lettering: Lettering<'a>,
     nabc: Nabc<'a>,
@@ -73,9 +70,8 @@ impl<'a> Sheet<'a> {
     ) -> Sheet<'a> {
         Sheet {
             lines,
-            language,
             pen: Pen::new(alloc),
-            lettering: Lettering::new(alloc, input),
+            lettering: Lettering::new(alloc, input, language),
             nabc: Nabc::new(alloc, input, hands),
             done: Vec::new(alloc),
             part: Measures::new(alloc, Place::ALONE, true),

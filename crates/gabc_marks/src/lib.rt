@@ -8,6 +8,7 @@
 #![tactic(auto)]
 
 mod distance;
+mod extent;
 mod hand;
 mod head;
 mod joined;
@@ -15,6 +16,7 @@ mod laon;
 mod outlines;
 mod picture;
 mod sign;
+pub mod spaces;
 mod st_gall;
 mod styles;
 mod symbol;
@@ -23,6 +25,7 @@ mod widths;
 mod words;
 
 pub use distance::Distance;
+pub use extent::Extent;
 pub use hand::{Hand, NabcOutline};
 pub use head::{Head, Metrics, NoteHead, Single, height_of};
 pub use joined::{Ending, Family, Joined};
@@ -31,4 +34,4 @@ pub use sign::{Bow, Sign};
 pub use styles::Styles;
 pub use symbol::Symbol;
 pub use widths::{char_width, styled_width, text_width};
-pub use words::{Level, NabcLine, Words};
+pub use words::{Level, NabcLine, Words, text_between};

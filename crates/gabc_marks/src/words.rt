@@ -36,3 +36,9 @@ pub struct Words<'a> {
     pub size: Distance,
     pub styles: Styles,
 }
+
+/// Returns the text of the bytes from `begin` up to `end` of `input`; nothing if they are not
+/// there.
+pub fn text_between<'a>(input: &'a str, begin: u32, end: u32) -> &'a str {
+    input.get(begin as usize..end as usize).unwrap_or("")
+}

@@ -2,11 +2,10 @@
 
 use crate::cluster::Cluster;
 use crate::descriptor::Descriptor;
-use crate::extent::Extent;
 use crate::nabc_rows::{NabcRows, PerLine, Reach, add_reach};
-use crate::reading::text_between;
-use crate::spaces;
-use gabc_marks::{Distance, Hand, Level, NabcLine, Sign, Styles, Words, text_width};
+use gabc_marks::{
+    Distance, Extent, Hand, Level, NabcLine, Sign, Styles, Words, spaces, text_between, text_width,
+};
 use gabc_tree::{Kind, Node};
 use std::alloc::{AllocError, Global};
 

@@ -1,7 +1,6 @@
 //! The lines of NABC over a staff: how high each of them goes.
 
-use crate::spaces;
-use gabc_marks::{Distance, NabcLine};
+use gabc_marks::{Distance, NabcLine, spaces};
 
 /// How high and how deep what stands on a line of NABC goes, from that line on.
 #[derive(Clone, Copy, Debug)]

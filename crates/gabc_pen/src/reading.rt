@@ -1,13 +1,6 @@
-//! The texts of nodes.
+//! What spacings and numbers say.
 
-use crate::spaces;
-use gabc_marks::Distance;
-
-/// Returns the text of the bytes from `begin` up to `end` of `input`; nothing if they are not
-/// there.
-pub fn text_between<'a>(input: &'a str, begin: u32, end: u32) -> &'a str {
-    input.get(begin as usize..end as usize).unwrap_or("")
-}
+use gabc_marks::{Distance, spaces};
 
 /// Returns how far the next note stands after a spacing of this `kind`, which is spelled `text`.
 pub fn distance_of(kind: u16, text: &str) -> Distance {

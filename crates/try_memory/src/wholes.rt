@@ -3,9 +3,9 @@
 use crate::digest::digest_of;
 use crate::trial::{Trial, try_call};
 use gabc_body::Syllables;
-use gabc_draw::{Options, draw};
+use gabc_draw::{Mark, Options, draw};
 use gabc_headers::{headers_whole, headers_whole_with_hasher};
-use gabc_places::{ByteCounter, Limits, Memory, Text, text_of};
+use gabc_places::{ByteCounter, Code, Limits, Memory, Text, text_of};
 use gabc_score::{InputEnding, score_whole, score_whole_with_hasher};
 use gabc_tree::{tree_of, tree_of_with_hasher};
 use gregorio::{Outcome, SourceEnding};
@@ -41,6 +41,7 @@ fn named(name: &str) -> Option<Whole> {
         "gabc_tree::tree_of" => Whole::Tree,
         "gabc_tree::tree_of_with_hasher" => Whole::HashedTree,
         "gabc_draw::draw" | "gabc_draw::picture_of" => Whole::Drawing,
+        name if name.starts_with("gabc_lettering::") => Whole::Drawing,
         name if name.starts_with("gabc_pen::") => Whole::Drawing,
         "gregorio::Outcome::of" => Whole::Outcome,
         "gregorio::Outcome::of_with_hasher" => Whole::HashedOutcome,
@@ -110,11 +111,27 @@ fn hashed_tree(alloc: Global, bytes: &[u8]) -> Result<u64, AllocError> {
     Ok(digest_of(&tree))
 }
 
+/// The messages in a picture: one before all syllables, and one of a syllable.
+const MARKS: [Mark; 2] = [
+    Mark {
+        at: 0,
+        code: Code::W1,
+    },
+    Mark {
+        at: 110,
+        code: Code::E1,
+    },
+];
+
 /// Returns a digest of how many bytes the picture of `bytes` has.
 fn drawing(alloc: Global, bytes: &[u8]) -> Result<u64, AllocError> {
     let tree = tree_of(alloc, bytes, Limits::DEFAULT)?;
     let mut picture = ByteCounter::new();
-    draw(alloc, tree.nodes(), bytes, Options::usual(), &mut picture)?;
+    let options = Options {
+        marks: &MARKS,
+        ..Options::usual()
+    };
+    draw(alloc, tree.nodes(), bytes, options, &mut picture)?;
     Ok(digest_of(&picture.count()))
 }
 

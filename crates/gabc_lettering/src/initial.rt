@@ -1,11 +1,9 @@
 //! The initial of a score: its first letter, before the first row or the first two, with the
 //! annotations over it (GregorioRef, "Headers").
 
-use crate::measures::Measures;
 use crate::runs::{Run, WordLine, add_runs, lines_of};
 use crate::title::{header, headers};
-use gabc_marks::{Distance, Level, Levels, Sign, Styles, Words, text_width};
-use gabc_pen::spaces;
+use gabc_marks::{Distance, Level, Levels, Sign, Styles, Words, spaces, text_width};
 use gabc_tree::Node;
 use std::alloc::{AllocError, Global};
 
@@ -20,25 +18,22 @@ const ANNOTATION_SIZE: Distance = Distance(1200);
 /// end.
 const TOP_OF_TWO: Distance = Distance(-1800);
 
-/// The most parts in which a letter is looked for.
-const MOST_PARTS: usize = 20;
-
 /// An initial: how many rows it stands before, its letter, and the annotations over it, from the
 /// highest one down.
 #[derive(Debug, Drop)]
-pub(crate) struct Initial<'a> {
-    pub(crate) rows: usize,
+pub struct Initial<'a> {
+    pub rows: usize,
     letter: &'a str,
     size: Distance,
     annotations: Vec<WordLine<'a>>,
     /// What it takes of the width of its rows.
-    pub(crate) room: Distance,
+    pub room: Distance,
 }
 
-/// Returns before how many rows the initial stands by the header `initial-style`: one, unless it
-/// says 2, and none if it says 0.
-fn rows_of(value: &str) -> usize {
-    match value {
+/// Returns before how many rows the initial of the score `input` stands, whose tree is `nodes`, by
+/// the header `initial-style`: one, unless it says 2, and none if it says 0.
+pub fn initial_rows(nodes: &[Node], input: &str) -> usize {
+    match header(nodes, input, "initial-style") {
         "0" => 0,
         "2" => 2,
         _ => 1,
@@ -126,16 +121,6 @@ fn annotations_of<'a>(
     Ok(lines)
 }
 
-/// Takes the first letter away from the text of the first of `parts` that has one.
-fn take_letter<'a>(parts: &mut Vec<Measures<'a>>) -> Option<&'a str> {
-    for part in parts.iter_mut().take(MOST_PARTS) {
-        if part.text.is_some() {
-            return part.take_letter();
-        }
-    }
-    None
-}
-
 /// Returns the capital of a single small letter; `letter` if it is none.
 fn capital_of(letter: &str) -> &str {
     let mut chars = letter.chars();
@@ -172,34 +157,28 @@ fn has_accent(letter: &str) -> bool {
 }
 
 impl<'a> Initial<'a> {
-    /// Returns the initial of the score `input`, whose tree is `nodes`, and takes its letter away
-    /// from `parts`; none if the score wants none or begins with no letter.
-    pub(crate) fn take(
+    /// Returns the initial of the score `input`, whose tree is `nodes`, before that many `rows`:
+    /// the capital of this `letter`, with which the score begins.
+    pub fn of(
         alloc: Global,
         nodes: &[Node],
         input: &'a str,
-        parts: &mut Vec<Measures<'a>>,
-    ) -> Result<Option<Initial<'a>>, AllocError> {
-        let rows = rows_of(header(nodes, input, "initial-style"));
-        if rows == 0 {
-            return Ok(None);
-        }
+        rows: usize,
+        letter: &'a str,
+    ) -> Result<Initial<'a>, AllocError> {
         let annotations = annotations_of(alloc, nodes, input)?;
-        let Some(own) = take_letter(parts) else {
-            return Ok(None);
-        };
-        let letter = capital_of(own);
+        let letter = capital_of(letter);
         let size = if rows == 2 { TWO_ROWS } else { ONE_ROW };
         let width = annotations
             .iter()
             .fold(text_width(letter, size), |width, it| width.max(it.width));
-        Ok(Some(Initial {
+        Ok(Initial {
             rows,
             letter,
             size,
             annotations,
             room: width + spaces::AFTER_INITIAL,
-        }))
+        })
     }
 
     /// Returns how high its letter is: a capital has 66 hundredths of its size, and an accent over
@@ -211,7 +190,7 @@ impl<'a> Initial<'a> {
 
     /// Adds to `signs` what of it stands in the row with this `number`, from 0, which is the last
     /// one if `is_last`, and returns how high the row goes then, if it goes up to `top` without it.
-    pub(crate) fn stand_in(
+    pub fn stand_in(
         &self,
         number: usize,
         is_last: bool,

@@ -1,6 +1,6 @@
 //! From where to where something goes.
 
-use gabc_marks::Distance;
+use crate::distance::Distance;
 
 /// Where a text or a row of notes begins and ends.
 #[derive(Clone, Copy, Debug)]

@@ -24,9 +24,9 @@ pub(crate) struct Run<'a> {
 
 /// Words beside each other from 0 on, and how wide they are.
 #[derive(Debug, Drop)]
-pub(crate) struct WordLine<'a> {
+pub struct WordLine<'a> {
     pub(crate) words: Vec<Words<'a>>,
-    pub(crate) width: Distance,
+    pub width: Distance,
 }
 
 /// At which side of its room a line stands.
@@ -150,7 +150,7 @@ impl<'a> WordLine<'a> {
     }
 
     /// Adds its words to `signs`, from `x` on, on this `level`.
-    pub(crate) fn put(
+    pub fn put(
         &self,
         x: Distance,
         level: Level,

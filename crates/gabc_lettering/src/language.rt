@@ -3,7 +3,7 @@
 
 /// A language, as far as its vowels go. One that is not known has those of Latin.
 #[derive(Clone, Copy, Debug, PartialEq, Eq)]
-pub(crate) enum Language {
+pub enum Language {
     Latin,
     English,
     /// Church Slavonic, Polish, Czech and Slovak: an r or an l may be a vowel.
@@ -13,7 +13,7 @@ pub(crate) enum Language {
 
 impl Language {
     /// Returns the language that the header `language` names.
-    pub(crate) fn of(name: &str) -> Language {
+    pub fn of(name: &str) -> Language {
         match name {
             "en" | "eng" | "english" | "English" => Language::English,
             "cu"

@@ -1,7 +1,7 @@
 //! The spaces of a picture, each with its name, in thousandths of a staff space. What GregorioTeX
 //! has a dimension for stands beside it.
 
-use gabc_marks::Distance;
+use crate::distance::Distance;
 
 /// Between two lines of the score (spacelinestext).
 pub const BETWEEN_LINES: Distance = Distance(1200);

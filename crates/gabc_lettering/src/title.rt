@@ -2,8 +2,7 @@
 //! initial has them.
 
 use crate::runs::{Run, Side, add_runs, lines_of};
-use gabc_marks::{Distance, Level, Sign, Styles};
-use gabc_pen::{spaces, text_between};
+use gabc_marks::{Distance, Level, Sign, Styles, spaces, text_between};
 use gabc_tree::{Kind, Node};
 use std::alloc::{AllocError, Global};
 
@@ -54,7 +53,7 @@ fn header_bytes(nodes: &[Node], input: &str, name: &str) -> (u32, u32) {
 
 /// Returns the value of the last header `name` of the tree `nodes` of `input`, without blanks at
 /// its ends; nothing if there is none.
-pub(crate) fn header<'a>(nodes: &[Node], input: &'a str, name: &str) -> &'a str {
+pub fn header<'a>(nodes: &[Node], input: &'a str, name: &str) -> &'a str {
     let (begin, end) = header_bytes(nodes, input, name);
     text_between(input, begin, end).trim()
 }
@@ -128,7 +127,7 @@ fn put_name<'a>(
 
 /// Adds what stands over the score to `signs`, in a picture of this `width`, below `y`, and returns
 /// how far down that goes; `has_initial` says whether the annotations stand over an initial.
-pub(crate) fn put_title<'a>(
+pub fn put_title<'a>(
     alloc: Global,
     nodes: &[Node],
     input: &'a str,

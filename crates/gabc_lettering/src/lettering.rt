@@ -2,17 +2,16 @@
 
 use crate::language::{Language, base_letter, first_vowel};
 use crate::runs::{Run, WordLine, front_within, lines_of};
-use gabc_marks::{Distance, Level, Sign, Styles, Words, styled_width, text_width};
-use gabc_pen::text_between;
+use gabc_marks::{Distance, Level, Sign, Styles, Words, styled_width, text_between, text_width};
 use gabc_tree::{Kind, Node};
 use std::alloc::{AllocError, Global};
 
 /// The size of the sung text, of a translation, and of a text over the staff.
-pub(crate) const TEXT_SIZE: Distance = Distance(1600);
+pub const TEXT_SIZE: Distance = Distance(1600);
 
 const TRANSLATION_SIZE: Distance = Distance(1200);
 
-pub(crate) const ABOVE_SIZE: Distance = Distance(1100);
+pub const ABOVE_SIZE: Distance = Distance(1100);
 
 /// What stands at the end of a text that is cut.
 const DOTS: &str = "…";
@@ -36,7 +35,7 @@ struct Open {
 /// The text of a syllable from 0 on: its words, and where its centre is. Beside it its translation,
 /// and the texts over the staff.
 #[derive(Debug, Drop)]
-pub(crate) struct Lettering<'a> {
+pub struct Lettering<'a> {
     words: Vec<Words<'a>>,
     letters: Vec<char>,
     places: Vec<Letter>,
@@ -44,9 +43,10 @@ pub(crate) struct Lettering<'a> {
     opened: Option<Distance>,
     centre: Option<Letter>,
     pub(crate) width: Distance,
-    pub(crate) translation: Option<&'a str>,
-    pub(crate) above: Vec<&'a str>,
+    translation: Option<&'a str>,
+    above: Vec<&'a str>,
     input: &'a str,
+    language: Language,
     /// The characters that are being read.
     open: Option<Open>,
 }
@@ -123,10 +123,11 @@ fn inner_of(text: &str) -> &str {
 }
 
 impl<'a> Lettering<'a> {
-    /// Returns a text of no words, for the score `input`.
-    pub(crate) fn new(alloc: Global, input: &'a str) -> Lettering<'a> {
+    /// Returns a text of no words, for the score `input`, which is in this `language`.
+    pub fn new(alloc: Global, input: &'a str, language: Language) -> Lettering<'a> {
         Lettering {
             input,
+            language,
             open: None,
             words: Vec::new(alloc),
             letters: Vec::new(alloc),
@@ -140,7 +141,7 @@ impl<'a> Lettering<'a> {
     }
 
     /// Forgets all words.
-    pub(crate) fn clear(&mut self) {
+    pub fn clear(&mut self) {
         self.words.clear();
         self.letters.clear();
         self.places.clear();
@@ -174,7 +175,7 @@ impl<'a> Lettering<'a> {
     }
 
     /// Adds `text` in the styles with this number.
-    pub(crate) fn add(&mut self, text: &'a str, number: u16) -> Result<(), AllocError> {
+    fn add(&mut self, text: &'a str, number: u16) -> Result<(), AllocError> {
         if text.is_empty() {
             return Ok(());
         }
@@ -196,12 +197,7 @@ impl<'a> Lettering<'a> {
 
     /// Adds a raw part of this kind, with its tags: 1 is a special character, 2 a text over the
     /// staff; raw TeX is not drawn.
-    pub(crate) fn add_raw(
-        &mut self,
-        text: &'a str,
-        kind: u16,
-        styles: u16,
-    ) -> Result<(), AllocError> {
+    fn add_raw(&mut self, text: &'a str, kind: u16, styles: u16) -> Result<(), AllocError> {
         match kind {
             1 => self.add(special_text(inner_of(text)), styles),
             2 => {
@@ -212,13 +208,12 @@ impl<'a> Lettering<'a> {
         }
     }
 
-    /// Returns where the middle of its centre is: as braces say, else that of its first vowel in
-    /// this `language`.
-    pub(crate) fn middle(&self, language: Language) -> Distance {
+    /// Returns where the middle of its centre is: as braces say, else that of its first vowel.
+    pub(crate) fn middle(&self) -> Distance {
         if let Some(centre) = self.centre {
             return (centre.left + centre.right).half();
         }
-        let (begin, end) = first_vowel(self.letters.as_slice(), language);
+        let (begin, end) = first_vowel(self.letters.as_slice(), self.language);
         let left = self.places.get(begin).map_or(Distance::ZERO, |it| it.left);
         let last = end.checked_sub(1).and_then(|last| self.places.get(last));
         let right = last.map_or(self.width, |it| it.right);
@@ -226,7 +221,11 @@ impl<'a> Lettering<'a> {
     }
 
     /// Adds its words to `signs`, from `x` on.
-    pub(crate) fn put(&self, x: Distance, signs: &mut Vec<Sign<'a>>) -> Result<(), AllocError> {
+    pub(crate) fn put_words(
+        &self,
+        x: Distance,
+        signs: &mut Vec<Sign<'a>>,
+    ) -> Result<(), AllocError> {
         for it in &self.words {
             let mut words = *it;
             words.x += x;
@@ -276,14 +275,14 @@ impl<'a> Lettering<'a> {
     }
 
     /// Ends the characters that are being read.
-    pub(crate) fn close(&mut self) -> Result<(), AllocError> {
+    pub fn close(&mut self) -> Result<(), AllocError> {
         self.add_open(u32::MAX)?;
         self.open = None;
         Ok(())
     }
 
     /// Passes `node`, which is not kept: the characters that are being read go on after it.
-    pub(crate) fn pass_gap(&mut self, node: Node) -> Result<(), AllocError> {
+    pub fn pass_gap(&mut self, node: Node) -> Result<(), AllocError> {
         self.add_open(node.begin)?;
         if let Some(open) = self.open {
             self.open = Some(Open {
@@ -295,7 +294,7 @@ impl<'a> Lettering<'a> {
     }
 
     /// Adds a node of the text.
-    pub(crate) fn add_node(&mut self, node: Node) -> Result<(), AllocError> {
+    pub fn add_node(&mut self, node: Node) -> Result<(), AllocError> {
         self.close()?;
         let text = text_between(self.input, node.begin, node.end);
         match node.kind {
