@@ -1,3 +1,4 @@
 pub mod Joins
 pub mod FewBytes
 pub mod InPlace
+pub mod KeptBytes

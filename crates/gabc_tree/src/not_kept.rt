@@ -1,6 +1,6 @@
 //! What of an input is not kept: comments, what is left out, further blanks, and what is silent.
 
-ghost use Rattle.std.specs.Prelude.{◌≡◌, ◌↔◌, ℕ, ◌+◌, ◌<◌, ◌≤◌, ◌^◌, List, [], ◌∷◌, ◌++◌, length, IfOk, OnOk, IsTrue};
+ghost use Rattle.std.specs.Prelude.{◌≡◌, ◌↔◌, ℕ, ◌+◌, ◌<◌, ◌≤◌, ◌^◌, List, [], ◌∷◌, ◌++◌, length, IfOk, OnOk, IsTrue, None, false};
 ghost use Rattle.std.specs.Char.{len_utf8};
 ghost use Rattle.std.specs.Str.{chars};
 ghost use Rattle.gabc_places.specs.Text.{is_left_out as is_silent, read_as as read};
@@ -63,6 +63,7 @@ fn is_blank(c: char) -> bool
 }
 
 /// Returns the findings from the first on that leaves out a character at `here` or later.
+#[inline(always)]
 fn from_here(findings: &[Finding], here: Place) -> &[Finding]
     ensures { result.now ≡ findings_from here findings.now }
 {
@@ -188,6 +189,7 @@ impl<'a> Reading<'a> {
     }
 
     /// Goes past `c`, which is read and of which `out` says whether it is not kept.
+    #[inline(always)]
     fn pass_shown(&mut self, c: char, out: Option<(Kind, u16)>)
         requires { self.old.heads ≡ 0 → out ≡ out_in_body self.old c }
         ensures { self.new ≡ past_shown self.old c }
@@ -211,6 +213,7 @@ impl<'a> Reading<'a> {
 
     /// Goes past `c`, of which `out` says whether it is not kept, and which ends before the byte
     /// `end`.
+    #[inline(always)]
     fn pass(&mut self, c: char, out: Option<(Kind, u16)>, end: u32)
         requires out { out ≡ what_is_out self.old c }
         requires end { end ≡ self.old.byte + len_utf8 c }
@@ -222,6 +225,58 @@ impl<'a> Reading<'a> {
         self.previous = c;
         self.byte = end;
     }
+
+    /// Returns whether `byte` is a character that is kept of the body, if it is the next one.
+    #[inline(always)]
+    fn is_kept(&self, byte: u8) -> bool
+        ensures kept { IsTrue result → what_is_out self.now byte ≡ None }
+        ensures ascii { IsTrue result → byte < 128 }
+    {
+        let c = byte as char;
+        self.heads == 0
+            && !self.comment
+            && byte < 128
+            && byte != b'\r'
+            && !is_silent_after(self.previous, c)
+            && comes_next(self.kept, c)
+    }
+
+    /// Goes past `byte` if it is the next character and is kept of the body, and returns whether it
+    /// did.
+    #[inline(always)]
+    fn pass_byte(&mut self, byte: u8) -> bool
+        requires { self.old.byte + 1 < 2 ^ 32 }
+        ensures past { IsTrue result → self.new ≡ reached_past self.old byte }
+        ensures kept { IsTrue result → what_is_out self.old byte ≡ None }
+        ensures ascii { IsTrue result → byte < 128 }
+        ensures stays { result ≡ false → self.new ≡ self.old }
+    {
+        let is_kept = self.is_kept(byte);
+        if is_kept {
+            self.pass(byte as char, None, self.byte + 1);
+        }
+        is_kept
+    }
+}
+
+/// Goes past the first characters of `text` that are kept and have one byte each, as far as all
+/// before them are so, and returns the rest of `text`.
+#[inline(always)]
+fn pass_kept<'i>(reading: &mut Reading<'_>, text: &'i str) -> &'i str
+    requires { reading.old.byte + length text.now < 2 ^ 32 }
+    ensures nodes { nodes_from reading.new (chars result.now)
+        ≡ nodes_from reading.old (chars text.now) }
+    ensures end { reading.new.byte + length result.now ≡ reading.old.byte + length text.now }
+    ensures rest { length result.now ≤ length text.now }
+{
+    let mut count = 0;
+    for byte in text.as_bytes() {
+        if !reading.pass_byte(*byte) {
+            break;
+        }
+        count += 1;
+    }
+    text.split_at(count).1
 }
 
 /// Goes past `c`, the next character of the input, and adds its node if it is not kept.
@@ -258,8 +313,10 @@ pub(crate) fn not_kept(
 {
     let mut joining = Joining::new(alloc);
     let mut reading = Reading::new(heads, kept, findings);
-    for c in input.chars() {
+    let mut chars = pass_kept(&mut reading, input).chars();
+    while let Some(c) = chars.next() {
         pass(&mut reading, &mut joining, c)?;
+        chars = pass_kept(&mut reading, chars.as_str()).chars();
     }
     let nodes = joining.into_nodes()?;
     Ok(nodes)

@@ -1,6 +1,6 @@
 //! Nodes of kept texts, put where they stand in the input.
 
-ghost use Rattle.std.specs.Prelude.{◌≡◌, ◌+◌, ◌<◌, ◌≤◌, ◌^◌, ◌∷◌, ◌++◌, map, length, drop, [], OnOk, IfOk};
+ghost use Rattle.std.specs.Prelude.{◌≡◌, ◌+◌, ◌<◌, ◌≤◌, ◌^◌, ◌∷◌, ◌++◌, map, length, drop, [], OnOk, IfOk, IsTrue};
 ghost use Rattle.gabc_tree.specs.Tree.{rest_of};
 ghost use Rattle.gabc_tree.specs.Placed.{offset as offset_of, bytes_in, before_byte, is_snippet as is_a_snippet, up_to, reach_to, byte_at, is_between as is_between_marks, moved as moved_by, placed_from, reach_after, inside_of, end_by, nodes_at, reach_past, begin_of, first_of};
 
@@ -178,8 +178,23 @@ impl<'a> Placing<'a> {
         (0, begin)
     }
 
-    /// Adds `node`, whose bytes are kept bytes.
-    pub(crate) fn place(&mut self, node: Node) -> Result<(), AllocError>
+    /// Returns whether all of what is not kept and was not passed stands after `node`, whose bytes
+    /// are kept bytes.
+    #[tactic(auto, using(crate::proofs::placed_nodes::Ahead::none_left, crate::proofs::placed_nodes::Ahead::first_later, crate::proofs::placed_nodes::Ahead::ahead_nodes, crate::proofs::placed_nodes::Ahead::ahead_reach))]
+    fn is_ahead(&self, node: Node) -> bool
+        ensures nodes { IsTrue result →
+            nodes_at self.now.reach node ≡ moved_by self.now.reach.passed node ∷ [] }
+        ensures reach { IsTrue result → reach_past self.now.reach node ≡ self.now.reach }
+    {
+        node.begin <= node.end
+            && match self.out {
+                [first, ..] => node.end as usize + self.passed < first.begin as usize,
+                [] => true,
+            }
+    }
+
+    /// Adds `node`, whose bytes are kept bytes, with what is not kept before it and in it.
+    fn place_among(&mut self, node: Node) -> Result<(), AllocError>
         ensures { OnOk result (self.new ≡ record {
           nodes = self.old.nodes ++ nodes_at self.old.reach node;
           reach = reach_past self.old.reach node;
@@ -187,13 +202,25 @@ impl<'a> Placing<'a> {
     {
         let begin = self.begin(node)?;
         let (inside, end) = self.end(node, begin);
-        self.nodes.push(Node {
+        self.add(Node {
             begin: offset(begin),
             end: offset(end),
             inner: offset(node.inner as usize + inside),
             ..node
-        })?;
-        Ok(())
+        })
+    }
+
+    /// Adds `node`, whose bytes are kept bytes.
+    pub(crate) fn place(&mut self, node: Node) -> Result<(), AllocError>
+        ensures { OnOk result (self.new ≡ record {
+          nodes = self.old.nodes ++ nodes_at self.old.reach node;
+          reach = reach_past self.old.reach node;
+        }) }
+    {
+        if self.is_ahead(node) {
+            return self.add(moved(self.passed as u32, node));
+        }
+        self.place_among(node)
     }
 
     /// Adds `nodes`, which count the bytes of a text whose first byte is the kept byte `base`.
