@@ -16,4 +16,5 @@ returns g c =
       waits = c.end_by.ensures.waits;
       over = c.end_by.ensures.over;
       last = c.end_by.ensures.last;
+      hasher = c.end_by.ensures.hasher ∙ c.feed_all.ensures.hasher;
     }
