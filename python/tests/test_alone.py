@@ -79,7 +79,7 @@ class Alone(unittest.TestCase):
 class Page(InFolder):
     def test_recipe(self) -> None:
         """The lines of the page write a picture."""
-        exec(block("docs/LIBRARY.md", "recipe: draw-python"), {})
+        exec(block("docs/LIBRARY.md", "test: draw-python"), {})
         self.assertEqual(Xml.parse("kyrie.svg").getroot().get("width"), "360")
 
 
