@@ -103,7 +103,8 @@ def fix(text: Text, unsafe: bool = False, settings: Settings = Settings()) -> Fi
     """Returns the text with the repairs of `check --fix`: the safe ones, and the guesses too if
     `unsafe` is true. Only what `lint` reports is repaired."""
     data = bytes(bytes_of(text))
-    made = repair(data, How(unsafe, settings.rules is True, settings.selection(STDIN)))
+    how = How(unsafe, settings.rules is True, settings.selection(STDIN))
+    made = repair(Compiled(data), how)
     return FixedText(_text_of(made.data, text, data), made.guesses)
 
 

@@ -307,6 +307,24 @@ class Hands(unittest.TestCase):
         self.assertEqual(self.neumes("vi/cl>", "text"), ([], ["vi/cl>"]))
         self.assertEqual(self.neumes("vi/sa>1", "text"), ([], ["vi/sa>1"]))
 
+    def test_spelled_side_by_side(self) -> None:
+        """As text the NABC of a row stands on one line, and none reaches over the next one."""
+        score = b"name: x;\nnabc-lines: 1;\n%%\n(c4) a(f|talsi8lsc2) b(g|vihn) c(h|pe) d(i|ta)\n"
+        svg = draw(score, (), look=Look(hand="text")).svg
+        groups = groups_of(Xml.fromstring(svg))[1:]
+        texts = [
+            it for group in groups for it in group.iter(f"{SVG}text") if it.get("y", "")[0] == "-"
+        ]
+        self.assertEqual([it.text for it in texts], ["talsi8lsc2", "vihn", "pe", "ta"])
+        self.assertEqual(len({it.get("y") for it in texts}), 1)
+        begins = [
+            int(re.findall(r"-?\d+", it.get("transform", ""))[0]) + int(text.get("x", ""))
+            for it, text in zip(groups, texts)
+        ]
+        room = begins[1] - begins[0]
+        self.assertLess(int(texts[0].get("textLength", "")), room)
+        self.assertEqual([it.get("textLength") for it in texts[2:]], [None, None])
+
     def test_titles(self) -> None:
         """NABC has its spelling and its names as a title."""
         svg = draw(b"name: x;\nnabc-lines: 1;\n%%\n(c4) b(fg|vi)\n").svg

@@ -38,6 +38,22 @@ HELPS = [
             " 1; before the %%"
         ),
     ),
+    # A tag in a raw part or in a comment opens nothing.
+    (
+        f"{_SCORE}<v><b></v><i>a(f) b</i>(g)",
+        "W3",
+        "<i> ends with the text of its syllable: write </i> here, and <i> again in the next text",
+    ),
+    (
+        f"{_SCORE}%<b>\n<i>a(f) b</i>(g)",
+        "W3",
+        "<i> ends with the text of its syllable: write </i> here, and <i> again in the next text",
+    ),
+    (
+        f"{_SCORE}<v><eu></v>a(f) <nlba>b(g)",
+        "W11",
+        "the <nlba> at 3:22 is not closed: write </..> after its last syllable",
+    ),
     (f"{_SCORE}a(g&)", "E1", "'&' is no note and no sign: remove it"),
     (f"{_SCORE}a(g\u00a0)", "E1", "the character U+00A0 is no note and no sign: remove it"),
     (f"{_SCORE}a(g5)", "E1", "'5' is no sign of the note before it: remove it"),

@@ -11,12 +11,14 @@ import re
 import unittest
 from pathlib import Path
 
-from support import ROOT, InFolder, command, has, scores_of_tables
+from mutants import mutants
+from support import ROOT, InFolder, command, files_of_scores, has, scores_of_tables
 
 from gregorio_chant import Status, compile
 from gregorio_chant.format.formatting import Style, formatted
 
 _FEW = 300
+_DAMAGED, _SEED = 10_000, 87
 _STYLE_TAG = re.compile(r"</?(?:b|c|e|i|sc|tt|ul)>")
 # What is written of each score, by what it shows; nothing where the score stays as it is.
 LAYOUTS: dict[str, tuple[str, str | None]] = {
@@ -180,6 +182,17 @@ class Layout(unittest.TestCase):
         for width, wanted in ((19, "(c4) a(f) b(g) c(h)"), (18, "(c4) a(f) b(g)\nc(h)")):
             made = formatted(b"name: a;\n%%\n(c4) a(f) b(g) c(h)\n", Style(width=width))
             self.assertEqual(made.data.decode().split("%%\n")[1].rstrip(), wanted)
+
+    def test_damaged_scores(self) -> None:
+        """The judge objects to none of many scores that are damaged at random."""
+        scores = [it.read_bytes() for it in files_of_scores()]
+        written = 0
+        for score in mutants(scores, _DAMAGED, _SEED):
+            made = formatted(score, Style())
+            if made.fault is None:
+                self.assertEqual(made.reasons(), [], score)
+                written += made.data != score
+        self.assertGreater(written, _DAMAGED // 4)
 
     @unittest.skipUnless(has("hypothesis"), "there is no hypothesis")
     def test_made_scores(self) -> None:

@@ -97,7 +97,7 @@ def moved(old: str, new: str, line: int, column: int) -> tuple[int, int]:
 def fault_of(score: Read, slip: str) -> str | None:
     """Returns what repairs of a planted slip do wrong."""
     planted = Read(slip)
-    safe = Read(repair(slip.encode(), _SAFE).data.decode())
+    safe = Read(repair(Compiled(slip.encode()), _SAFE).data.decode())
     if safe.text != slip and safe.parts != score.parts:
         still = set(safe.told)
         if not all(
@@ -105,21 +105,21 @@ def fault_of(score: Read, slip: str) -> str | None:
             for code, line, column in planted.told
         ):
             return "a message goes, and the slip stays"
-    guessed = Read(repair(slip.encode(), _ALL).data.decode())
+    guessed = Read(repair(Compiled(slip.encode()), _ALL).data.decode())
     if guessed.text != slip:
         away = min(distance(score.parts, planted.parts, _MOST_AWAY), _MOST_AWAY)
         if distance(score.parts, guessed.parts, away) > away:
             return "a guess leads further away"
-        if repair(guessed.text.encode(), _ALL).data.decode() != guessed.text:
+        if repair(Compiled(guessed.text.encode()), _ALL).data.decode() != guessed.text:
             return "a second run changes something"
-    if repair(safe.text.encode(), _SAFE).data.decode() != safe.text:
+    if repair(Compiled(safe.text.encode()), _SAFE).data.decode() != safe.text:
         return "a second run of safe repairs changes something"
     return None
 
 
 def scores() -> list[Read]:
     """Returns whole scores of which nothing can be repaired any more."""
-    texts = [repair(it.read_bytes(), _ALL).data.decode() for it in files_of_scores()]
+    texts = [repair(Compiled(it.read_bytes()), _ALL).data.decode() for it in files_of_scores()]
     return [Read(it) for it in texts if compile(it).status is not Status.FATAL]
 
 

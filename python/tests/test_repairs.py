@@ -51,6 +51,10 @@ REPAIRED: list[tuple[str, str | None]] = [
         "name: a;\n%% b\n(c4) a(g|pu) b(h|vi)\n",
         "name: a;\nnabc-lines: 1;\n%% b\n(c4) a(g|pu) b(h|vi)\n",
     ),
+    (
+        f"{_SCORE}<v><b></v><i>a(f) <v><i></v>b(g) c</i>(h)\n",
+        f"{_SCORE}<v><b></v><i>a</i>(f) <i><v><i></v>b</i>(g) <i>c</i>(h)\n",
+    ),
     (f"{_NABC}a(g|un1) b(h|pesu) % un1\n", f"{_NABC}a(g|un) b(h|pesu) % un1\n"),
     (f"{_SCORE}a(g&) <x>b(h) {{c(i)\n", None),
 ]
@@ -58,7 +62,7 @@ REPAIRED: list[tuple[str, str | None]] = [
 
 def repaired(score: bytes, how: How) -> bytes:
     """Returns what all repairs make of a score."""
-    return repair(score, how).data
+    return repair(Compiled(score), how).data
 
 
 def codes_of(score: bytes, with_rules: bool = True) -> Counter[str]:
@@ -227,7 +231,7 @@ class Repairs(unittest.TestCase):
         self.assertEqual(repaired(score, ALL), score)
 
     def test_what_is_told_of_a_guess(self) -> None:
-        made = repair(f"{_SCORE}mun9hh)d\u00e1(ij)\n".encode(), ALL)
+        made = repair(Compiled(f"{_SCORE}mun9hh)d\u00e1(ij)\n".encode()), ALL)
         self.assertEqual(
             tuple(map(str, made.guesses)),
             (
@@ -237,7 +241,7 @@ class Repairs(unittest.TestCase):
                 ),
             ),
         )
-        self.assertEqual(repair(f"{_SCORE}a>(g)\n".encode(), ALL).guesses, ())
+        self.assertEqual(repair(Compiled(f"{_SCORE}a>(g)\n".encode()), ALL).guesses, ())
 
     def test_fatal_faults(self) -> None:
         """Where a fault stops a score, a repair inserts and takes nothing away."""

@@ -42,16 +42,13 @@ class Slips(unittest.TestCase):
         for slip in SLIPS:
             with self.subTest(wrong=slip.wrong, right=slip.right):
                 planted = self.planted(slip)
-                made = repair(
-                    planted.encode(), How(allow_unsafe=True, with_rules=True)
-                ).data.decode()
+                how = How(allow_unsafe=True, with_rules=True)
+                made = repair(Compiled(planted.encode()), how).data.decode()
                 self.assertEqual(made, {BACK: SCORE, STAYS: planted}.get(slip.repaired, made))
                 if slip.repaired not in (BACK, STAYS):
                     self.assertIn(slip.repaired, made)
-                self.assertEqual(
-                    repair(made.encode(), How(allow_unsafe=True, with_rules=True)).data.decode(),
-                    made,
-                )
+                again = repair(Compiled(made.encode()), how).data.decode()
+                self.assertEqual(again, made)
 
     def test_numbers(self) -> None:
         self.assertGreaterEqual(len(SLIPS), 96)

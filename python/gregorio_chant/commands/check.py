@@ -16,7 +16,7 @@ from gregorio_chant.commands.words import (
 )
 from gregorio_chant.errors import UsageError
 from gregorio_chant.linting import checking
-from gregorio_chant.linting.fixing import fix_files
+from gregorio_chant.linting.fixing import Fixed, fix_files
 from gregorio_chant.linting.selection import codes_in
 from gregorio_chant.work.settings import Chosen
 from gregorio_chant.work.streams import STDIN
@@ -84,12 +84,12 @@ def _codes(word: str | None) -> frozenset[str] | None:
     return None if word is None else codes_in(word, known())
 
 
-def _fix(words: argparse.Namespace, options: checking.Options) -> int:
+def _fix(words: argparse.Namespace, options: checking.Options) -> Fixed:
     """Repairs files where that is asked for."""
     if not words.fix:
         if words.unsafe_fixes or words.diff:
             raise UsageError("--unsafe-fixes and --diff are for --fix")
-        return 0
+        return Fixed(0, {})
     if words.staged or STDIN in words.paths:
         raise UsageError(f"--fix writes files, so it takes neither --staged nor {STDIN}")
     return fix_files(options, words.unsafe_fixes, words.diff)
@@ -103,4 +103,4 @@ def run(words: argparse.Namespace) -> int:
         **shared(words), chosen=chosen, form=words.output_format, with_rules=words.rules
     )
     fixed = _fix(words, options)
-    return fixed if words.diff else max(fixed, checking.check(options))
+    return fixed.status if words.diff else max(fixed.status, checking.check(options, fixed.checked))

@@ -2,7 +2,7 @@
 from __future__ import annotations
 
 from collections import Counter
-from collections.abc import Callable, Iterator
+from collections.abc import Callable, Iterator, Mapping
 from concurrent.futures import ThreadPoolExecutor
 from contextlib import contextmanager, nullcontext
 from dataclasses import dataclass
@@ -55,10 +55,17 @@ class Told:
     helps: tuple[str | None, ...] = ()
 
 
-def told_of(compiled: Compiled, selection: Selection, with_rules: bool) -> Told:
-    """Returns what is reported of a score. Raises `TooLong` for one that is too long for its tree,
-    if rules are tried or a comment silences something."""
-    found = found_in(compiled, with_rules)
+def told_of(
+    compiled: Compiled,
+    selection: Selection,
+    with_rules: bool,
+    found: tuple[Message, ...] | None = None,
+) -> Told:
+    """Returns what is reported of a score, in which this is `found` if that is known. Raises
+    `TooLong` for one that is too long for its tree, if rules are tried or a comment silences
+    something."""
+    if found is None:
+        found = found_in(compiled, with_rules)
     messages = selection.of(found)
     if not messages:
         return Told(found)
@@ -78,22 +85,33 @@ def check_file(name: str, options: Options, read_it: Read) -> Checked:
         return Checked(name, failure="there is no memory for it", status=NO_MEMORY)
 
 
-def check_score(name: str, compiled: Compiled, options: Options) -> Checked:
-    """Returns what is found in a score of this name."""
+def check_score(
+    name: str, compiled: Compiled, options: Options, found: tuple[Message, ...] | None = None
+) -> Checked:
+    """Returns what is reported of a score of this name, in which this is `found` if that is
+    known."""
     settings = options.settings.of(name)
     selection = settings.selection(name, options.chosen)
-    told = told_of(compiled, selection, options.with_rules or settings.rules is True)
+    told = told_of(compiled, selection, options.with_rules or settings.rules is True, found)
     status = int(selection.status_of(told.messages))
     return Checked(name, told.messages, told.text, status=status, helps=told.helps)
 
 
+def _check_unknown(
+    name: str, options: Options, read_it: Read, known: Mapping[str, Checked]
+) -> Checked:
+    return known.get(name) or check_file(name, options, read_it)
+
+
 @contextmanager
-def _all_checked(names: list[str], options: Options, read_it: Read) -> Iterator[Iterator[Checked]]:
+def _all_checked(
+    names: list[str], options: Options, read_it: Read, known: Mapping[str, Checked]
+) -> Iterator[Iterator[Checked]]:
     """Gives what is found in each file, in order: by threads, since the compiler runs beside
     them; by processes with rules, which are Python."""
-    work = partial(check_file, options=options, read_it=read_it)
+    work = partial(_check_unknown, options=options, read_it=read_it, known=known)
     with_rules = options.with_rules or any(options.settings.of(it).rules for it in names)
-    if with_rules and not options.staged:
+    if with_rules and not options.staged and not known:
         with by_processes(work, names, options.jobs) as all_checked:
             yield all_checked
         return
@@ -142,14 +160,14 @@ class _Scores(Scores):
         return summary_of(self.done, self.failed, self.kinds)
 
 
-def check(options: Options) -> int:
-    """Checks the files, reports what is found, and returns the worst status. Raises
-    `WriteError`, and `MissingDependency`, `GitError` or `SettingsError` before any score is read.
-    """
+def check(options: Options, known: Mapping[str, Checked] | None = None) -> int:
+    """Checks the files, reports what is found, and returns the worst status. What is `known` of a
+    file is not looked for again. Raises `WriteError`, and `MissingDependency`, `GitError` or
+    `SettingsError` before any score is read."""
     reporter = _reporter_of(options.form)
     found = _Scores(options)
     with (
-        _all_checked(found.names, options, found.read) as all_checked,
+        _all_checked(found.names, options, found.read, known or {}) as all_checked,
         bar("checking", len(found.names)) as shown,
     ):
         for it in all_checked:

@@ -261,7 +261,7 @@ def _tag_meant(subject: Subject, at: int) -> str | None:
 
 def _open_styles(subject: Subject, at: int) -> list[str]:
     it = subject.syllable_at(at)
-    return open_styles(subject.text[it.begin : it.notes]) if it else []
+    return open_styles(subject, it) if it else []
 
 
 def _styles(subject: Subject, at: int) -> str:
@@ -278,10 +278,7 @@ def _last_text(subject: Subject, at: int) -> str:
 
 
 def _open_spans(subject: Subject, at: int) -> str:
-    found = {}
-    for it in subject.parts.syllables:
-        for tag in re.finditer(r"<(/?)(eu|nlba)>", subject.text[it.begin : it.notes]):
-            found[tag[2]] = None if tag[1] else it.begin + tag.start()
+    found = {it.name: None if it.closes else it.begin for it in subject.parts.span_marks()}
     return " and the ".join(
         f"<{name}> at {subject.place(begin)}" for name, begin in found.items() if begin is not None
     )

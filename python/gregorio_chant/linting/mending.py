@@ -96,16 +96,16 @@ def _style_in_each_syllable(subject: Subject, at: int) -> Edits:
         return ()
     first = syllables[number]
     edits: list[Edit] = []
-    for name in open_styles(subject.text[first.begin : first.notes]):
+    for name in open_styles(subject, first):
         edits.append(Edit(first.notes, "", f"</{name}>"))
-        tag = re.compile(rf"<(/?){name}>")
         for it in syllables[number + 1 : number + 1 + _MOST_SYLLABLES]:
             begin = it.text
             if begin == it.notes:
                 continue
             edits.append(Edit(begin, "", f"<{name}>"))
-            found = tag.search(subject.text, begin, it.notes)
-            if found is not None and not found[1]:
+            tags = subject.parts.style_tags_in(begin, it.notes)
+            found = next((tag for tag in tags if tag.name == name), None)
+            if found is not None and not found.closes:
                 return ()
             if found is not None:
                 break

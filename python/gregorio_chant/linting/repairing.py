@@ -15,7 +15,7 @@ from dataclasses import dataclass
 from itertools import accumulate
 
 from gregorio_chant._native.node_kinds import NodeKind
-from gregorio_chant._native.results import Kind, Message
+from gregorio_chant._native.results import Message
 from gregorio_chant.linting.codes import CODES
 from gregorio_chant.linting.facts import named
 from gregorio_chant.linting.finding import messages_with_rules, unsilenced
@@ -174,6 +174,8 @@ class _Draft:
         self._offsets = raw_offsets(self._raw)
         line_end = _LINE_END.search(self._raw)
         self._line_end = line_end[0] if line_end else "\n"
+        # The score with the edits that were judged last.
+        self._judged: Compiled | None = None
 
     def changes(self, edits: Iterable[Edit]) -> Iterator[Change]:
         """Yields what these edits change in the score as it is written, with its own line ends."""
@@ -193,10 +195,17 @@ class _Draft:
             at = it.end
         return "".join([*parts, self._raw[at:]]).encode("utf-8")
 
+    def made(self, proposals: Sequence[Proposal]) -> Compiled:
+        """Returns the score with these repairs: as it was judged, if it was judged last."""
+        data = self.with_edits(edit for it in proposals for edit in it.edits)
+        if self._judged is None or self._judged.data != data:
+            self._judged = Compiled(data)
+        return self._judged
+
     def takes(self, proposals: Sequence[Proposal]) -> bool:
         """Returns whether these repairs may be made together."""
         edits = [edit for it in proposals for edit in it.edits]
-        old, new = self.score, Compiled(self.with_edits(edits))
+        old, new = self.score, self.made(proposals)
         if old.fault is not None:
             is_later = new.fault is None or (new.fault.line, new.fault.column) > (
                 old.fault.line,
@@ -333,10 +342,17 @@ class Guess:
 
 @dataclass(frozen=True)
 class Repaired:
-    """A score with its repairs, and the guesses that were made."""
+    """A score with its repairs, the guesses that were made, and what is found in the score then, if
+    that is known."""
 
-    data: bytes
+    score: Compiled
     guesses: tuple[Guess, ...] = ()
+    found: tuple[Message, ...] | None = None
+
+    @property
+    def data(self) -> bytes:
+        """The bytes of the score."""
+        return self.score.data
 
 
 class _Repairing:
@@ -347,11 +363,12 @@ class _Repairing:
         self._how, self._pause = how, pause
         self._judge = _Judge()
         self.guesses: list[Guess] = []
+        # What was found in the score that was looked at last.
+        self.found: tuple[Message, ...] = ()
 
-    def once(self, data: bytes, is_safe: bool) -> bytes:
+    def once(self, old: Compiled, is_safe: bool) -> Compiled:
         """Returns the score with as many safe repairs, or guesses, as can be made together."""
-        old = Compiled(data)
-        found = _found(old, self._how.with_rules)
+        found = self.found = _found(old, self._how.with_rules)
         told = self._how.selection.of(found) if old.fault is None else (old.fault,)
         subject = Subject(old)
         waiting = list(_proposals(subject, told, lambda it: it.is_safe == is_safe))
@@ -370,8 +387,8 @@ class _Repairing:
                         )
                         for it in made
                     ]
-                return draft.with_edits(edit for it in made for edit in it.edits)
-        return data
+                return draft.made(made)
+        return old
 
     def _taken(self, draft: _Draft, proposals: Sequence[Proposal]) -> list[Proposal]:
         """Returns those of these repairs, of which none touches another, that can be made
@@ -409,21 +426,21 @@ def _apart(waiting: Iterable[list[Proposal]]) -> tuple[list[Proposal], list[list
     return batch, left
 
 
-def repair(data: bytes, how: How, pause: Pause = go_on) -> Repaired:
+def repair(score: Compiled, how: How, pause: Pause = go_on) -> Repaired:
     """Returns the score with all repairs that can be made of messages that are reported: the safe
     ones first. A score that a fatal fault still stops afterwards stays as it is. There is a pause
     before each try."""
-    if not is_text(data):
-        return Repaired(data)
+    if not is_text(score.data):
+        return Repaired(score)
     repairing = _Repairing(how, pause)
-    new = data
+    new = score
     while True:
         made = repairing.once(new, is_safe=True)
-        if made == new and how.allow_unsafe:
+        if made is new and how.allow_unsafe:
             made = repairing.once(new, is_safe=False)
-        if made == new:
+        if made is new:
             break
         new = made
-    if any(it.kind is Kind.FATAL for it in Compiled(new).messages):
-        return Repaired(data)
-    return Repaired(new, tuple(repairing.guesses))
+    if new.fault is not None:
+        return Repaired(score)
+    return Repaired(new, tuple(repairing.guesses), repairing.found)

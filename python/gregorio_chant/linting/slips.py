@@ -18,7 +18,6 @@ from gregorio_chant.text.source import Lines, text_of
 from gregorio_chant.text.vocabulary import HEADERS
 
 LEFT_OUT = frozenset(("E1", "E2", "E3"))
-STYLES = ("b", "c", "e", "i", "sc", "tt", "ul")
 # What is typed, or put by a program of texts, for the apostrophe of an ictus.
 APOSTROPHES = ("’", "‘", "ʼ", "´")
 ENTITY = re.compile(r"&(?:#[0-9]+|#x[0-9A-Fa-f]+|[A-Za-z][A-Za-z0-9]*);")
@@ -31,7 +30,6 @@ NOTES = re.compile(r"\([^()\n]*\)")
 # How many characters on each side of a slip a reading shows.
 _AROUND = 16
 _SHORT_LINE = 40
-_STYLE_TAG = re.compile(r"\$.|<(/?)(b|c|e|i|sc|tt|ul)>", re.DOTALL)
 _CLEF = re.compile(
     r"(?P<turned>[1-5])(?P<kind>[cfCF]b?)|(?P<letter>[cfCF]b?)[lI]?(?P<line>[1-5])"
     r"|[A-Za-z]b?[lI]?[0-9]"
@@ -230,15 +228,13 @@ def meant_header(line: str) -> str | None:
 # ---- texts
 
 
-def open_styles(text: str) -> list[str]:
+def open_styles(subject: Subject, syllable: SyllableSpan) -> list[str]:
     """Returns the styles that are open at the end of the text of a syllable, the first one
     first."""
     found: list[str] = []
-    for tag in _STYLE_TAG.finditer(text):
-        if tag[2] is None:
-            continue
-        if not tag[1] and tag[2] not in found:
-            found.append(tag[2])
-        elif tag[1] and tag[2] in found:
-            found.remove(tag[2])
+    for tag in subject.parts.style_tags_in(syllable.begin, syllable.notes):
+        if not tag.closes and tag.name not in found:
+            found.append(tag.name)
+        elif tag.closes and tag.name in found:
+            found.remove(tag.name)
     return found

@@ -7,8 +7,8 @@ from typing import NamedTuple
 
 from gregorio_chant._native.node_kinds import NodeKind
 from gregorio_chant._native.nodes import Tree, kinds_pattern
+from gregorio_chant.text.vocabulary import STYLES
 
-STYLES = ("b", "c", "e", "i", "sc", "tt", "ul")
 # The bit of the centre beside those of the styles.
 _CENTRE = 128
 _SPECIAL_CHARACTER = re.compile(r"[()\[\]{}<>%$]")

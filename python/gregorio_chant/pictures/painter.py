@@ -5,6 +5,7 @@ from __future__ import annotations
 import re
 from collections.abc import Iterator, Sequence
 from html import escape
+from typing import NamedTuple
 
 from gregorio_chant.objects.items import Note
 from gregorio_chant.objects.nabc import Descriptor
@@ -30,6 +31,9 @@ _NABC = re.compile('<use [^>]* class="nabc"/>')
 _NABC_TEXT = re.compile('<text [^>]* font-size="900" [^>]*>[^<]*</text>')
 _NABC_LINE = re.compile(r'y="(-?\d+)" (?:class="nabc"/>|font-size="900" )')
 _NABC_SIZE, _NABC_ROW = 700, 800
+# About how wide a letter of that is, a narrow one and another, and what stands between two texts.
+_NARROW, _NARROW_LETTER, _LETTER = frozenset("filjt!'`"), 210, 350
+_BETWEEN_NABC = 200
 _HYPHEN = re.compile("<text ([^>]*>-</text>)")
 # Where the text stands in a row that has none.
 _TEXT_LINE = 1800
@@ -66,21 +70,62 @@ def _names_of_nabc(syllable: Syllable) -> str:
     )
 
 
-def _spelled_nabc(part: Part, syllable: Syllable, line: int) -> Iterator[str]:
-    """Yields the NABC over the notes of a part as it is spelled, from this line up."""
+class _Spelled(NamedTuple):
+    """NABC as it is spelled: the number of its part in the row, its line, where it stands in the
+    part and in the row, and its text."""
+
+    part: int
+    line: int
+    x: int
+    in_row: int
+    text: str
+
+
+def _spelled_nabc(number: int, part: Part) -> Iterator[_Spelled]:
+    """Yields the NABC over the notes of a part."""
     at = first = 0
-    for it in syllable.snippets:
+    for it in part.syllable.snippets if part.syllable else ():
         if isinstance(it, NoteSnippet):
             at, first = at + sum(isinstance(item, Note) for item in it.items), at
         elif 0 <= first - part.first < max(len(part.heads), 1) and it.spelling.strip():
             x = part.heads[first - part.first].x if part.heads else 0
-            y = line - (it.line - 1) * _NABC_ROW
-            text = escape(shown(it.spelling))
-            yield f'<text x="{x}" y="{y}" font-size="{_NABC_SIZE}">{text}</text>'
+            yield _Spelled(number, it.line, x, part.group.x + x, shown(it.spelling))
+
+
+def _spelled_in_row(parts: Sequence[Part], width: int) -> dict[int, list[str]]:
+    """Returns the NABC of each part of a row, by its number, as it is spelled: one line beside
+    another, and each text as narrow as the next one and the end of the row want it."""
+    lines = [int(y) for it in parts for y in _NABC_LINE.findall(it.group.content)]
+    found: dict[int, list[str]] = {number: [] for number in range(len(parts))}
+    if not lines:
+        return found
+    ends: dict[int, int] = {}
+    for it in reversed([it for at, part in enumerate(parts) for it in _spelled_nabc(at, part)]):
+        room = max(ends.get(it.line, width) - it.in_row - _BETWEEN_NABC, _NABC_SIZE)
+        ends[it.line] = it.in_row
+        is_wide = room < sum(_NARROW_LETTER if c in _NARROW else _LETTER for c in it.text)
+        fits = f' textLength="{room}" lengthAdjust="spacingAndGlyphs"' if is_wide else ""
+        y = max(lines) - (it.line - 1) * _NABC_ROW
+        place = f'x="{it.x}" y="{y}" font-size="{_NABC_SIZE}"'
+        found[it.part].insert(0, f"<text {place}{fits}>{escape(it.text)}</text>")
+    return found
 
 
 def _titled(text: str) -> str:
     return f"<title>{escape(shown(text))}</title>"
+
+
+def _content(part: Part, syllable: Syllable, spelled: list[str] | None) -> str:
+    """Returns what stands in a group, its NABC with its names as a title."""
+    content = part.group.content
+    if spelled:
+        neumes, content = spelled, _NABC_TEXT.sub("", content)
+    else:
+        neumes = _NABC.findall(content)
+    if not neumes:
+        return content
+    named = f'<g class="nabc">{_titled(_names_of_nabc(syllable))}{"".join(neumes)}</g>'
+    return _NABC.sub("", content) + named
 
 
 class Painter:
@@ -109,8 +154,10 @@ class Painter:
             f'<g class="row" transform="translate({row.x},{row.y + down})"{named}{lang}>',
             _HYPHEN.sub(r'<text aria-hidden="true" \1', row.signs),
         ]
-        for part, fields in zip(parts, by_part):
-            painted.append(self._part(part, fields, top, text))
+        spelled = _spelled_in_row(parts, width) if self._is_text else None
+        for number, (part, fields) in enumerate(zip(parts, by_part)):
+            neumes = None if spelled is None else spelled[number]
+            painted.append(self._part(part, fields, top, text, neumes))
         painted += [
             self.code(it.mark, it.x, top - OVER_ROW - CODE_ROW * it.row, it.text) for it in codes
         ]
@@ -131,8 +178,11 @@ class Painter:
         top = min((it.top for it in taken), default=0) - _OVER_SIGNS
         return top, max(texts, default=_TEXT_LINE)
 
-    def _part(self, part: Part, fields: Sequence[Field], top: int, text: int) -> str:
-        """Returns the group of a part; a field lies under its notes."""
+    def _part(
+        self, part: Part, fields: Sequence[Field], top: int, text: int, spelled: list[str] | None
+    ) -> str:
+        """Returns the group of a part, with NABC as it is `spelled` if that is wanted; a field lies
+        under its notes."""
         group, syllable = part.group, part.syllable
         moved = f' transform="translate({group.x},0)"'
         if syllable is None:
@@ -151,22 +201,8 @@ class Painter:
         attributes += ' role="img"' if title else ""
         self.found.update({it.mark.number: identifier for it in fields})
         marked = field_around(fields, group.x, top, text) if fields else ""
-        inside = (_titled(title) if title else "") + marked + self._content(part, syllable)
+        inside = (_titled(title) if title else "") + marked + _content(part, syllable, spelled)
         return f'<g class="syllable"{attributes}{moved}>{inside}</g>'
-
-    def _content(self, part: Part, syllable: Syllable) -> str:
-        """Returns what stands in a group, its NABC with its names as a title."""
-        content = part.group.content
-        lines = [int(it) for it in _NABC_LINE.findall(content)]
-        if self._is_text and lines:
-            neumes = [*_spelled_nabc(part, syllable, max(lines))]
-            content = _NABC_TEXT.sub("", content)
-        else:
-            neumes = _NABC.findall(content)
-        if not neumes:
-            return content
-        named = f'<g class="nabc">{_titled(_names_of_nabc(syllable))}{"".join(neumes)}</g>'
-        return _NABC.sub("", content) + named
 
     def code(self, mark: Mark, x: int, y: int, words: str) -> str:
         """Returns the code of a message, as a link if messages stand beside the picture."""

@@ -114,7 +114,7 @@ def _all_repairs(document: Document) -> list[Json]:
 def _edits_of_all(document: Document) -> list[Json]:
     old = document.text.raw
     how = How(with_rules=document.file.with_rules, selection=document.file.selection)
-    new = repair(document.text.data, how, document.pause).data.decode("utf-8", "surrogatepass")
+    new = repair(document.compiled, how, document.pause).data.decode("utf-8", "surrogatepass")
     if new == old:
         return []
     begin = len(os.path.commonprefix([old, new]))

@@ -9,6 +9,7 @@ from functools import cached_property
 
 from gregorio_chant._native.node_kinds import NodeKind
 from gregorio_chant._native.nodes import Node, Tree
+from gregorio_chant.text.vocabulary import SPANS, STYLES
 
 _NOT_CLOSED = 306
 # The code of a header `nabc-lines` with no number.
@@ -39,6 +40,15 @@ class SyllableSpan(Span):
     notes: int
 
 
+@dataclass(frozen=True, slots=True)
+class Mark:
+    """A tag of a style or of a span of a text: where it begins, its name, and whether it closes."""
+
+    begin: int
+    name: str
+    closes: bool
+
+
 class Parts:
     """The parts of a score. What was not read after a fatal fault is one more syllable; in the
     headers it has no parts. `opener` is where the notes begin that are not closed, if that is the
@@ -66,6 +76,25 @@ class Parts:
             Span(self._count(it.begin), self._count(it.end))
             for it in self._tree.of_kind(NodeKind.COMMENT, NodeKind.HEADER_COMMENT)
         ]
+
+    @cached_property
+    def style_tags(self) -> list[Mark]:
+        """The tags of styles that were read."""
+        return [
+            Mark(self._count(it.begin), STYLES[it.b], it.c == 1)
+            for it in self._tree.of_kind(NodeKind.STYLE_TAG)
+        ]
+
+    def style_tags_in(self, begin: int, end: int) -> list[Mark]:
+        """Returns the tags of styles that begin from `begin` up to `end`."""
+        first = bisect.bisect_left(self.style_tags, begin, key=lambda it: it.begin)
+        past = bisect.bisect_left(self.style_tags, end, first, key=lambda it: it.begin)
+        return self.style_tags[first:past]
+
+    def span_marks(self) -> Iterator[Mark]:
+        """Yields the tags of spans that were read."""
+        for it in self._tree.of_kind(NodeKind.SPAN_MARK):
+            yield Mark(self._count(it.begin), SPANS[it.b // 2], it.b % 2 == 1)
 
     @cached_property
     def score(self) -> int:

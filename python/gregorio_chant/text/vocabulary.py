@@ -2,6 +2,9 @@
 is no GABC."""
 from __future__ import annotations
 
+# The styles of texts, and the spans that texts begin and end, by the numbers of a tree.
+STYLES = ("b", "c", "e", "i", "sc", "tt", "ul")
+SPANS = ("eu", "nlba")
 # The headers that GregorioTeX's manual names.
 HEADERS = {
     "name": "name of the piece, in most cases its first words; each score has one",
