@@ -12,8 +12,10 @@
  *   - Memory comes from `malloc` and `realloc` and goes back to `free`: all of it has been given back when a call returns. Beside the buffers a
  *     call asks for at most 25 MB at one time, and touches less than 2 MB and as many bytes as its output has, of which 17 MB at most; a step of
  *     a run, under the usual limits, asks for 8 MB and what it writes, and touches about 1 MB and what it writes. Bytes that are no state of the
- *     run cost by their length, whatever limits they name: at most 8 MB up to 64 kB, and in proportion above (measured, not proved). gregorio_tree
- *     asks for at most 210 times the bytes of the score, and touches at most 150 times as many, for most scores 70 (measured, not proved).
+ *     run cost by the longest text in them, whatever limits they name: at most 8 MB up to 64 kB, and in proportion above (measured, not proved).
+ *     gregorio_tree asks for at most 210 times the bytes of the score, and touches at most 150 times as many, for most scores 70 (measured, not
+ *     proved). gregorio_messages asks for 2 MB, twice the bytes of the score and 48 bytes for each error and each warning, told or not, and
+ *     touches about half of that (measured, not proved).
  *   - Threads: calls share nothing, so any number of threads may call at once. Do not call from a signal handler, nor in a child that a
  *     process with threads has forked.
  *   - Platform: x86-64 Linux with glibc (x86-64-v2 or newer). What `tools/build_for` makes: 64-bit ARM Linux with glibc, or x86-64 Windows.

@@ -72,3 +72,19 @@ brought_editors() {
     "EMACSLOADPATH=$lisp/lisp:$lisp/lisp/emacs-lisp:$lisp/lisp/progmodes" "EMACSDATA=$lisp/etc" "EMACSDOC=$lisp/etc" \
     "--dump-file=$(find "$files" -name emacs.pdmp | head -n 1)"
 }
+
+# Brings what is missing of these packages of Debian's: that of a module of Python, which is for Debian's Python, by its name, and that of a command as
+# COMMAND:PACKAGE.
+bring_missing() {
+  local missing=() it
+  python=/usr/bin/python3
+  [ -x "$python" ] || python=python3
+  brought="$room/apt/files/usr/lib/python3/dist-packages"
+  for it in "$@"; do
+    case "$it" in
+      *:*) command -v "${it%%:*}" >/dev/null || missing+=("${it#*:}") ;;
+      *) "$python" -c "import ${it#python3-}" 2>/dev/null || missing+=("$it") ;;
+    esac
+  done
+  [ "${#missing[@]}" = 0 ] || bring "$room/apt" "${missing[@]}" || echo "${0##*/}: ${missing[*]} could not be brought: no apt-get, or no network"
+}

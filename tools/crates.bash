@@ -1,4 +1,5 @@
-# Reads crates.txt, puts crates in the order in which they are built, and says whether what was built is current. For scripts, which source it.
+# Reads crates.txt, puts crates in the order in which they are built, and says how many checks run side by side and whether what was built is current. For
+# scripts, which source it.
 
 # Reads crates.txt of the repository at this folder: `needs` gets each crate, with the crates of the repository that it names.
 declare -A needs=()
@@ -25,6 +26,14 @@ place_crate() {
     place_crate "$below"
   done
   order+=("$1")
+}
+
+# Prints how many checks run side by side: RT_JOBS, if it is set, else one a processor, with 4 GB of free memory for each. A check of one crate takes 3.5 GB at
+# most. By its lines the kit reckons up to 55 GB, and would run one alone.
+lanes() {
+  local fitting
+  fitting="$(awk '/^MemAvailable:/ { print int($2 / 4000000) }' /proc/meminfo)"
+  echo "${RT_JOBS:-$((fitting < 1 ? 1 : fitting < $(nproc) ? fitting : $(nproc)))}"
 }
 
 # Whether the file $2 is there, and no source of these crates of the repository at the folder $1 is newer.

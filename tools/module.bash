@@ -2,8 +2,6 @@
 # and `root`, `kit` and `work`, a folder of their own, are theirs.
 readonly EXPORT=gregorio_c
 module="$root/crates/$EXPORT/out/$EXPORT.bc"
-# shellcheck source=tools/crates.bash
-. "$root/tools/crates.bash"
 # shellcheck source=tools/origin.bash
 . "$root/tools/origin.bash"
 
@@ -15,25 +13,6 @@ step() {
   cat -- "$work/log" >&2
   tell "failed: $1"
   exit 1
-}
-
-# Whether the module that is kept is that of these sources and of this kit.
-is_module_kept() { is_current "$root" "$module" "${order[@]}" && [ "$(cat -- "$module.kit" 2>/dev/null)" = "$(kit_line)" ]; }
-
-# Builds the library for C and takes its module, unless that is kept. It gets the time at which this began, so that what is edited meanwhile is newer.
-take_module() {
-  read_crates "$root"
-  place_crate "$EXPORT"
-  if is_module_kept; then
-    tell "$EXPORT is proved already"
-    return
-  fi
-  touch -- "$work/began"
-  step "$root/tools/build_c"
-  tell "taking the module of $EXPORT, which is kept"
-  step env -C "$root/tools" python3 -B -m house.library_module "$module"
-  kit_line >"$module.kit"
-  touch -r "$work/began" -- "$module"
 }
 
 # The kit's compiler for the target $1, with these further words.

@@ -1,5 +1,5 @@
-/* States of strangers: what bytes cost that are refused, whatever limits they name. Bytes of below 1 kB take at most 0.4 ms, and 0.15 ms for each further kB,
- * and no more than 1 MB of memory, and 8 MB for 64 kB of state, in proportion above.
+/* States of strangers: what bytes cost that are refused, whatever limits they name. Bytes of below 1 kB take at most 0.4 ms, and 0.15 ms for each further kB
+ * (0.25 ms of a syllable that is held), and no more than 1 MB of memory, and 8 MB for 64 kB of state, in proportion above.
  *
  * Linked with --wrap for `malloc`, `realloc` and `free`, which count what is asked for at one time.
  *
@@ -19,6 +19,9 @@ void *__real_realloc(void *old, size_t size);
 void __real_free(void *old);
 
 static size_t held, most;
+
+/* The seconds that each further kB may take. */
+static double each_kilobyte = 0.15e-3;
 
 static void *counted(void *made) {
   held += made == NULL ? 0 : malloc_usable_size(made);
@@ -52,7 +55,7 @@ static size_t state_of(uint32_t format, const uint8_t *input, size_t length) {
 /* Gives the first `length` bytes of `state` to a run under the usual limits, and looks at the answer, the time and the memory. */
 static void refuse(size_t length, uint32_t answer, const char *what, size_t number) {
   struct gregorio_step step;
-  double least = 1e9, allowed = 0.4e-3 + (length > 1024 ? 0.15e-3 * ((double)length / 1024 - 1) : 0);
+  double least = 1e9, allowed = 0.4e-3 + (length > 1024 ? each_kilobyte * ((double)length / 1024 - 1) : 0);
   most = held;
   size_t before = held;
   for (size_t i = 0; i < ROUNDS; i++) {
@@ -103,5 +106,8 @@ int main(void) {
   memcpy(text, "%%\n", 3);
   try_text("64 kB of a text", text, 65000, '<', 5);
   try_text("1 MB of a text", text, 1000000, '<', 6);
+  memcpy(text + 64996, "(f)b", 4);
+  each_kilobyte = 0.25e-3;
+  try_text("64 kB of a syllable that is held", text, 65000, '<', 7);
   return summary("strangers");
 }

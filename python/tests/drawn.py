@@ -5,8 +5,8 @@ from collections.abc import Iterator
 from typing import NamedTuple
 from xml.etree import ElementTree as Xml
 
+from gregorio_chant._native.drawings import drawn
 from gregorio_chant.dump import Score
-from gregorio_chant.pictures.alone import drawn_picture
 from gregorio_chant.pictures.drawing import draw
 from gregorio_chant.pictures.look import Look
 from gregorio_chant.pictures.sheet import Group, Row, sheet_of
@@ -90,7 +90,7 @@ def height_of(pitch: str) -> int:
 
 def rows_of(score: str | bytes, width: float = 700.0) -> tuple[Row, ...]:
     """Returns the rows of the picture of the library."""
-    return sheet_of(drawn_picture(score, width)).rows
+    return tuple(sheet_of(drawn(score, width)).rows)
 
 
 def rows_with(body: str, width: float) -> tuple[Row, ...]:

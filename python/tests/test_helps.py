@@ -54,6 +54,26 @@ HELPS = [
         "W11",
         "the <nlba> at 3:22 is not closed: write </..> after its last syllable",
     ),
+    # What a comment, a raw part or a value of a header holds is neither clef, bracket nor line.
+    ("name: a;\n%%\n% incipit\n(4c) a(f)", "E1", "'4c' is no clef: write c4"),
+    (f"{_NABC}a(f-%(\n)", "E6", "the end of 'f-' is incomplete: finish or remove it"),
+    (
+        f"{_SCORE}Ky(fg% a note\nri(h) e(f)",
+        "E1",
+        "the ( at 3:8 lacks its ): did you mean 'Ky(fg)%'?",
+    ),
+    (
+        f"{_SCORE}<v>a b</v>fg) a(f)",
+        "E2",
+        "')' closes nothing: look for a missing ( before it, or remove it",
+    ),
+    (
+        "name: a;\nbook: x\n %% y\n z;;\nfoo\n%%\n(c4) a(f)",
+        "E4",
+        "'foo' has no colon: a header is name: value;, and the notes follow a line %%",
+    ),
+    # In what is not read a tag is what looks like one.
+    (f"{_SCORE}a(f) b</sp>(g", "W6", "</sp> closes nothing, since no <sp> is open: remove it"),
     (f"{_SCORE}a(g&)", "E1", "'&' is no note and no sign: remove it"),
     (f"{_SCORE}a(g\u00a0)", "E1", "the character U+00A0 is no note and no sign: remove it"),
     (f"{_SCORE}a(g5)", "E1", "'5' is no sign of the note before it: remove it"),

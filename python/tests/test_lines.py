@@ -168,7 +168,7 @@ class Initials(unittest.TestCase):
             ("mode: t. irregularis;", "t. irregularis"),
         ):
             svg = drawn_picture(f"name: x;\n{headers}\n%%\n(c4) Ky(f)ri(g)\n", 400.0)
-            (row,) = sheet_of(svg).rows
+            (row,) = sheet_of(svg.encode()).rows
             letters = "".join(it[3] for it in texts_in(row.signs) if it[3] not in ("-", "K"))
             self.assertEqual(letters, wanted)
         self.assertNotIn("I", texts_of("name: x;\nmode: 1;\nannotation: ;\n%%\n(c4) Ky(f)ri(g)\n"))

@@ -34,12 +34,13 @@ def text_of_script(name: str) -> str:
 
 
 class Claims(unittest.TestCase):
-    """A block is taken by a script of `tools`, by the name of its mark `recipe`, or by its language
-    where it is fenced; by a test of the package, by its whole mark; or by none, and then the page
-    says so."""
+    """A block is taken by a script of `tools` or a trial of `tools/trials`, by the name of its mark
+    `recipe`, or by its language where it is fenced; by a test of the package, by its whole mark; or
+    by none, and then the page says so."""
 
     def setUp(self) -> None:
         self.scripts = texts("tools", "*", "^ *#.*$")
+        self.trials = texts("tools/trials", "test_*.py", "^ *#.*$")
         self.tests = texts("python/tests", "test_*.py", "^ *#.*$")
 
     def is_claimed(self, it: Block) -> bool:
@@ -48,13 +49,10 @@ class Claims(unittest.TestCase):
         if it.mark == "not run":
             return "no test runs" in " ".join(it.words.lower().split())
         if kind == "recipe":
-            return (
-                re.search(
-                    rf"(?:recipe|recipe {re.escape(page)}|name=) ?{re.escape(name)}(?![\w-])",
-                    self.scripts,
-                )
-                is not None
-            )
+            by_script = rf"(?:recipe|recipe {re.escape(page)}|name=) ?{re.escape(name)}(?![\w-])"
+            by_trial = rf'(?:(?:recipe|text)\((?:\w+, )?"|"name=){re.escape(name)}"'
+            taken = (re.search(by_script, self.scripts), re.search(by_trial, self.trials))
+            return any(taken)
         if kind == "score":
             return f'scores_of("{page}")' in self.tests
         if it.mark:

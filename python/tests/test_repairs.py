@@ -55,6 +55,15 @@ REPAIRED: list[tuple[str, str | None]] = [
         f"{_SCORE}<v><b></v><i>a(f) <v><i></v>b(g) c</i>(h)\n",
         f"{_SCORE}<v><b></v><i>a</i>(f) <i><v><i></v>b</i>(g) <i>c</i>(h)\n",
     ),
+    # A sign of a comment, a raw part, an attribute or a space is none of the score.
+    (f"{_SCORE}a>%)\nb(f)\n", f"{_SCORE}a$>%)\nb(f)\n"),
+    (f"{_SCORE}Kyri>% </i>\n(f)\n", f"{_SCORE}Kyri$>% </i>\n(f)\n"),
+    (f"{_SCORE}a><v>)</v>(f) i><v></i></v>(g)\n", f"{_SCORE}a$><v>)</v>(f) i$><v></i></v>(g)\n"),
+    (f"{_SCORE}i>a</i>(g) ri>a</i>(h)\n", None),
+    (f"{_SCORE}a(f%|\n) b(g[x|y]) c(f|) d(f) e(g) f(g) g(f)\n", None),
+    (f"{_SCORE}a(f/[2]V)\n", None),
+    (f"{_SCORE}<v>a b</v>fg) a(f)\n", None),
+    ("name: a;\nmode:\n  VI;;\n%%\n(c4) a(f)\n", "name: a;\nmode:\n  6;;\n%%\n(c4) a(f)\n"),
     (f"{_NABC}a(g|un1) b(h|pesu) % un1\n", f"{_NABC}a(g|un) b(h|pesu) % un1\n"),
     (f"{_SCORE}a(g&) <x>b(h) {{c(i)\n", None),
 ]

@@ -91,6 +91,9 @@ class Rules(unittest.TestCase):
             score = f"name: a;\n%%\n(c4)  {notes}   c(f)"
             places = [it[:2] for it in found(score, "asterisk-without-bar")]
             self.assertEqual(places, [] if is_well else [(3, 7 + notes.index("*"))], notes)
+        # One in a comment or in a raw part is not sung.
+        score = "%%\n(c4) %*\n<v>*</v><alt>*</alt>a*() b(g) (;) c(f)"
+        self.assertEqual([it[:2] for it in found(score, "asterisk-without-bar")], [(3, 22)], score)
 
     def test_clef_off_staff(self) -> None:
         score = "name: a;\nstaff-lines: 3;\n%%\n(cb4) a(f@c3@f4z)\n"

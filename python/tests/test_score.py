@@ -11,6 +11,7 @@ from support import EXAMPLES, ROOT, has, scores_of_tables
 from gregorio_chant import Format, Kind, check, compile
 from gregorio_chant.dump import (
     Attribute,
+    Bar,
     Clef,
     Custos,
     Glyph,
@@ -62,7 +63,24 @@ class Places(unittest.TestCase):
                 it.spelling or isinstance(it, (NoteSnippet, NabcSnippet)), f"an empty {it}"
             )
         self.assertEqual(dump_of(read), compile(score, Format.DUMP).dump, score)
+        self.look_at_notes(read)
         return number
+
+    def look_at_notes(self, score: Score) -> None:
+        """Compares what is asked of all notes at once with what each syllable and note says."""
+        notes = [note for it in score.syllables for note in it.notes]
+        self.assertEqual(list(score.notes), notes)
+        for heights, values in (
+            (score.pitches, [it.height for it in notes]),
+            (score.steps, [NO_STEP if it.step is None else it.step for it in notes]),
+            (score.semitones, [NO_STEP if it.semitones is None else it.semitones for it in notes]),
+        ):
+            self.assertEqual(list(heights), values)
+        glyphs = [glyph for it in score.syllables for glyph in it.glyphs]
+        self.assertEqual([it.notes[0] for it in glyphs], [it for it in notes if it.begins_neume])
+        for it in score.syllables:
+            items = [item for item in it.items if isinstance(item, (Note, Bar))]
+            self.assertEqual(list(it.notes_and_bars), items)
 
     def test_scores_of_the_repository(self) -> None:
         for file in sorted(ROOT.glob("*/*.gabc")):

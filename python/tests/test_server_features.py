@@ -297,6 +297,9 @@ class Completion(Served):
         self.assertEqual(self.labels(f"{head}a(f|p^)")["pe"], ("pes", "(c4) a(f|pe)"))
         self.assertEqual(self.labels(f"{head}a(f|pe^|g")["cl"], ("clivis", "(c4) a(f|pecl|g"))
         self.assertEqual(len(self.labels(f"{head}a(f|pe!^)")), 31)
+        self.assertEqual(self.labels(f"{head}a(f|pe%|x\nc^)")["cl"][1], "cl)")
+        for nothing in ("a$<^", "a$<sp>^", "<v>\\x<^", "<v><sp>^", "a[<^", "<sp>a(^", "a<>^"):
+            self.assertEqual(self.labels(head + nothing), {}, nothing)
         for nothing in ("a(^f)", "a(f|pe|g^)", "a(f[|^])", "a^(f)", "a(f)^", "% <^", "a(f % |^\n)"):
             self.assertEqual(self.labels(head + nothing), {}, nothing)
         self.assertEqual(self.labels("name: a;\n%%\n(c4) a(f|^)"), {})

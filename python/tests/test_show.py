@@ -343,6 +343,24 @@ class Output(InFolder):
             ran = command("show", "-o", output, "a.gabc")
             self.assertEqual((ran.returncode, b"Traceback" in ran.stderr), (4, False), output)
 
+    def test_nothing_can_be_read(self) -> None:
+        """If no score can be read, as one that is too long for its tree, nothing is written, and
+        what was there stays; if one of several cannot, the others are shown."""
+        self.put("long.gabc", b"%%\n" + b"(g)" * 2_700_000)
+        self.put("old.html", "old")
+        reason = b"cannot read long.gabc: it has 8,100,003 bytes, and the limit for this is 8,000,"
+        for name, told in (("long.gabc", reason), ("no.gabc", b"cannot read no.gabc: No such")):
+            for words in (("-o", "page.html"), ("-o", "pages/"), ("--svg", "-o", "old.html"), ()):
+                ran = command("show", *words, name)
+                self.assertEqual((ran.returncode, ran.stdout), (4, b""), words)
+                self.assertIn(told, ran.stderr)
+        self.assertEqual(sorted(it.name for it in Path(".").iterdir()), ["long.gabc", "old.html"])
+        self.assertEqual(Path("old.html").read_text(), "old")
+        self.put("a.gabc", SCORE)
+        ran = command("show", "-o", "page.html", "long.gabc", "a.gabc")
+        self.assertEqual((ran.returncode, reason in ran.stderr), (4, True))
+        self.assertEqual(Page(Path("page.html").read_text()).tags.count("section"), 1)
+
 
 class Times(unittest.TestCase):
     def test_one_kilobyte(self) -> None:

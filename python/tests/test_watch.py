@@ -62,7 +62,7 @@ class Watching(InFolder):
 
     def test_file(self) -> None:
         """A score that is written, or put in the place of the old one, is shown anew; other files
-        change nothing."""
+        change nothing, and if there is no score the page stays."""
         self.put("a.gabc", SCORE)
         self.watch("-o", "page.html", "a.gabc")
         self.assertEqual(Path("page.html").read_bytes(), command("show", "a.gabc").stdout)
@@ -80,7 +80,8 @@ class Watching(InFolder):
         self.assert_still()
         os.unlink("a.gabc")
         self.wait("cannot read a.gabc")
-        self.wait("wrote")
+        self.assert_still()
+        self.assertIn("Nothing was found", Path("page.html").read_text())
         self.put("a.gabc", FAULTY)
         self.wait("wrote")
         self.assertIn("left out of the notes", Path("page.html").read_text())

@@ -1,14 +1,12 @@
-"""Writes the module of LLVM that the proved library for C is compiled of. The prover is called as
-for the library itself, with a folder of the kit's compilers whose `clang` keeps the module before
-it compiles it.
+"""Proves and builds the library for C, and keeps the module of LLVM that it is compiled of beside
+it. The prover is called as for the library alone, with a folder of the kit's compilers whose
+`clang` keeps the module before it compiles it.
 
-As a program: `library_module.py FILE`, by its whole path. The status is 0 where the library was
-proved, FILE is its module, and the archive that came of it is the one that `tools/build_c` keeps;
-else 1."""
+As a program: `library_module.py FILE`, by its whole path. The status is 0 if the library stands,
+and FILE is its module; else 1."""
 
 from __future__ import annotations
 
-import filecmp
 import os
 import shutil
 import sys
@@ -41,30 +39,27 @@ def stand_in(kit: str, folder: str, module: str) -> str:
 
 
 def build(crate: Crate, kit: str, module: str) -> bool:
-    """Proves and builds the library's archive by the stand-in, and returns whether that is the
-    archive that is kept."""
-    kept, call = f"{crate.folder}/out/lib{CRATE}.a", crate.call
+    """Proves and builds the library's archive by the stand-in, and returns whether both stand."""
+    call = crate.call
     with tempfile.TemporaryDirectory() as folder:
-        archive = f"{folder}/lib{CRATE}.a"
         compilers = stand_in(kit, folder, module)
-        words = {f"{kit}/toolchain": compilers, f"out/lib{CRATE}.a": archive}
 
         def call_of_stand_in(*given: str) -> int:
-            return call(*(words.get(it, it) for it in given))
+            return call(*(compilers if it == f"{kit}/toolchain" else it for it in given))
 
         setattr(crate, "call", call_of_stand_in)
-        return not crate.build_static([]) and filecmp.cmp(archive, kept, shallow=False)
+        return not crate.build_static([]) and os.path.exists(module)
 
 
 def main(words: list[str]) -> int:
-    """Writes the module into the file, and returns the exit status."""
+    """Proves and builds the library, writes its module into the file, and returns the exit
+    status."""
     (file,) = words
     rt = load("rt")
     crate = crate_named(rt, ROOT, CRATE)
     with tempfile.TemporaryDirectory() as folder:
         made = f"{folder}/module.bc"
-        is_proved = are_built(crate, True) and build(crate, rt.rtlib.KIT, made)
-        if not (is_proved and os.path.exists(made)):
+        if not (are_built(crate, True) and build(crate, rt.rtlib.KIT, made)):
             return 1
         shutil.move(made, file)
     return 0

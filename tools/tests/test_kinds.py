@@ -1,5 +1,5 @@
 """The kinds of nodes are the same, with the same numbers, wherever they are listed. The list of
-`crates/gabc_tree/src/kind.rt` counts."""
+`crates/gabc_nodes/src/kind.rt` counts."""
 
 from __future__ import annotations
 
@@ -32,7 +32,7 @@ def numbered(names: Iterable[str]) -> list[tuple[int, str]]:
 
 def kinds() -> list[str]:
     """Returns the names of the kinds, in the order of their numbers."""
-    text = declared(r"pub enum Kind \{\n(.*?)\n\}", "crates/gabc_tree/src/kind.rt")
+    text = declared(r"pub enum Kind \{\n(.*?)\n\}", "crates/gabc_nodes/src/kind.rt")
     return re.findall(r"(?m)^    ([A-Z]\w*),$", text)
 
 
@@ -50,7 +50,7 @@ class KindsTest(unittest.TestCase):
 
     def test_definitions_have_their_numbers(self) -> None:
         found = pairs(
-            r"(?m)^number_of kind\.(\w+) = (\d+)$", read("crates/gabc_tree/specs/Kind.antt")
+            r"(?m)^number_of kind\.(\w+) = (\d+)$", read("crates/gabc_nodes/specs/Kind.antt")
         )
         self.assertEqual(found, numbered(self.kinds))
 

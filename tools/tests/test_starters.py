@@ -22,8 +22,8 @@ runpy.run_module("house.{name}", run_name="__main__", alter_sys=True)
 class StartersTest(unittest.TestCase):
     def setUp(self) -> None:
         paths = {it: os.path.join(TOOLS, it) for it in os.listdir(TOOLS)}
-        files = {name: read(it) for name, it in paths.items() if os.path.isfile(it)}
-        self.starters = {it: text for it, text in files.items() if "run_module" in text}
+        self.files = {name: read(it) for name, it in paths.items() if os.path.isfile(it)}
+        self.starters = {it: text for it, text in self.files.items() if "run_module" in text}
 
     def test_each_starts_the_module_of_its_name(self) -> None:
         self.assertIn("believe", self.starters)
@@ -33,7 +33,7 @@ class StartersTest(unittest.TestCase):
 
     def test_each_module_that_has_a_script_is_started(self) -> None:
         modules = {it[:-3] for it in os.listdir(f"{TOOLS}/house") if it.endswith(".py")}
-        scripts = {it for it in os.listdir(TOOLS) if os.access(f"{TOOLS}/{it}", os.X_OK)}
+        scripts = {it for it in self.files if os.access(f"{TOOLS}/{it}", os.X_OK)}
         self.assertEqual({*modules} & scripts, set(self.starters))
 
     def test_a_script_gives_its_arguments_and_the_exit_status(self) -> None:

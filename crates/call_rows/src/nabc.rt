@@ -8,10 +8,10 @@ use crate::restored;
 use crate::show::show_spelled;
 use crate::texts::show_chars;
 use gabc_nabc::{
-    Descriptor, GlyphCode, NabcStage, codes_in, codes_into, descriptors_into, descriptors_whole,
-    is_nabc, kept_chars, nabc_whole, name_of, parts_in, regular_nabc,
+    Descriptor, GlyphCode, NabcStage, codes_in, descriptors_into, descriptors_whole, is_nabc,
+    kept_chars, nabc_whole, name_of, parts_in, regular_nabc,
 };
-use gabc_places::{Place, Room, Span, Stage, outputs_of};
+use gabc_places::{Place, Room, Sequence, Span, Stage, outputs_of};
 use std::alloc::{AllocError, Global};
 
 /// Prints the kept text, the end and the findings of a snippet.
@@ -76,10 +76,12 @@ fn answer_codes(
         out.put("no span");
         return Ok(());
     }
-    let mut room = Room::with_limit(alloc, span.to - span.from)?;
+    let mut codes = Sequence::new(alloc);
     let space = false;
-    codes_into(input, Descriptor { space, span }, &mut room);
-    show_codes(room.slice(), out);
+    for code in codes_in(input, Descriptor { space, span }) {
+        codes.push(code)?;
+    }
+    show_codes(codes.as_slice(), out);
     Ok(())
 }
 

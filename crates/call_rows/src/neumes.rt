@@ -6,11 +6,11 @@ use crate::call::Call;
 use crate::printed::Printed;
 use crate::show::show_span;
 use gabc_neumes::{
-    Glyph, cut, elements, glyph_from, is_in_element, is_in_segment, kind_of, notes_into, segments,
+    Glyph, cut, elements, glyph_from, is_in_element, is_in_segment, kind_of, segments,
     word_of_base, word_of_shape, word_of_tail,
 };
 use gabc_notes::{Item, Note, is_snippet, items_in, items_whole, note_of};
-use gabc_places::{Room, Span};
+use gabc_places::{Room, Sequence, Span};
 use std::alloc::{AllocError, Global};
 
 /// Prints the number of the spans and the spans.
@@ -50,6 +50,19 @@ fn show_glyphs(alloc: Global, notes: &[Note], out: &mut Printed) -> Result<(), A
     Ok(())
 }
 
+/// Returns the notes among items of `kept`.
+fn notes_of(alloc: Global, kept: &str, items: &[Item]) -> Result<Sequence<Note>, AllocError>
+    requires { AreWithin kept.now items.now }
+{
+    let mut notes = Sequence::new(alloc);
+    for item in items {
+        if let Some(note) = note_of(kept, *item) {
+            notes.push(note)?;
+        }
+    }
+    Ok(notes)
+}
+
 /// Prints the glyphs of the segment that has these items.
 fn show_segment(
     alloc: Global,
@@ -59,9 +72,8 @@ fn show_segment(
 ) -> Result<(), AllocError>
     requires { AreWithin kept.now part.now }
 {
-    let mut notes = Room::with_limit(alloc, part.len())?;
-    notes_into(kept, part, &mut notes);
-    show_glyphs(alloc, notes.slice(), out)
+    let notes = notes_of(alloc, kept, part)?;
+    show_glyphs(alloc, notes.as_slice(), out)
 }
 
 /// Prints the number of the segments, and the glyphs of each.
@@ -138,11 +150,10 @@ fn answer_notes(
 ) -> Result<(), AllocError>
     requires { AreWithin kept.now items.now }
 {
-    let mut notes = Room::with_limit(alloc, items.len())?;
-    notes_into(kept, items, &mut notes);
+    let notes = notes_of(alloc, kept, items)?;
     match call {
-        "kind_of" => show_kind(notes.slice(), out),
-        "words" => show_words(notes.slice(), out),
+        "kind_of" => show_kind(notes.as_slice(), out),
+        "words" => show_words(notes.as_slice(), out),
         _ => out.refuse(),
     }
     Ok(())

@@ -4,7 +4,7 @@ use Rattle.gabc_marks.specs.Heads.{shown_by_parts}
 use Rattle.gabc_marks.specs.declared.picture.Picture.{Picture}
 use Rattle.gabc_svg.specs.Page.{page_of}
 use Rattle.gabc_svg.specs.Xml.{written}
-use Rattle.gabc_tree.specs.declared.node.Node.{Node}
+use Rattle.gabc_nodes.specs.declared.node.Node.{Node}
 use Rattle.gabc_draw.specs.Pitches.{shown_of_nodes}
 
 -- its groups show what the tree is to show: the syllables in their order, each with its bytes; and

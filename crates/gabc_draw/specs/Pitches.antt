@@ -2,9 +2,9 @@
 use Rattle.std.specs.Prelude.{ℕ, ◌%◌, List, [], ◌∷◌, ◌++◌, replicate}
 use Rattle.gabc_marks.specs.Heads.{Bytes, Shown, Syllable, notes_of}
 use Rattle.gabc_pen.specs.Notes.{times_of_shape}
-use Rattle.gabc_tree.specs.declared.kind.Kind.{Kind}
-use Rattle.gabc_tree.specs.declared.kind.Kind.TheVariants as kind
-use Rattle.gabc_tree.specs.declared.node.Node.{Node}
+use Rattle.gabc_nodes.specs.declared.kind.Kind.{Kind}
+use Rattle.gabc_nodes.specs.declared.kind.Kind.TheVariants as kind
+use Rattle.gabc_nodes.specs.declared.node.Node.{Node}
 
 -- the pitches of a note with these numbers: its height once for each time that it sounds
 abbrev pub pitches_of_note : ℕ → ℕ → List ℕ

@@ -5,8 +5,8 @@
 use crate::sheet::Sheet;
 use gabc_lettering::ABOVE_SIZE;
 use gabc_marks::{Distance, Level, Sign, Styles, Words, text_between, text_width};
+use gabc_nodes::{Kind, Node};
 use gabc_pen::{Curve, CurveKind, CurveRole, Drawn, height_of_step, thousandths_of};
-use gabc_tree::{Kind, Node};
 use std::alloc::AllocError;
 
 /// The units of TeX, in ten-millionths of a millimetre.

@@ -2,7 +2,7 @@
 //! its parts.
 
 ghost use Rattle.std.specs.Prelude.{◌≡◌, ◌++◌, [], OnOk, IfOk};
-ghost use Rattle.gabc_tree.specs.declared.kind.Kind.TheVariants as Kind;
+ghost use Rattle.gabc_nodes.specs.declared.kind.Kind.TheVariants as Kind;
 ghost use Rattle.gabc_draw.specs.Pitches.{bytes_of_node, bytes_after, shown_of_kind, shown_after, shown_of_nodes};
 ghost use Rattle.gabc_draw.specs.machine.Desk.{bytes_of_group, shown_by_group, shown_by_groups, shown_on};
 
@@ -10,8 +10,8 @@ use crate::group::Group;
 use crate::measures::{Measures, Place};
 use crate::pitches::Pitches;
 use crate::sheet::Sheet;
+use gabc_nodes::{Kind, Node};
 use gabc_pen::{GlyphKind, Note, Planned, plan_notes, write_neume};
-use gabc_tree::{Kind, Node};
 use std::alloc::{AllocError, Global};
 
 /// A desk: the groups that are ended and the one that is begun, the notes of the neume that is

@@ -13,10 +13,10 @@ use gabc_lettering::{
     Initial, Language, Mark, Marks, header, initial_rows, put_mark_lines, put_title, take_letter,
 };
 use gabc_marks::{Distance, Picture, spaces};
+use gabc_nodes::Node;
 use gabc_pen::hands_of;
 use gabc_places::{Put, valid_front};
 use gabc_svg::put_picture;
-use gabc_tree::Node;
 use std::alloc::{AllocError, Global};
 
 /// The least width of a picture.

@@ -1,5 +1,5 @@
-//! Draws a score: from its tree (`gabc_tree`) to the display list of a picture (`gabc_marks`), and
-//! to its text (`gabc_svg`).
+//! Draws a score: from the nodes of its tree (`gabc_nodes`) to the display list of a picture
+//! (`gabc_marks`), and to its text (`gabc_svg`).
 //!
 //! The nodes of the tree are gone over once ([`draw`]): each note gets a head at the height of its
 //! pitch, and each syllable a part, at the desk (`desk`), by the pen of `gabc_pen`, with its text

@@ -1,6 +1,6 @@
 //! Which pitches follow the notes of a score.
 
-use gabc_tree::{Kind, Node};
+use gabc_nodes::{Kind, Node};
 use std::alloc::{AllocError, Global};
 
 /// The pitch of a note, and the first pitch after it that is another one.

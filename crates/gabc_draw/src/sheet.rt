@@ -5,11 +5,11 @@ use crate::marks::PartMark;
 use crate::measures::{LineEnd, Measures, Place};
 use gabc_lettering::{Language, Lettering, Mark, WordLine};
 use gabc_marks::{Distance, Extent, height_of, spaces, text_between};
+use gabc_nodes::{Kind, Node};
 use gabc_pen::{
     Clef, Hands, Nabc, PUNCTUM, Pen, SnippetNote, custos, distance_of, height_of_step,
     put_alteration, put_around, put_bar, put_signs,
 };
-use gabc_tree::{Kind, Node};
 use std::alloc::{AllocError, Global};
 
 /// What a block is.

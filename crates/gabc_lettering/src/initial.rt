@@ -4,7 +4,7 @@
 use crate::runs::{Run, WordLine, add_runs, lines_of};
 use crate::title::{header, headers};
 use gabc_marks::{Distance, Level, Levels, Sign, Styles, Words, spaces, text_width};
-use gabc_tree::Node;
+use gabc_nodes::Node;
 use std::alloc::{AllocError, Global};
 
 /// The sizes of the letter before one row and before two, and of the annotations.

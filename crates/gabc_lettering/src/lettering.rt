@@ -3,7 +3,7 @@
 use crate::language::{Language, base_letter, first_vowel};
 use crate::runs::{Run, WordLine, front_within, lines_of};
 use gabc_marks::{Distance, Level, Sign, Styles, Words, styled_width, text_between, text_width};
-use gabc_tree::{Kind, Node};
+use gabc_nodes::{Kind, Node};
 use std::alloc::{AllocError, Global};
 
 /// The size of the sung text, of a translation, and of a text over the staff.

@@ -1,4 +1,4 @@
-//! Writes the texts of a picture: from the nodes of a tree (`gabc_tree`) to words (`gabc_marks`).
+//! Writes the texts of a picture: from the nodes of a tree (`gabc_nodes`) to words (`gabc_marks`).
 //!
 //! The text of a syllable is read node by node ([`Lettering`]), and put so that its vowel
 //! (`language`) stands under the first note. The values of headers are runs of letters in one style

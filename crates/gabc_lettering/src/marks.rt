@@ -1,8 +1,8 @@
 //! The messages of a score in its picture: their codes over the rows, or in lines of their own.
 
 use gabc_marks::{Distance, Level, Sign, Styles, Words, spaces, text_width};
+use gabc_nodes::{Kind, Node};
 use gabc_places::{Code, Severity};
-use gabc_tree::{Kind, Node};
 use std::alloc::AllocError;
 
 /// A message that a picture shows: its code, and the byte of the score at which it stands, from 0.

@@ -3,7 +3,7 @@
 
 use crate::runs::{Run, Side, add_runs, lines_of};
 use gabc_marks::{Distance, Level, Sign, Styles, spaces, text_between};
-use gabc_tree::{Kind, Node};
+use gabc_nodes::{Kind, Node};
 use std::alloc::{AllocError, Global};
 
 const NAME_SIZE: Distance = Distance(2000);

@@ -1,12 +1,10 @@
 //! The codes of a descriptor's glyphs.
 
 ghost use Rattle.std.specs.Prelude.{◌≡◌, ◌<◌, ◌≤◌, ◌-◌, length, option_to_list};
-ghost use Rattle.gabc_places.specs.BoundedList.{Fits, extended_by};
 ghost use Rattle.gabc_nabc.specs.Codes.{code_at, codes_of};
 
 use crate::code::GlyphCode;
 use crate::descriptor::Descriptor;
-use gabc_places::Room;
 use std::marker::Model;
 
 /// Returns the code whose second letter is the byte `at` of `text`, from 1, if one stands there.
@@ -68,8 +66,8 @@ impl<'a> Iterator for CodeReader<'a> {
 
 /// Returns an iterator over the codes of the glyphs of `part`, in order: the two letters at its
 /// start and after each `!`. A space has none. They are at most as many as `part` has bytes. The
-/// span of `part` has to lie within `kept`, as that of each part of `parts_in` does. It asks for no
-/// memory.
+/// span of `part` has to lie within `kept`, as that of each part of `parts_in` does. It does not
+/// allocate.
 pub fn codes_in(kept: &str, part: Descriptor) -> CodeReader<'_>
     requires order { part.span.from ≤ part.span.to }
     requires within { part.span.to ≤ length kept.now }
@@ -81,18 +79,4 @@ pub fn codes_in(kept: &str, part: Descriptor) -> CodeReader<'_>
         false => &kept.as_bytes()[part.span.from..part.span.to],
     };
     CodeReader { text, at: 1 }
-}
-
-/// Adds to `out` the codes of the glyphs of `part`, as `codes_in` gives them, and asks for no
-/// memory. The span of `part` has to lie within `kept`, and `out` to take as many codes more as
-/// `part` has bytes.
-pub fn codes_into(kept: &str, part: Descriptor, out: &mut Room<GlyphCode>)
-    requires order { part.span.from ≤ part.span.to }
-    requires within { part.span.to ≤ length kept.now }
-    requires room { Fits out.old (part.span.to - part.span.from) }
-    ensures { out.new ≡ extended_by out.old (codes_of kept.now part) }
-{
-    for code in codes_in(kept, part) {
-        out.push(code);
-    }
 }

@@ -10,9 +10,9 @@
 //! - `nabc_whole` reads the snippet with which a text begins: its kept text, its findings and its
 //!   end. `kept_chars` gives the characters of that kept text with their places in the source.
 //! - `is_nabc` says whether a text is an NABC snippet. `parts_in` goes over its descriptors and
-//!   spaces, and `codes_in` over the codes of one of them; `descriptors_whole`, `descriptors_into`
-//!   and `codes_into` gather them. Spans count its bytes. `name_of` names a code. `regular_nabc`
-//!   says how far a text is an NABC snippet in which nothing is left out or found.
+//!   spaces, which `descriptors_whole` and `descriptors_into` gather, and `codes_in` over the codes
+//!   of one of them. Spans count its bytes. `name_of` names a code. `regular_nabc` says how far a
+//!   text is an NABC snippet in which nothing is left out or found.
 //! - `NabcStage` reads the characters of a snippet one at a time. `NabcStage::in_comment` says what
 //!   matters of a stage beside the text that it kept (`specs/witness/Keeps.antt`). What becomes of
 //!   a character, and what is found with it, is said by what is kept before it in
@@ -58,7 +58,7 @@ mod whole;
 
 pub use chars::kept_chars;
 pub use code::GlyphCode;
-pub use codes::{CodeReader, codes_in, codes_into};
+pub use codes::{CodeReader, codes_in};
 pub use descriptor::{Descriptor, Descriptors};
 pub use descriptors::{PartReader, descriptors_into, descriptors_whole, parts_in};
 pub use kept::is_nabc;

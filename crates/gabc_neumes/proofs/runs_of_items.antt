@@ -1,5 +1,5 @@
 pub mod InnerSpacings
-pub mod NotesAmongItems
+pub mod NotesOfFirstSegment
 pub mod RunsAreOne
 pub mod RunsHoldWhatPasses
 pub mod RunsOneByOne

@@ -1,13 +1,12 @@
 //! The neumes of a snippet of notes: the elements and segments into which its items fall, and the
 //! glyphs into which the notes of a segment are cut; and how each note of a score sounds. No call
-//! asks for memory.
+//! allocates.
 //!
 //! - Dividers are blanks, `/`, `//`, `/[..]`, bars, clefs, custodes and breaks; `!`, `/0` and `/!`
 //!   are none. `elements` adds the elements of a snippet: as many items in a row as have no divider
 //!   among them.
 //! - `segments` adds the segments: as many notes, attributes and fusion marks in a row as there
-//!   are. Each lies in one element. `notes_into` adds the notes among the items of one.
-//!   `is_in_element` and `is_in_segment` say so of one item.
+//!   are. Each lies in one element. `is_in_element` and `is_in_segment` say so of one item.
 //! - `kind_of` says which neume some notes are, if they are one. The neumes are the rows of one
 //!   table (`specs/Table.antt`), which reads like the printed one. `cut` adds the glyphs of a
 //!   segment: each is the longest neume that begins where the one before it ends. `glyph_from`
@@ -22,15 +21,19 @@
 //!   `sign_of` reads an alteration; an `Alter` is printed as its word (`word_of_alter`).
 //! - `laws` has what follows of the definitions.
 //!
-//! Spans count items from 0, and glyphs count notes from 0. No call asks for memory.
+//! Spans count items from 0, and glyphs count notes from 0. No call allocates.
 //!
 //! ```
 //! let items = items_whole(alloc, kept)?; // of `hG/fgf!g`
 //! elements(kept, items.as_slice(), &mut spans);
 //! assert_eq!(rt; spans.slice(), [first, second].as_slice()); // items 0 to 2, and 3 to 8
 //! let part = items.as_slice().get(3..6).ok_or("no such items")?;
-//! notes_into(kept, part, &mut notes);
-//! cut(notes.slice(), &mut glyphs);
+//! for item in part {
+//!     if let Some(note) = note_of(kept, *item) {
+//!         notes.push(note)?;
+//!     }
+//! }
+//! cut(notes.as_slice(), &mut glyphs);
 //! assert_eq!(rt; glyphs.slice(), [glyph].as_slice()); // a torculus: 3 notes from note 0 on
 //! ```
 //!
@@ -50,7 +53,6 @@ mod glyph;
 mod glyphs;
 mod kind;
 pub mod laws;
-mod notes;
 mod runs;
 mod sound;
 mod state;
@@ -60,7 +62,6 @@ pub use alterations::{Alterations, sign_of};
 pub use glyph::{Base, Glyph, GlyphKind, Tail};
 pub use glyphs::{cut, glyph_from};
 pub use kind::kind_of;
-pub use notes::notes_into;
 pub use runs::{elements, is_in_element, is_in_segment, segments};
 pub use sound::{Alter, Clef, Sound, degree};
 pub use words::{word_of_alter, word_of_base, word_of_shape, word_of_tail};

@@ -62,7 +62,8 @@ fn begins_with_signed_pitch(text: &[u8]) -> bool
 }
 
 /// Returns the longest item that begins `text`: its kind, and how many bytes it has. Many items are
-/// one pitch, alone or with a sign, so these are found first.
+/// one pitch, alone or with a sign, so these are found first: else a dump takes 8 % more
+/// instructions for the plain score, and 39 % more for `notes` (docs/BENCHMARKS.md).
 #[inline(always)]
 fn first_item(text: &str) -> Option<(ItemKind, usize)>
     ensures found { IfSome result (λ i. IsFirstItem text.now i.0 i.1) }
@@ -127,7 +128,7 @@ impl<'a> Model for ItemReader<'a> {
 
 impl<'a> ItemReader<'a> {
     /// Returns an iterator over the items that are still to come, to look ahead. It takes none of
-    /// them, and asks for no memory.
+    /// them, and does not allocate.
     pub fn ahead(&self) -> ItemReader<'a>
         ensures { result ≡ self.now }
     {
@@ -164,7 +165,7 @@ impl<'a> Iterator for ItemReader<'a> {
 /// the longest that begins where the one before it ends. They make up all of a snippet, as
 /// `is_snippet` says so; what `snippet_whole` keeps is one wherever the snippet ended. Of another
 /// text they go as far as an item begins. They lie in `kept`, and are at most as many as its bytes.
-/// It asks for no memory, and each item is read when it is asked for.
+/// It does not allocate, and each item is read when it is asked for.
 pub fn items_in(kept: &str) -> ItemReader<'_>
     ensures items { result ≡ items_of kept.now }
     ensures within { AreWithin kept.now (items_of kept.now) }
@@ -173,7 +174,7 @@ pub fn items_in(kept: &str) -> ItemReader<'_>
     ItemReader { rest: kept, at: 0 }
 }
 
-/// Returns the items of `kept`, as `items_in` gives them. It fails only for want of memory.
+/// Returns the items of `kept`, as `items_in` gives them. It fails only on allocation failure.
 pub fn items_whole(alloc: Global, kept: &str) -> Result<Items, AllocError>
     ensures items { IfOk result (λ items. AreItemsOf kept.now items) }
     ensures within { IfOk result (λ items. AreWithin kept.now items) }
@@ -187,8 +188,8 @@ pub fn items_whole(alloc: Global, kept: &str) -> Result<Items, AllocError>
     Ok(items)
 }
 
-/// Adds to `out` the items of `kept`, as `items_in` gives them, and asks for no memory. `out` has
-/// to take as many items more as `kept` has bytes.
+/// Adds to `out` the items of `kept`, as `items_in` gives them, and does not allocate. `out` has to
+/// take as many items more as `kept` has bytes.
 pub fn items_into(kept: &str, out: &mut Room<Item>)
     requires { Fits out.old (length kept.now) }
     ensures items { out.new ≡ extended_by out.old (items_of kept.now) }
@@ -211,7 +212,7 @@ fn is_note_or_clef(kind: ItemKind) -> bool
 }
 
 /// Returns which comes first among the items of `kept`, as `items_in` gives them: a note or a clef.
-/// Where neither is among them it returns `None`. It asks for no memory.
+/// If neither is among them it returns `None`. It does not allocate.
 pub fn first_note_or_clef(kept: &str) -> Option<ItemKind>
     ensures { result ≡ first_of (items_of kept.now) }
 {

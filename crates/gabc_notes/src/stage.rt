@@ -5,7 +5,7 @@ ghost use Rattle.gabc_places.specs.declared.place.Char.{Char};
 ghost use Rattle.gabc_places.specs.BoundedList.{Fits, extended_by};
 ghost use Rattle.gabc_places.specs.StageLaw.{Pushes, StopsAtEnd};
 ghost use Rattle.gabc_notes.specs.declared.stage.CharFacts.{CharFacts};
-ghost use Rattle.gabc_notes.specs.machine.ItemMachine.{IsShortStep, raw_state, facts_by_states, prefix_after, stage_after, stage_kept};
+ghost use Rattle.gabc_notes.specs.machine.ItemMachine.{IsShortStep, facts_by_states, prefix_after, stage_after};
 ghost use Rattle.gabc_notes.specs.witness.ItemMachine.{events_left};
 ghost use Rattle.gabc_notes.specs.machine.StageAfter.{stage_after_one};
 ghost use Rattle.gabc_notes.specs.StageReports.{opener_of, comment_of};
@@ -20,8 +20,7 @@ use crate::macro_prefix::{MacroPrefix, defines, digit_of_prefix, prefix_with};
 use crate::state::{ItemState, is_attribute, is_raw, is_whole, next_state, short_step};
 use gabc_places::{Char, Code, Finding, Place, Room, Stage};
 
-/// How a snippet ends. A place is that of the bracket that is open; line 0 and column 0 where none
-/// is.
+/// How a snippet ends. A place is that of the open bracket; line 0 and column 0 if none is open.
 #[derive(Clone, Copy, Debug, PartialEq, Eq)]
 pub enum NoteEnd {
     /// At a `|`.
@@ -50,17 +49,17 @@ impl NoteEnd {
 pub enum NoteEvent {
     /// A character that is kept.
     Kept(Char),
-    /// What was found, with its place.
+    /// A finding, with its place.
     Found(Finding),
     /// The end, after which nothing more comes: how the snippet ended, and how many bytes its kept
     /// text has, without an unfinished end; of a cut snippet the bytes kept so far.
     Ended { how: NoteEnd, kept: usize },
 }
 
-/// What a `NoteStage` puts out.
+/// The events of a `NoteStage`.
 pub type NoteOut = NoteEvent;
 
-/// What is known of a character where it stands.
+/// Facts about a character in its context.
 #[derive(Clone, Copy)]
 pub(crate) struct CharFacts {
     /// The kept text lies inside raw.
@@ -77,7 +76,7 @@ pub(crate) struct CharFacts {
     pub(crate) digit: Option<u8>,
 }
 
-/// What stands before a character, beside the kept text.
+/// The context before a character, beside the kept text.
 #[derive(Clone, Copy)]
 pub(crate) struct Before {
     /// The place of the last character kept outside raw: inside raw, of the bracket that opened it.
@@ -91,7 +90,7 @@ pub(crate) struct Before {
     pub(crate) whole: usize,
 }
 
-/// What becomes of a character.
+/// The role of a character.
 #[derive(Clone, Copy)]
 pub(crate) enum CharRole {
     /// It is part of a comment.
@@ -104,7 +103,7 @@ pub(crate) enum CharRole {
     LeaveOut,
 }
 
-/// Returns what is known of a character, by the state before it and the next one, if there is one.
+/// Returns the facts about a character, by the state before it and the next one, if there is one.
 fn look(state: ItemState, next: Option<ItemState>, name: MacroPrefix) -> CharFacts
     ensures { result ≡ facts_by_states state next name }
 {
@@ -123,7 +122,7 @@ fn look(state: ItemState, next: Option<ItemState>, name: MacroPrefix) -> CharFac
     }
 }
 
-/// Returns what becomes of a character.
+/// Returns the role of a character.
 fn role_of(split: bool, comment: bool, facts: CharFacts, c: char) -> CharRole
     ensures { result ≡ role_in split comment facts c }
 {
@@ -165,7 +164,7 @@ fn warning(macros: u16, before: Before, facts: CharFacts, x: Char) -> Option<Not
 }
 
 impl Before {
-    /// Goes past a character that is kept.
+    /// Updates the context for a kept character.
     fn keep(&mut self, facts: CharFacts, x: Char)
         ensures { self.new ≡ before_in CharRole.Keep self.old facts x }
     {
@@ -182,7 +181,7 @@ impl Before {
         self.comment = false;
     }
 
-    /// Goes past a character with this role.
+    /// Updates the context for a character with this role.
     fn pass(&mut self, role: CharRole, facts: CharFacts, x: Char)
         ensures { self.new ≡ before_in role self.old facts x }
     {
@@ -224,7 +223,7 @@ fn emit_end(before: Before, whole: bool, x: Char, out: &mut Room<NoteEvent>)
     });
 }
 
-/// Emits what a character brings that has this role.
+/// Emits the events of a character with this role.
 fn emit(
     role: CharRole,
     macros: u16,
@@ -250,7 +249,7 @@ fn emit(
     }
 }
 
-/// Returns what the open bracket holds after a character that is kept, if one is open there.
+/// Returns the content of the open bracket after a kept character, if one is open there.
 fn prefix_after(facts: CharFacts, name: MacroPrefix, c: char) -> MacroPrefix
     ensures { result ≡ prefix_after facts name c }
 {
@@ -262,8 +261,8 @@ fn prefix_after(facts: CharFacts, name: MacroPrefix, c: char) -> MacroPrefix
 }
 
 /// Reads a snippet (GregorioRef, "Notation — Note Syntax"): emits each character that is kept, the
-/// findings as they become known, and the end. A call emits at most 3 events. It asks for no
-/// memory. The call that ends it changes nothing else of it, and after that none changes it.
+/// findings as they become known, and the end. A call emits at most 3 events. It does not
+/// allocate. The call that ends it changes nothing else of it, and after that none changes it.
 #[derive(Drop)]
 pub struct NoteStage {
     split: bool,
@@ -279,7 +278,7 @@ impl NoteStage {
     /// too. The bit `d` of `macros`, from 0 to 9, says that the macro of the digit `d` is defined.
     /// It has kept the empty text, and no bracket and no comment is open. A call emits at most 3
     /// events: of a character that it is kept, if it is, and what is found there; of the mark that
-    /// ends the snippet what is found, and the end; where the characters end before it, that they
+    /// ends the snippet what is found, and the end; if the characters end before it, that they
     /// were cut. After the end nothing is emitted, and the stage stays as it is.
     pub fn new(split: bool, macros: u16) -> NoteStage
         ensures events { (xs : List Char) →
@@ -333,23 +332,10 @@ impl NoteStage {
         self.advance(role, facts, next, x);
     }
 
-    /// Goes past a character on the short way to `next`. This does what `advance` does, without its
-    /// tests.
-    #[inline(always)]
-    fn pass_short(&mut self, next: ItemState, x: Char)
-        requires comment { self.old.before.comment ≡ false }
-        requires step { IsShortStep self.old.state x.c next }
-        ensures { self.new ≡ stage_kept self.old next x }
-    {
-        let kept = self.before.kept.saturating_add(1);
-        self.before.kept = kept;
-        self.before.whole = kept;
-        self.before.place = x.place;
-        self.name = MacroPrefix::Closed;
-        self.state = next;
-    }
-
-    /// Reads a character on the short way to `next`. This does what `read` does, without its tests.
+    /// Reads a character that `short_step` brings to `next`. This does what `read` does, without
+    /// its tests: long snippets of notes take 12 % more instructions if all their characters are
+    /// read by `read` (`notes` in docs/BENCHMARKS.md), since runs leave the last snippet of a piece
+    /// to this.
     fn read_short(&mut self, next: ItemState, x: Char, out: &mut Room<NoteEvent>)
         requires fits { Fits out.old 3 }
         requires runs { self.old.ended ≡ false }
@@ -360,43 +346,16 @@ impl NoteStage {
         ensures end { StopsAtEnd is_ended (events_left self.new) out.old out.new }
     {
         out.push(NoteEvent::Kept(x));
-        self.pass_short(next, x);
+        let kept = self.before.kept.saturating_add(1);
+        self.before.kept = kept;
+        self.before.whole = kept;
+        self.before.place = x.place;
+        self.name = MacroPrefix::Closed;
+        self.state = next;
     }
 
-    /// Reads the `)` that ends the snippet. This does what `read` does, without its tests.
-    fn read_close(&mut self, x: Char, out: &mut Room<NoteEvent>)
-        requires fits { Fits out.old 3 }
-        requires runs { self.old.ended ≡ false }
-        requires comment { self.old.before.comment ≡ false }
-        requires outside { raw_state self.old.state ≡ false }
-        requires close { x.c ≡ 41 }
-        ensures state { self.new ≡ stage_after_one self.old x }
-        ensures events { Pushes (events_left self.old) (events_left self.new) x 3 out.old out.new }
-        ensures end { StopsAtEnd is_ended (events_left self.new) out.old out.new }
-    {
-        emit_end(self.before, is_whole(self.state), x, out);
-        self.ended = true;
-    }
-
-    /// Reads a character inside raw that does not end it. This does what `read` does, without its
-    /// tests.
-    fn read_within(&mut self, x: Char, out: &mut Room<NoteEvent>)
-        requires fits { Fits out.old 3 }
-        requires runs { self.old.ended ≡ false }
-        requires comment { self.old.before.comment ≡ false }
-        requires inside { raw_state self.old.state ≡ true }
-        requires other { (x.c == 93) ≡ false }
-        ensures state { self.new ≡ stage_after_one self.old x }
-        ensures events { Pushes (events_left self.old) (events_left self.new) x 3 out.old out.new }
-        ensures end { StopsAtEnd is_ended (events_left self.new) out.old out.new }
-    {
-        out.push(NoteEvent::Kept(x));
-        self.before.kept = self.before.kept.saturating_add(x.c.len_utf8());
-        self.name = prefix_with(self.name, x.c);
-    }
-
-    /// Returns the place of the `[` that is open: inside raw one is. The end of the stage leaves it
-    /// as it was.
+    /// Returns the place of the open `[`: inside raw one is open. The end of the stage leaves it as
+    /// it was.
     pub fn opener(&self) -> Option<Place>
         ensures { result ≡ opener_of self.now }
     {
@@ -444,16 +403,9 @@ impl Stage for NoteStage {
         if self.ended {
             return;
         }
-        if self.before.comment {
-            self.read(x, out);
-        } else if let Some(next) = short_step(self.state, x.c) {
-            self.read_short(next, x, out);
-        } else if is_raw(self.state) && x.c != ']' {
-            self.read_within(x, out);
-        } else if x.c == ')' && !is_raw(self.state) {
-            self.read_close(x, out);
-        } else {
-            self.read(x, out);
+        match short_step(self.state, x.c) {
+            Some(next) if !self.before.comment => self.read_short(next, x, out),
+            _ => self.read(x, out),
         }
     }
 

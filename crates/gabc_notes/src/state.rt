@@ -18,7 +18,7 @@ pub(crate) enum FullItem {
     Fusion,
 }
 
-/// Where an item stands after some of its characters.
+/// The state of the item machine.
 #[derive(Clone, Copy)]
 pub(crate) enum ItemState {
     /// Between items.
@@ -65,7 +65,7 @@ pub(crate) enum ItemState {
     Done(FullItem),
 }
 
-/// Returns where an item stands after its first character, if that may begin one.
+/// Returns the state after the first character of an item, if that may begin one.
 fn begins(class: CharClass) -> Option<ItemState>
     ensures { result ≡ begun_item class }
 {
@@ -88,7 +88,7 @@ fn begins(class: CharClass) -> Option<ItemState>
     }
 }
 
-/// Returns where an item stands that goes on after a small pitch.
+/// Returns the state after a small pitch and a character more, if the item goes on.
 fn on_pitch(class: CharClass) -> Option<ItemState>
     ensures { result ≡ in_pitch class }
 {
@@ -101,7 +101,7 @@ fn on_pitch(class: CharClass) -> Option<ItemState>
     }
 }
 
-/// Returns where a bar stands with a character more, if it goes on.
+/// Returns the state after a bar and a character more, if it goes on.
 fn on_bar(class: CharClass) -> Option<ItemState>
     ensures { result ≡ in_bar class }
 {
@@ -113,7 +113,7 @@ fn on_bar(class: CharClass) -> Option<ItemState>
     }
 }
 
-/// Returns where a break stands with a character more, if it goes on.
+/// Returns the state after a break and a character more, if it goes on.
 fn on_break(class: CharClass) -> Option<ItemState>
     ensures { result ≡ in_break class }
 {
@@ -123,7 +123,7 @@ fn on_break(class: CharClass) -> Option<ItemState>
     }
 }
 
-/// Returns where the item stands with a character more, if it goes on.
+/// Returns the state after a character more, if the item goes on.
 #[inline(always)]
 pub(crate) fn goes_on(state: ItemState, class: CharClass) -> Option<ItemState>
     ensures { result ≡ going_on state class }
@@ -175,7 +175,7 @@ pub(crate) fn goes_on(state: ItemState, class: CharClass) -> Option<ItemState>
     }
 }
 
-/// Returns where the reading stands if the item ended at its longest so far.
+/// Returns the state of the reading if the item ended at its longest so far.
 fn falls_back(state: ItemState) -> Option<ItemState>
     ensures { result ≡ falling_back state }
 {
@@ -187,7 +187,7 @@ fn falls_back(state: ItemState) -> Option<ItemState>
     }
 }
 
-/// Returns where the reading stands with a character more: the item goes on, or a new one begins.
+/// Returns the state after a character more: the item goes on, or a new one begins.
 fn goes_on_again(state: ItemState, class: CharClass) -> Option<ItemState>
     ensures { result ≡ next_or_begun state class }
 {
@@ -197,8 +197,8 @@ fn goes_on_again(state: ItemState, class: CharClass) -> Option<ItemState>
     }
 }
 
-/// Returns where the reading stands with a character more: the item goes on, or it ended at its
-/// longest and the reading goes on from there.
+/// Returns the state after a character more: the item goes on, or it ended at its longest and the
+/// reading goes on from there.
 #[inline(always)]
 pub(crate) fn next_state(state: ItemState, class: CharClass) -> Option<ItemState>
     ensures { result ≡ next_state state class }
@@ -232,9 +232,9 @@ fn goes_on_note(state: ItemState) -> bool
     }
 }
 
-/// Returns where the reading stands after a character, on a short way for those that most notes
-/// have: a pitch but `b` that begins one, a frequent suffix or sign that goes on with one, a bar, a
-/// space, or `x`.
+/// Returns the state after a character, if it is one of those that most notes have: a pitch but `b`
+/// that begins one, a frequent suffix or sign that goes on with one, a bar, a space, or `x`.
+/// Without this `alterations` take 11 % more instructions in runs (docs/BENCHMARKS.md).
 #[inline(always)]
 pub(crate) fn short_step(state: ItemState, c: char) -> Option<ItemState>
     ensures { IfSome result (λ next. IsShortStep state c next) }

@@ -8,6 +8,15 @@ use crate::note::Note;
 use gabc_marks::{Distance, Head, NoteHead, Single};
 use std::alloc::AllocError;
 
+/// The heads of a note: their outline, where the first of them begins, and how far right of the one
+/// before each further one does.
+#[derive(Clone, Copy, Debug)]
+pub(crate) struct HeadRow {
+    pub single: Single,
+    pub x: Distance,
+    pub stride: Distance,
+}
+
 /// Adds a head at `x`, whose first note has this `pitch`.
 #[tactic(auto, using(crate::proofs::HeadsJoin::joined))]
 pub(crate) fn push_head(
@@ -23,23 +32,20 @@ pub(crate) fn push_head(
     Ok(())
 }
 
-/// Adds a head for each time that `note` sounds: the first at `x`, and each further one as far
-/// right of the one before as `stride` says.
+/// Adds a head for each time that `note` sounds, as `row` says.
 #[tactic(auto, using(crate::proofs::HeadsJoin::joined))]
 pub(crate) fn push_note(
-    single: Single,
+    row: HeadRow,
     note: Note,
-    x: Distance,
-    stride: Distance,
     heads: &mut Vec<NoteHead>,
 ) -> Result<(), AllocError>
     ensures { OnOk result (pitches_of_heads heads.new.items
         ≡ pitches_of_heads heads.old.items ++ pitches_of_note note) }
 {
-    let mut at = x;
+    let mut at = row.x;
     for _ in 0..note.times {
-        push_head(Head::Single(single), at, note.pitch, heads)?;
-        at += stride;
+        push_head(Head::Single(row.single), at, note.pitch, heads)?;
+        at += row.stride;
     }
     Ok(())
 }

@@ -1,4 +1,4 @@
-//! Draws what stands in one syllable: from the nodes of a tree (`gabc_tree`) to heads and signs
+//! Draws what stands in one syllable: from the nodes of a tree (`gabc_nodes`) to heads and signs
 //! (`gabc_marks`).
 //!
 //! A pen writes neumes (`pen`, `neume`), by how their notes follow one another (`plan`) and by the

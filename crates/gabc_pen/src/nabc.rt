@@ -6,7 +6,7 @@ use crate::nabc_rows::{NabcRows, PerLine, Reach, add_reach};
 use gabc_marks::{
     Distance, Extent, Hand, Level, NabcLine, Sign, Styles, Words, spaces, text_between, text_width,
 };
-use gabc_tree::{Kind, Node};
+use gabc_nodes::{Kind, Node};
 use std::alloc::{AllocError, Global};
 
 /// The size of what is written as its text, and its reach.

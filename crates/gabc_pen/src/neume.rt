@@ -1,14 +1,14 @@
 //! Neumes.
 
 ghost use Rattle.std.specs.Prelude.{◌≡◌, ◌≤◌, ◌-◌, ◌++◌, ◌∷◌, [], length, OnOk, IfOk, IfSome};
-ghost use Rattle.gabc_marks.specs.Heads.{pitches_of_heads, pitches_of_family};
+ghost use Rattle.gabc_marks.specs.Heads.{pitches_of_heads};
 ghost use Rattle.gabc_pen.specs.Notes.{pitches_of_note, pitches_of_planned};
 
 use crate::heads::push_head;
 use crate::outline::joined_outline;
 use crate::pen::{Drawn, PUNCTUM, Pen, STROKE_FOOT};
 use crate::plan::{GlyphKind, Joint, Planned, fall_between};
-use gabc_marks::{Distance, Head, Joined, NoteHead, height_of};
+use gabc_marks::{Distance, Head, NoteHead, height_of};
 use std::alloc::AllocError;
 
 /// Returns by how many steps the broad stroke falls that shows just `first` and `second`, if
@@ -51,22 +51,6 @@ fn write_next<'p>(
     }
     pen.write_note(first, more.first().copied(), heads)?;
     Ok(more)
-}
-
-/// Writes the notes of `planned`, each by itself or as a broad stroke.
-fn write_notes(
-    planned: &[Planned],
-    pen: &mut Pen<'_>,
-    heads: &mut Vec<NoteHead>,
-) -> Result<(), AllocError>
-    ensures { OnOk result (pitches_of_heads heads.new.items
-        ≡ pitches_of_heads heads.old.items ++ pitches_of_planned planned.now) }
-{
-    let mut rest = planned;
-    while let [first, more @ ..] = rest {
-        rest = write_next(*first, more, pen, heads)?;
-    }
-    Ok(())
 }
 
 /// Returns how many notes of a neume stand before its tail, and before each note by itself.
@@ -141,31 +125,37 @@ fn note_columns(planned: &[Planned], width: Distance, pen: &mut Pen<'_>) -> Resu
     Ok(())
 }
 
-/// Writes the notes of `planned`, of which the first has this `pitch`, as the outline `joined`.
-fn write_joined(
-    joined: Joined,
-    pitch: u8,
-    planned: &[Planned],
+/// Writes the first notes of a neume of this `kind` by one outline, if there is one, and returns
+/// the notes of `planned` that are left.
+#[tactic(auto, using(crate::proofs::HeadsJoin::joined))]
+fn write_front<'p>(
+    kind: GlyphKind,
+    planned: &'p [Planned],
     pen: &mut Pen<'_>,
     heads: &mut Vec<NoteHead>,
-) -> Result<(), AllocError>
-    requires { pitches_of_planned planned.now
-        ≡ pitches_of_family joined.family pitch joined.first joined.second joined.third }
-    ensures { OnOk result (pitches_of_heads heads.new.items
+) -> Result<&'p [Planned], AllocError>
+    ensures { IfOk result (λ rest. pitches_of_heads heads.new.items ++ pitches_of_planned rest.now
         ≡ pitches_of_heads heads.old.items ++ pitches_of_planned planned.now) }
 {
+    let (front, rest) = planned.split_at(front_of(planned));
+    let [first, _, ..] = front else {
+        return Ok(planned);
+    };
+    let pitch = first.note.pitch;
+    let Some(joined) = joined_outline(kind, pitch, front) else {
+        return Ok(planned);
+    };
     let head = Head::Joined(joined);
     let outline = head.metrics();
     push_head(head, pen.x, pitch, heads)?;
-    note_columns(planned, outline.width, pen)?;
+    note_columns(front, outline.width, pen)?;
     pen.reach(height_of(pitch), outline);
     pen.x += outline.width;
-    Ok(())
+    Ok(rest)
 }
 
 /// Writes a neume of this `kind`: its first notes by one outline, if there is one, and each other
-/// note by itself.
-#[tactic(auto, using(crate::proofs::HeadsJoin::joined))]
+/// note by itself or as a part of a broad stroke.
 pub fn write_neume(
     kind: GlyphKind,
     planned: &[Planned],
@@ -175,14 +165,9 @@ pub fn write_neume(
     ensures { OnOk result (pitches_of_heads heads.new.items
         ≡ pitches_of_heads heads.old.items ++ pitches_of_planned planned.now) }
 {
-    let (front, rest) = planned.split_at(front_of(planned));
-    let [first, _, ..] = front else {
-        return write_notes(planned, pen, heads);
-    };
-    let pitch = first.note.pitch;
-    let Some(joined) = joined_outline(kind, pitch, front) else {
-        return write_notes(planned, pen, heads);
-    };
-    write_joined(joined, pitch, front, pen, heads)?;
-    write_notes(rest, pen, heads)
+    let mut rest = write_front(kind, planned, pen, heads)?;
+    while let [first, more @ ..] = rest {
+        rest = write_next(*first, more, pen, heads)?;
+    }
+    Ok(())
 }

@@ -3,7 +3,7 @@
 ghost use Rattle.std.specs.Prelude.{◌≡◌, ◌%◌};
 ghost use Rattle.gabc_pen.specs.Notes.{times_of_shape};
 
-use gabc_tree::Node;
+use gabc_nodes::Node;
 
 /// The shape of a note (GregorioRef, "One-Note Neumes").
 #[derive(Clone, Copy, Debug, PartialEq, Eq)]

@@ -5,7 +5,7 @@ ghost use Rattle.gabc_marks.specs.Heads.{pitches_of_heads, pitches_shown};
 ghost use Rattle.gabc_marks.specs.declared.head.Head.TheVariants as Head;
 ghost use Rattle.gabc_pen.specs.Notes.{pitches_of_note};
 
-use crate::heads::{push_head, push_note};
+use crate::heads::{HeadRow, push_head, push_note};
 use crate::note::{Liquescence, Note, Shape};
 use crate::outline::{plain_head, whole};
 use crate::plan::{Joint, Planned};
@@ -172,85 +172,65 @@ impl<'a> Pen<'a> {
         Ok(())
     }
 
-    /// Draws what belongs to each head of `note`, of which the first begins at `x`.
-    fn around_heads(
-        &mut self,
-        note: Note,
-        x: Distance,
-        width: Distance,
-        stride: Distance,
-    ) -> Result<(), AllocError> {
-        let mut at = x;
+    /// Draws what belongs to each head of `note`, which stand as `row` says.
+    fn around_heads(&mut self, note: Note, row: HeadRow) -> Result<(), AllocError> {
+        let mut at = row.x;
         for _ in 0..note.times {
-            self.around_head(note, at, width)?;
-            at += stride;
+            self.around_head(note, at, row.single.metrics().width)?;
+            at += row.stride;
         }
         Ok(())
     }
 
-    /// Writes a note that one outline is, as often as it sounds.
-    fn write_whole(
-        &mut self,
-        single: Single,
-        note: Note,
-        heads: &mut Vec<NoteHead>,
-    ) -> Result<(), AllocError>
-        ensures { OnOk result (pitches_of_heads heads.new.items
-            ≡ pitches_of_heads heads.old.items ++ pitches_of_note note) }
-    {
-        let first = self.x;
-        let stride = single.metrics().width + BETWEEN;
-        push_note(single, note, first, stride, heads)?;
-        let width = stride.times(i32::from(note.times)) - BETWEEN;
-        self.note(note, first, width, single.metrics())?;
+    /// Notes that `note` was drawn, with heads as `row` says, and goes to its end.
+    fn pass(&mut self, note: Note, row: HeadRow) -> Result<(), AllocError> {
+        let width = row.stride.times(i32::from(note.times)) - BETWEEN;
+        self.note(note, self.x, width, row.single.metrics())?;
         self.x += width;
         Ok(())
     }
 
-    /// Writes a note as a head, as often as it sounds, with what belongs to it.
-    fn write_alone(
-        &mut self,
-        single: Single,
-        note: Note,
-        heads: &mut Vec<NoteHead>,
-    ) -> Result<(), AllocError>
-        ensures { OnOk result (pitches_of_heads heads.new.items
-            ≡ pitches_of_heads heads.old.items ++ pitches_of_note note) }
-    {
-        let left = self.x;
+    /// Places a note that one outline is, as often as it sounds, and returns its heads.
+    fn place_whole(&mut self, single: Single, note: Note) -> Result<HeadRow, AllocError> {
+        let row = HeadRow {
+            single,
+            x: self.x,
+            stride: single.metrics().width + BETWEEN,
+        };
+        self.pass(note, row)?;
+        Ok(row)
+    }
+
+    /// Places a note with what belongs to it, as often as it sounds, and returns its heads.
+    fn place_alone(&mut self, single: Single, note: Note) -> Result<HeadRow, AllocError> {
         let margin = if note.is_lined {
             Distance(160)
         } else {
             Distance::ZERO
         };
-        let width = single.metrics().width;
-        let stride = width + margin + margin + BETWEEN;
-        push_note(single, note, left + margin, stride, heads)?;
-        self.around_heads(note, left + margin, width, stride)?;
-        let whole = stride.times(i32::from(note.times)) - BETWEEN;
-        self.tail(note, left + whole)?;
-        self.note(note, left, whole, single.metrics())?;
-        self.x += whole;
-        Ok(())
+        let row = HeadRow {
+            single,
+            x: self.x + margin,
+            stride: single.metrics().width + margin + margin + BETWEEN,
+        };
+        self.around_heads(note, row)?;
+        self.pass(note, row)?;
+        self.tail(note, self.x)?;
+        Ok(row)
     }
 
-    /// Writes a punctum inclinatum.
-    fn write_diamond(
-        &mut self,
-        single: Single,
-        note: Note,
-        heads: &mut Vec<NoteHead>,
-    ) -> Result<(), AllocError>
-        ensures { OnOk result (pitches_of_heads heads.new.items
-            ≡ pitches_of_heads heads.old.items ++ pitches_of_note note) }
-    {
+    /// Places a punctum inclinatum, and returns its heads.
+    fn place_diamond(&mut self, single: Single, note: Note) -> Result<HeadRow, AllocError> {
         let room = self.room_before_diamond(note);
         self.x += room;
-        let width = single.metrics().width;
-        push_note(single, note, self.x, width, heads)?;
-        self.note(note, self.x, width, single.metrics())?;
-        self.x += width;
-        Ok(())
+        let row = HeadRow {
+            single,
+            x: self.x,
+            stride: single.metrics().width,
+        };
+        self.note(note, row.x, row.stride, single.metrics())?;
+        self.x += row.stride;
+        Ok(row)
     }
 
     /// Returns what stands before a punctum inclinatum: less after another one, and if it is a step
@@ -271,16 +251,8 @@ impl<'a> Pen<'a> {
         }
     }
 
-    /// Writes a note over the one before.
-    fn write_over(
-        &mut self,
-        single: Single,
-        note: Note,
-        heads: &mut Vec<NoteHead>,
-    ) -> Result<(), AllocError>
-        ensures { OnOk result (pitches_of_heads heads.new.items
-            ≡ pitches_of_heads heads.old.items ++ pitches_of_note note) }
-    {
+    /// Places a note over the one before, and returns its heads.
+    fn place_over(&mut self, single: Single, note: Note) -> Result<HeadRow, AllocError> {
         let y = height_of(note.pitch);
         let right = self.drawn.last().map_or(self.x, |below| below.right());
         let is_near = self.drawn.last().is_some_and(|below| below.y() - y == STEP);
@@ -291,11 +263,15 @@ impl<'a> Pen<'a> {
             single
         };
         self.join(right, y)?;
-        push_note(single, note, right - width, Distance::ZERO, heads)?;
         self.tail(note, right)?;
-        self.note(note, right - width, width, single.metrics())?;
+        let row = HeadRow {
+            single,
+            x: right - width,
+            stride: Distance::ZERO,
+        };
+        self.note(note, row.x, width, single.metrics())?;
         self.mark_covering();
-        Ok(())
+        Ok(row)
     }
 
     /// Notes that the last note stands over the one before.
@@ -307,29 +283,25 @@ impl<'a> Pen<'a> {
         }
     }
 
-    /// Writes a note that is no part of a stroke, is not over another one and is no inclinatum.
-    /// `next` is the note after it.
-    fn write_head(
+    /// Places a note that is no part of a stroke, is not over another one and is no inclinatum, and
+    /// returns its heads. `next` is the note after it.
+    fn place_head(
         &mut self,
         planned: Planned,
         next: Option<Planned>,
         single: Single,
-        heads: &mut Vec<NoteHead>,
-    ) -> Result<(), AllocError>
-        ensures { OnOk result (pitches_of_heads heads.new.items
-            ≡ pitches_of_heads heads.old.items ++ pitches_of_note planned.note) }
-    {
+    ) -> Result<HeadRow, AllocError> {
         let note = planned.note;
         self.begin_head(planned, next)?;
         let is_single = planned.joint == Joint::Virga || planned.joint == Joint::Alone;
         match (planned.joint, whole(as_virga(planned))) {
-            (_, Some(outline)) if is_single => self.write_whole(outline, note, heads),
+            (_, Some(outline)) if is_single => self.place_whole(outline, note),
             (Joint::Virga, _) if !note.shape.is_virga() => {
                 let x = self.x + single.metrics().width - STEM;
                 self.stem(x, height_of(note.pitch), Distance(1300))?;
-                self.write_alone(single, note, heads)
+                self.place_alone(single, note)
             }
-            _ => self.write_alone(single, note, heads),
+            _ => self.place_alone(single, note),
         }
     }
 
@@ -364,11 +336,12 @@ impl<'a> Pen<'a> {
     {
         let single = under(planned, next);
         self.x += room_for_next(single, next);
-        match planned.joint {
-            Joint::Over => self.write_over(single, planned.note, heads),
-            Joint::Diamond => self.write_diamond(single, planned.note, heads),
-            _ => self.write_head(planned, next, single, heads),
-        }
+        let row = match planned.joint {
+            Joint::Over => self.place_over(single, planned.note)?,
+            Joint::Diamond => self.place_diamond(single, planned.note)?,
+            _ => self.place_head(planned, next, single)?,
+        };
+        push_note(row, planned.note, heads)
     }
 
     /// Writes a broad stroke that falls by `fall` steps, and shows the notes `first` and `second`.

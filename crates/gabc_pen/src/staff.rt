@@ -4,7 +4,7 @@ use crate::episemata::{ICTUS, THIN};
 use crate::pen::Pen;
 use crate::rhythm::height_of_step;
 use gabc_marks::{Distance, Symbol};
-use gabc_tree::Node;
+use gabc_nodes::Node;
 use std::alloc::AllocError;
 
 /// How far over the staff the signs of a bar stand.

@@ -10,6 +10,7 @@ pub mod RegularSyllableIsMade
 pub mod RegularSyllableIsRead
 pub mod RegularSyllablePasses
 pub mod SlicesAreRead
+pub mod SnippetsInARow
 pub mod SpellingIsShort
 pub mod StagesReadRegularSyllables
 pub mod UnitIsGathered

@@ -1,7 +1,7 @@
 pub mod MachinesPassAgain
 pub mod MachinesReadAgain
 pub mod NextIsKept
-pub mod OpenersAreTold
+pub mod OpenersAreReported
 pub mod PartsAreOne
 pub mod PartsReadAgain
 pub mod SameButHeld
@@ -9,13 +9,13 @@ pub mod ScoresAgree
 pub mod StagesAgree
 pub mod StagesMove
 pub mod StatesAgree
-pub mod StatesStand
+pub mod ReachableStatesMeetInvariant
 pub mod CharactersGathered
 pub mod ReadOneByOne
-pub mod MadeOfEvents
-pub mod HeldIsRead
+pub mod SyllablesOfEvents
+pub mod OneSyllableByCharacters
 pub mod NothingIsRead
-pub mod HeldIsHeld
+pub mod MachineHoldsByDefinition
 pub mod AfterSyllables
 pub mod ResumedIsOfText
 pub mod BeginsAnywhere

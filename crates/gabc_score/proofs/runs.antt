@@ -7,8 +7,9 @@ pub mod RunEnds
 pub mod RunGives
 pub mod RunGoesOn
 pub mod RunIsTaken
-pub mod SameStands
+pub mod MachineStaysBetween
 pub mod SlicesOfFound
-pub mod StandsThere
+pub mod MachineStandsBetween
 pub mod Throughs
 pub mod Waits
+pub mod NoneIsJoined

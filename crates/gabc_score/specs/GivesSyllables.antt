@@ -20,8 +20,8 @@ use Rattle.gabc_score.specs.witness.ScoreStage.{ScoreStageState, left_of}
 abbrev pub text_inputs : Place → List ℕ → List HeadEvent
 text_inputs at t = map (λ (x : Char). head_event.Body x) (placed_characters_from at t)
 
--- the place of the next character after these, the first of which stands at `at`; after none, where
--- the next one stood before
+-- the place of the next character after these, the first of which stands at `at`; after none, the
+-- place where the next one stood before
 abbrev pub next_after : Place → List ℕ → Place → Place
 next_after at [] before = before
 next_after at (c ∷ cs) before = place_past at (c ∷ cs)

@@ -34,7 +34,7 @@ module _ (m n : UnplacedSyllable) where
   AreSameLists (os ∷ lists) (ps ∷ others) = AreSameOutputs os ps × AreSameLists lists others
   AreSameLists _ _ = ⊥
 
--- of a syllable that is held or none: none is, or the one is equivalent to the other
+-- of a held syllable or none: there is none, or the one is equivalent to the other
 abbrev pub HoldTheSame : Bool → Option UnplacedSyllable → Option UnplacedSyllable → Type 0
 HoldTheSame first None None = Unit {0}
 HoldTheSame first (Some m) (Some n) = IsEquivalentSyllable first m n

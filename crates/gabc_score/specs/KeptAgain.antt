@@ -24,7 +24,7 @@ is_inside InText kept = is_cut (reverse (tokens kept))
 is_inside (InNotes line) kept = (line == 0) && in_raw kept
 
 -- Read by itself all of the text is kept, and no syllable is whole. A comment is open after it only
--- where a `%` begins one. The openers say what else is open, wherever they stand.
+-- if a `%` begins one. The openers say what else is open, wherever they stand.
 pub record IsKeptAgain (lines macros : ℕ) (t : List ℕ) (openers : Openers) (comment : Bool) : Type 0 where
   pub kept : (let r = (read_alone lines macros t).reading in r.before ++ r.kept) ≡ t
   pub none : (read_alone lines macros t).made ≡ []

@@ -7,6 +7,7 @@ pub mod HeldAgain
 pub mod KeptAgain
 pub mod NoNotes
 pub mod RegularSyllable
+pub mod SaysScore
 pub mod SpelledSyllable
 pub mod Resumed
 pub mod ReadAgain

@@ -1,5 +1,5 @@
 -- Regular syllables: those that are read as they stand, and in which nothing is found.
-use Rattle.std.specs.Prelude.{◌≡◌, ℕ, zero, suc, List, [], ◌∷◌, ◌++◌, length, map, Bool, true, false, cond, encode_utf8_all}
+use Rattle.std.specs.Prelude.{◌≡◌, ℕ, zero, suc, ◌+◌, List, [], ◌∷◌, ◌++◌, length, map, Bool, true, false, cond, encode_utf8_all}
 use Rattle.gabc_places.specs.StageLaw.{concat_of}
 use Rattle.gabc_places.specs.declared.place.Place.{Place}
 use Rattle.gabc_places.specs.declared.place.Char.{Char}
@@ -11,7 +11,7 @@ use Rattle.gabc_nabc.specs.Regular as nabc
 use Rattle.gabc_body.specs.declared.events.BodyEvent.{BodyEvent}
 use Rattle.gabc_body.specs.Body.{events_onto, findings_of}
 use Rattle.gabc_body.specs.Canonical.{canonical, translation_text}
-use Rattle.gabc_body.specs.Syllable.{UnplacedSyllable, text_at}
+use Rattle.gabc_body.specs.Syllable.{UnplacedSyllable, snippet_at, text_at}
 use Rattle.gabc_body.specs.declared.snippets.Snippet.{Snippet}
 use Rattle.gabc_body.specs.Events.{texts_by_definition, text_from, next_line, after_mark, events_from}
 use Rattle.gabc_body.specs.UnitRead.{GivesOneSyllable, emitted_through}
@@ -81,9 +81,9 @@ unit_at at r = let begun = after_part at (r.gap ++ r.text) 40 in record {
 
 -- ---- what is emitted
 
--- Where a text begins with the syllable at a place, and other characters follow it, a list is
--- emitted for each of its characters, and then what a text emits that begins with the others, after
--- the `)`. Nothing is found in the syllable.
+-- If a text begins with the syllable at a place, and other characters follow it, a list is emitted
+-- for each of its characters, and then what a text emits that begins with the others, after the
+-- `)`. Nothing is found in the syllable.
 pub record IsReadAsItStands (lines macros : ℕ) (at : Place) (r : SyllableParts) (xs : List Char) : Type 0 where
   pub emitted : List (List BodyEvent)
   pub events_are : let all = placed_characters_from at (spelled r) ++ xs in
@@ -117,7 +117,17 @@ abbrev pub with_lines : ℕ → ℕ → List (List ℕ) → List ℕ → List (�
 with_lines lines line [] final = (line, encode_utf8_all final) ∷ []
 with_lines lines line (s ∷ nexts) final = (line, encode_utf8_all s) ∷ with_lines lines (next_line lines line) nexts final
 
--- those of a syllable
+-- snippets of these bytes, each with its line, one after another with a mark between them, from
+-- this byte on
+abbrev pub spans_from : ℕ → List (ℕ × List ℕ) → List Snippet
+spans_from at [] = []
+spans_from at (t ∷ texts) = snippet_at t.0 at t.1 ∷ spans_from (at + length t.1 + 1) texts
+
+-- those of a syllable: the first stands after what is kept of its text and a `(`
+abbrev pub snippets_spelled : ℕ → SyllableParts → List Snippet
+snippets_spelled lines r = spans_from (length (encode_utf8_all (gap_kept r.gap ++ r.text)) + 1) (with_lines lines 0 r.nexts r.final)
+
+-- the bytes of a syllable's snippets, each with its line
 abbrev pub line_and_text : List ℕ → Snippet → ℕ × List ℕ
 line_and_text kept s = (s.line, text_at s.span kept)
 
@@ -132,8 +142,9 @@ pub record SaysText (m : UnplacedSyllable) (t : List ℕ) : Type 0 where
   pub translation : translation_text m.kept m.text.translation ≡ encode_utf8_all (translation_part t)
 
 -- The syllable gives one syllable with its last character, after whatever was emitted before, and
--- nothing is found in it. It keeps its spelling, with one blank where there are some before its
--- text, and its spelling is its canonical text: text and translation, and each snippet on its line.
+-- nothing is found in it. It keeps its spelling, with one blank if there are some before its text,
+-- and its spelling is its canonical text: text and translation, and each snippet on its line and in
+-- its place.
 pub record MakesItsSpelling (lines macros : ℕ) (at : Place) (r : SyllableParts) (before : List BodyEvent) : Type 0 where
   pub one : GivesOneSyllable lines macros at (unit_at at r) [] before
   pub nothing : findings_of (emitted_through lines macros at (unit_at at r) [] before) ≡ findings_of before
@@ -142,3 +153,4 @@ pub record MakesItsSpelling (lines macros : ℕ) (at : Place) (r : SyllableParts
   pub canonical_is : (starts : Bool) → canonical starts one.made ≡ encode_utf8_all (canonical_spelled starts r)
   pub text_is : SaysText one.made r.text
   pub snippets_are : snippet_texts one.made ≡ with_lines lines 0 r.nexts r.final
+  pub spans_are : one.made.snippets ≡ snippets_spelled lines r

@@ -81,6 +81,6 @@ ReportsText s = s.part ≡ score_part.Body → IsReportOfText s
 
 -- ---- whatever comes in
 
--- in the body none is held only where no syllable was given
+-- in the body none is held only if no syllable was given
 abbrev pub HoldsIfAny : ScoreStageState → Type 0
 HoldsIfAny s = s.part ≡ score_part.Body → held_of s ≡ None → s.before.syllables ≡ 0

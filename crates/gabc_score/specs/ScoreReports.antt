@@ -22,7 +22,7 @@ abbrev pub in_body : {A : Type 0} → ScorePart → A → Option A
 in_body score_part.Body told = Some told
 in_body part told = None
 
--- what stands before the syllable that is held, or before the one that is read where none is held
+-- what stands before the held syllable, or, if none is held, before the one that is read
 abbrev pub before_with : BodyStageState → Preceding → Before
 before_with body p = record {
   nabc_lines = body.nabc_lines;
@@ -36,7 +36,7 @@ before_with body p = record {
 abbrev pub before_of : ScoreStageState → Option Before
 before_of s = in_body s.part (before_with s.body s.before)
 
--- the syllable that is held, if one is
+-- the held syllable, if there is one
 abbrev pub held_in_body : ScorePart → List UnplacedSyllable → Option UnplacedSyllable
 held_in_body score_part.Body (m ∷ ms) = Some m
 held_in_body part made = None
@@ -71,7 +71,7 @@ abbrev pub is_in_front : BodyPart → Bool
 is_in_front part.Comment = true
 is_in_front part = false
 
--- It stands in front of the first text, where no syllable is whole and nothing is read of one.
+-- It stands in front of the first text: no syllable is whole, and nothing is read of one.
 pub record IsInFront (s : ScoreStageState) : Type 0 where
   pub front : is_in_front s.body.part ≡ true
   pub none_before : s.before.syllables ≡ 0

@@ -80,7 +80,7 @@ next_past score_part.Heads (head_event.Heads lines macros canonical) next = firs
 next_past score_part.Body (head_event.Body x) next = saturating_next_place x.place x.c
 next_past part x next = next
 
--- How many syllables may be whole after an input, where n were: none after the headers, one
+-- How many syllables may be whole after an input, if n were before: none after the headers, one
 -- more after a character.
 abbrev pub most_whole : ScorePart → HeadEvent → ℕ → ℕ
 most_whole score_part.Heads (head_event.Heads lines macros canonical) n = 0
@@ -103,7 +103,7 @@ IsHere x next = Unit {0}
 abbrev pub IsPlaceBelow : Char → Type 0
 IsPlaceBelow x = (x.place.line + 1 < 2 ^ 64) × (x.place.column + 1 < 2 ^ 64)
 
--- An input may come of a text where the next character stands at this place: the numbers of its
+-- An input may come of a text whose next character stands at this place: the numbers of its
 -- headers, or this character.
 abbrev pub MayCome : Limits → Place → HeadEvent → Type 0
 MayCome limits next (head_event.Heads lines macros canonical) = AreCountsWithin limits lines macros canonical
@@ -136,7 +136,7 @@ PassesOn x outputs = Unit {0}
 abbrev pub Counts : Place → ScoreStageState → Type 0
 Counts place s = s.part ≡ score_part.Body → IsAt place s.body.part
 
--- the place of the next character after an input, where this one is that of the next before
+-- the place of the next character after an input, if this is that of the next one before it
 abbrev pub place_after_input : HeadEvent → Place → Place
 place_after_input (head_event.Body x) place = saturating_next_place x.place x.c
 place_after_input x place = place

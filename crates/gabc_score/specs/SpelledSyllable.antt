@@ -7,7 +7,7 @@ use Rattle.gabc_score.specs.declared.spelled.SpelledSnippets.{SpelledSnippets}
 use Rattle.gabc_score.specs.declared.spelled.SpelledSnippet.{SpelledSnippet}
 use Rattle.gabc_body.specs.Canonical.{canonical_in_place, starts_word}
 use Rattle.gabc_score.specs.GivesSyllables.{spelled_canonical}
-use Rattle.gabc_score.specs.RegularSyllable.{SaysText, SyllableParts, AreRegularFrom, IsRegularSyllable, canonical_spelled, kept_spelled, notes_spelled, snippet_texts, with_lines}
+use Rattle.gabc_score.specs.RegularSyllable.{SaysText, SyllableParts, AreRegularFrom, IsRegularSyllable, canonical_spelled, has_gap, kept_spelled, notes_spelled, snippet_texts, snippets_spelled, with_lines}
 use Rattle.gabc_body.specs.Syllable.{PlacedSyllable}
 
 -- The slices are the bytes of a regular syllable, and its text ends where they say.
@@ -50,14 +50,18 @@ abbrev pub AreTextsOf : SpelledSyllable → List ℕ → List ℕ → Type 0
 AreTextsOf r text translation =
     (is : IsSpelling r) → (text ≡ encode_utf8_all (text_part is.parts.text)) × (translation ≡ encode_utf8_all (translation_part is.parts.text))
 
--- Slices spell a syllable: its place in its word, its open spans, what is kept of it, its canonical
--- text, its text and its translation, and its snippets.
+-- Slices spell a syllable: its place in its word, its open spans, whether it begins after blanks,
+-- what is kept of it, its canonical text, its text and its translation, and its snippets, each in
+-- its place.
 pub record Spells (r : SpelledSyllable) (s : PlacedSyllable) : Type 0 where
   pub spelling : IsSpelling r
   pub position : s.position ≡ r.position
   pub eu : s.made.eu ≡ r.spans.eu
   pub nlba : s.made.nlba ≡ r.spans.nlba
+  pub gap : has_gap spelling.parts.gap ≡ starts_word r.position
+  pub word_start : s.made.text.word_start ≡ has_gap spelling.parts.gap
   pub kept : s.made.kept ≡ encode_utf8_all (kept_spelled spelling.parts)
   pub canonical : canonical_in_place s ≡ spelled_canonical (starts_word r.position) r.canonical.now
   pub text : SaysText s.made spelling.parts.text
   pub snippets : snippet_texts s.made ≡ with_lines r.lines 0 spelling.parts.nexts spelling.parts.final
+  pub spans : s.made.snippets ≡ snippets_spelled r.lines spelling.parts

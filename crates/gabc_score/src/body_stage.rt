@@ -46,7 +46,7 @@ pub(crate) enum BodyPart {
     },
 }
 
-/// Which part emitted the events of the last point. They stand in its room.
+/// The part that emitted the events of the last point. They stand in its room.
 #[derive(Clone, Copy)]
 pub(crate) enum Emitter {
     Nothing,
@@ -116,7 +116,7 @@ impl BodyStage {
             events_left stage (placed_characters_from at t)
             ≡ body_events nabc_lines macros (placed_characters_from at t)) }
     {
-        // Its clause says where the machine over a text emits what the definition says.
+        // Its clause says when the machine over a text emits what the definition says.
         gabc_text::laws::a_fresh_stage_emits_the_events_by_point();
         let texts = Room::in_memory(memory, 8)?;
         let notes = Room::in_memory(memory, 3)?;
@@ -148,7 +148,7 @@ impl BodyStage {
         self.emitter = Emitter::Nothing;
     }
 
-    /// The snippet of that line, whose `(` stands there.
+    /// Returns the snippet of that line, whose `(` stands at `opened`.
     fn snippet(&self, line: u8, opened: Place) -> BodyPart
         ensures { Begins self.now.nabc_lines self.now.macros line opened result }
     {
@@ -168,7 +168,7 @@ impl BodyStage {
         }
     }
 
-    /// The snippet after one of that line that ended at a `|`.
+    /// Returns the snippet after one of that line that ended at a `|`.
     fn next_snippet(&self, line: u8, opened: Place) -> BodyPart
         ensures { Begins self.now.nabc_lines self.now.macros
             (line_after self.now.nabc_lines line) opened result }
@@ -290,8 +290,7 @@ impl BodyStage {
         }
     }
 
-    /// Adds the events of the last point to what was gathered, and what is found among them to
-    /// `found`.
+    /// Adds the events of the last point to what was gathered, and their findings to `found`.
     #[inline(always)]
     pub(crate) fn hold(&self, pair: &mut SlotPair, found: &mut Room<Finding>)
         requires { CanHold self.now.events pair.old found.old }

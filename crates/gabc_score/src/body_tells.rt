@@ -8,7 +8,7 @@ ghost use Rattle.gabc_score.specs.machine.PartKeeps.{KeptParts, PartKeeps};
 use crate::body_stage::{BodyPart, BodyStage};
 use gabc_places::Place;
 
-/// Where that begins which is open.
+/// The places at which what is open begins.
 #[derive(Clone, Copy, Debug, PartialEq, Eq)]
 pub struct Openers {
     /// The place of the `(` of the notes that are read.
@@ -35,7 +35,7 @@ impl BodyStage {
         Openers { notes, inner }
     }
 
-    /// Returns whether a text begins at `at` of which nothing was read.
+    /// Returns whether a text begins at `at`, of which nothing was read yet.
     pub(crate) fn begins_text(&self, at: Place) -> bool
         ensures { IsTrue result ↔ (self.now.part ≡ BodyPart.Text (fresh_stage at)) }
     {
@@ -57,7 +57,7 @@ impl BodyStage {
         }
     }
 
-    /// Says that the next character stands at `at`. What is open keeps the place where it began.
+    /// Sets the place of the next character to `at`. What is open keeps the place where it began.
     pub(crate) fn go_to(&mut self, at: Place)
         ensures moved { self.new ≡ record self.old { part = moved_part at self.old.part } }
         ensures keeps { (lines macros : ℕ) (p : KeptParts) →
@@ -75,7 +75,7 @@ impl BodyStage {
         self.nabc_lines
     }
 
-    /// Returns the bits of the macros that are defined.
+    /// Returns the defined macros as bits.
     pub(crate) fn macros(&self) -> u16
         ensures { result ≡ self.now.macros }
     {

@@ -1,14 +1,12 @@
-//! What stands before and after the syllable that is held.
+//! What stands before and after the held syllable.
 
-ghost use Rattle.std.specs.Prelude.{◌≡◌};
+ghost use Rattle.std.specs.Prelude.{◌≡◌, nat_lt};
 ghost use Rattle.gabc_score.specs.machine.Preceded.{after_headers, past_point};
 
-use crate::preceding::Preceding;
+use crate::preceding::{NO_SPANS, Preceding};
 use crate::slot_pair::SlotPair;
-use gabc_body::Spans;
 
-/// What stands before the syllable that is held, and what after it. Where none is held, the same
-/// stands there.
+/// What stands before the held syllable, and what after it. If none is held, the two are the same.
 #[derive(Clone, Copy)]
 pub(crate) struct Bounds {
     pub(crate) before: Preceding,
@@ -16,18 +14,14 @@ pub(crate) struct Bounds {
 }
 
 impl Bounds {
-    /// Returns what stands before the first syllable, where the canonical headers have `canonical`
-    /// bytes.
+    /// Returns the bounds before the first syllable, after canonical headers of `canonical` bytes.
     pub(crate) fn after_headers(canonical: usize) -> Bounds
         ensures { result ≡ after_headers canonical }
     {
         let preceding = Preceding {
             syllables: 0,
             canonical,
-            spans: Spans {
-                eu: false,
-                nlba: false,
-            },
+            spans: NO_SPANS,
             sounded: false,
         };
         Bounds {
@@ -36,8 +30,15 @@ impl Bounds {
         }
     }
 
-    /// Goes past a point at which a syllable has become whole, which is held from then on, or none
-    /// has. `gave` says whether the one that was held before is given; `pair` has gathered what is
+    /// Returns whether a syllable stands before the held one.
+    pub(crate) fn follows(&self) -> bool
+        ensures { result ≡ nat_lt 0 self.now.before.syllables }
+    {
+        0 < self.before.syllables
+    }
+
+    /// Goes past a point. `is_whole` says whether a syllable has become whole there, which is held
+    /// from then on, and `gave` whether the one held before is given; `pair` is what is gathered
     /// after this point.
     pub(crate) fn pass(&mut self, is_whole: bool, gave: bool, pair: &SlotPair)
         ensures { self.new ≡ past_point is_whole gave self.old pair.now.gathered }

@@ -7,57 +7,86 @@ ghost use Rattle.gabc_body.specs.NoteBeforeClef.{with_first_each};
 ghost use Rattle.gabc_score.specs.witness.BodyStage.{running_events_left};
 ghost use Rattle.gabc_places.specs.BoundedList.{Fits};
 ghost use Rattle.gabc_places.specs.Place.{place_past, placed_characters_from};
-ghost use Rattle.gabc_score.specs.machine.Collected.{EndsAs};
+ghost use Rattle.gabc_score.specs.machine.Collected.{EndsAs, IsSaid, PassesRun};
 ghost use Rattle.gabc_score.specs.machine.ScoreMachine.{shown, IsScore};
 
 use crate::body_stage::{BodyPart, BodyStage};
-use crate::collecting::add_all;
+use crate::collecting::{Said, add_all};
 use crate::context::BodyContext;
+use crate::give::Collect;
 use crate::score_event::ScoreEvent;
 use crate::score_machine::ScoreMachine;
-use gabc_body::{BodyResult, InputEnding, Syllables};
+use gabc_body::InputEnding;
 use gabc_headers::HeadEvent;
-use gabc_places::{Char, Limits, Memory, Room};
+use gabc_places::{Char, Limits, Memory, Place, Room};
 use std::alloc::AllocError;
 
-/// Reads a body to its end or the first fault, by a new stage. Most of what it takes lies in
-/// `memory`.
-pub(crate) fn build_body(
+/// Lets `taker` take a run of regular syllables from the front of `text`, whose first character
+/// stands at `place`, if it takes runs. Returns the text that is left; `place` is that of its first
+/// character then.
+fn pass_run<'a, C: Collect>(
+    machine: &mut ScoreMachine,
+    place: &mut Place,
+    text: &'a str,
+    out: &mut Room<ScoreEvent>,
+    taker: &mut C,
+) -> &'a str
+    requires rests { IsScore machine.old }
+    requires empty { out.old ≡ record { items = []; limit = 16 } }
+    ensures room { out.new ≡ out.old }
+    ensures rests { IsScore machine.new }
+    ensures passes { PassesRun C.given (shown machine.old) place.old text.now (shown machine.new)
+        place.new result.now taker.old taker.new }
+{
+    if !taker.takes_runs() {
+        return text;
+    }
+    let run = machine.take_run(*place, text, out, taker);
+    *place = run.next;
+    let (_, rest) = text.split_at(run.bytes);
+    rest
+}
+
+/// Reads a body to its end or the first fault, by a new stage, and gives its syllables to `taker`.
+/// The machine lies in `memory`.
+pub(crate) fn build_body<C: Collect>(
     memory: &Memory,
     stage: BodyStage,
     body: &str,
     start: BodyContext,
     limits: Limits,
     ending: InputEnding,
-) -> Result<BodyResult, AllocError>
+    taker: &mut C,
+) -> Result<Said, AllocError>
     requires part { stage.part ≡ BodyPart.Comment }
     requires line { start.at.line + length body.now < 2 ^ 64 }
     requires column { start.at.column + length body.now < 2 ^ 64 }
     ensures { let xs = placed_characters_from start.at (chars body.now) in
-        IfOk result (λ read. read
-        ≡ body_of limits start.head start.findings (place_past start.at (chars body.now)) ending xs
-        (with_first_each [] xs (running_events_left stage xs))) }
+        IfOk result (λ said. IsSaid C.given taker.old taker.new said.findings said.fault
+        (body_of limits start.head start.findings (place_past start.at (chars body.now)) ending xs
+        (with_first_each [] xs (running_events_left stage xs)))) }
 {
     let BodyContext { at, head, findings } = start;
     let mut machine = ScoreMachine::in_body(memory, limits, stage, at, head)?;
     let mut out = Room::in_memory(memory, 16)?;
-    let mut result = BodyResult {
-        syllables: Syllables::new(memory.global()),
+    let mut said = Said {
         findings,
         fault: None,
     };
     let mut place = at;
-    for c in body.chars() {
+    let mut chars = pass_run(&mut machine, &mut place, body, &mut out, taker).chars();
+    while let Some(c) = chars.next() {
         machine.push(HeadEvent::Body(Char { c, place }), &mut out);
-        add_all(&mut result, memory, &machine.pair, &mut out)?;
+        add_all(&mut said, taker, &machine.pair, &mut out)?;
         place = place.after(c);
+        chars = pass_run(&mut machine, &mut place, chars.as_str(), &mut out, taker).chars();
     }
     end_machine(&mut machine, ending, &mut out);
-    add_all(&mut result, memory, &machine.pair, &mut out)?;
-    Ok(result)
+    add_all(&mut said, taker, &machine.pair, &mut out)?;
+    Ok(said)
 }
 
-/// Reports a machine how the input ended.
+/// Tells a machine how the input ended.
 fn end_machine(machine: &mut ScoreMachine, ending: InputEnding, out: &mut Room<ScoreEvent>)
     requires rests { IsScore machine.old }
     requires fits { Fits out.old 16 }

@@ -2,24 +2,36 @@
 
 ghost use Rattle.std.specs.Prelude.{◌≡◌, List, [], take, length, ◌∷◌, OnOk};
 ghost use Rattle.gabc_body.specs.ScoreEvents.{ScoreOutput, syllables_in};
+ghost use Rattle.gabc_body.specs.declared.body_result.BodyResult.{BodyResult};
 ghost use Rattle.gabc_score.specs.ScoreStage.{events_of};
-ghost use Rattle.gabc_score.specs.machine.Collected.{result_past, result_with};
+ghost use Rattle.gabc_score.specs.machine.Collected.{IsSaid, result_past, result_with};
 
+use crate::give::Collect;
 use crate::score_event::{BorrowedSyllable, ScoreEvent};
 use crate::slot_pair::SlotPair;
-use gabc_body::BodyResult;
-use gabc_places::{Memory, Room};
+use gabc_places::{Fault, Findings, Room};
 use std::alloc::AllocError;
 
-/// Adds what is given to `said`. Copies lie in `memory`.
-fn add(
-    said: &mut BodyResult,
-    memory: &Memory,
+/// What a body says beside its syllables, which a taker took.
+#[derive(Drop)]
+pub(crate) struct Said {
+    /// What was found before the stop, in the order of places.
+    pub(crate) findings: Findings,
+    /// What stopped the reading, if something did.
+    pub(crate) fault: Option<Fault>,
+}
+
+/// Adds what is given to `said`, and to what `taker` has taken.
+fn add<C: Collect>(
+    said: &mut Said,
+    taker: &mut C,
     pair: &SlotPair,
     event: ScoreEvent,
 ) -> Result<(), AllocError>
-    ensures { OnOk result
-        (said.new ≡ result_past pair.now.first pair.now.second said.old event) }
+    ensures { OnOk result ((first : C) (r : BodyResult) →
+        IsSaid C.given first taker.old said.old.findings said.old.fault r →
+        IsSaid C.given first taker.new said.new.findings said.new.fault
+        (result_past pair.now.first pair.now.second r event)) }
 {
     match event {
         ScoreEvent::Found(finding) => said.findings.push(finding)?,
@@ -28,33 +40,32 @@ fn add(
                 said.fault = Some(fault);
             }
         }
-        ScoreEvent::Syllable(BorrowedSyllable::First) => {
-            said.syllables.push(pair.first().syllable.copy(memory)?)?
-        }
-        ScoreEvent::Syllable(BorrowedSyllable::Second) => {
-            said.syllables.push(pair.second().syllable.copy(memory)?)?
-        }
+        ScoreEvent::Syllable(BorrowedSyllable::First) => taker.collect(pair.first().syllable)?,
+        ScoreEvent::Syllable(BorrowedSyllable::Second) => taker.collect(pair.second().syllable)?,
         ScoreEvent::End => {}
     }
     Ok(())
 }
 
-/// Adds all that was given with an input to `said`. Copies lie in `memory`, and nothing stays in
+/// Adds all that was given with an input to `said`, and to what `taker` has taken. Nothing stays in
 /// the room.
-pub(crate) fn add_all(
-    said: &mut BodyResult,
-    memory: &Memory,
+pub(crate) fn add_all<C: Collect>(
+    said: &mut Said,
+    taker: &mut C,
     pair: &SlotPair,
     out: &mut Room<ScoreEvent>,
 ) -> Result<(), AllocError>
     ensures result_is { OnOk result ((outputs : List ScoreOutput) →
         out.old.items ≡ events_of outputs →
         syllables_in outputs ≡ take (length (syllables_in outputs))
-        (pair.now.first ∷ pair.now.second ∷ []) → said.new ≡ result_with said.old outputs) }
+        (pair.now.first ∷ pair.now.second ∷ []) → (first : C) (r : BodyResult) →
+        IsSaid C.given first taker.old said.old.findings said.old.fault r →
+        IsSaid C.given first taker.new said.new.findings said.new.fault
+        (result_with r outputs)) }
     ensures room { OnOk result (out.new ≡ record out.old { items = [] }) }
 {
     for event in out.slice() {
-        add(said, memory, pair, *event)?;
+        add(said, taker, pair, *event)?;
     }
     out.clear();
     Ok(())

@@ -12,7 +12,7 @@ use gabc_notes::{ItemKind, first_note_or_clef};
 pub(crate) enum FirstSound {
     Note,
     Clef,
-    /// One of the two. Which it was is not known where a score is restored.
+    /// One of the two. Of a restored score it is not known which.
     Either,
 }
 

@@ -1,36 +1,32 @@
 //! What takes the syllables of a run.
 
-ghost use Rattle.std.specs.Prelude.{◌≡◌, ◌+◌, ◌<◌, ◌≤◌, ℕ, List, [], ◌∷◌, ◌++◌, length, true, false};
+ghost use Rattle.std.specs.Prelude.{◌≡◌, ◌+◌, ◌<◌, ◌≤◌, ℕ, List, [], ◌∷◌, ◌++◌, length, true, false, OnErr, OnOk};
 ghost use Rattle.gabc_body.specs.Canonical.{canonical_in_place, StandsFrom};
 ghost use Rattle.gabc_score.specs.GivesSyllables.{AreJoined};
 ghost use Rattle.gabc_score.specs.SpelledSyllable.{IsSpelling, Spells};
 ghost use Rattle.gabc_body.specs.Syllable.{PlacedSyllable, placed_of, unplaced_of};
 
 use crate::spelled::SpelledSyllable;
-use gabc_body::LentSyllable;
+use gabc_body::{LentSyllable, Syllable};
 use gabc_places::Place;
+use std::alloc::AllocError;
 
 /// Takes whole syllables, in their order.
 pub trait Give {
     // what it is once it has taken these syllables
     ghost given: { Self → List PlacedSyllable → Self };
 
-    // it takes a syllable whose canonical text has n bytes
-    ghost Takes: { Self → ℕ → Type 0 };
-
     // it takes joined syllables whose canonical texts have n bytes together
     ghost TakesJoined: { Self → ℕ → Type 0 };
 
-    /// Returns whether it takes a syllable now whose canonical text has at most `len` bytes.
-    fn takes(&self, len: usize) -> bool
-        ensures { result ≡ true → (n : ℕ) → n ≤ len → Takes self.now n };
-
-    /// Takes the syllable `lent`.
-    fn give(&mut self, lent: LentSyllable<'_>)
-        requires takes { Takes self.old
-            (length (canonical_in_place (placed_of lent.syllable.now))) }
+    /// Takes the syllable `lent`, whose canonical text has at most `most` bytes, or leaves it.
+    /// Returns whether it takes it.
+    fn give(&mut self, lent: LentSyllable<'_>, most: usize) -> bool
+        requires short { length (canonical_in_place (placed_of lent.syllable.now)) ≤ most }
         requires stands { StandsFrom lent.kept_from (unplaced_of lent.syllable.now) }
-        ensures { self.new ≡ given self.old (placed_of lent.entry.syllable.now ∷ []) };
+        ensures given { result ≡ true →
+            self.new ≡ given self.old (placed_of lent.entry.syllable.now ∷ []) }
+        ensures same { result ≡ false → self.new ≡ self.old };
 
     /// Takes the syllable that these slices spell, or leaves it. Returns whether it takes it.
     fn give_spelled(&mut self, syllable: SpelledSyllable<'_>) -> bool
@@ -58,10 +54,23 @@ pub trait Give {
     ghost given_both: { (s : Self) (a b : List PlacedSyllable) → given (given s a) b ≡ given s (a ++ b) };
 }
 
+/// Takes what a score says, and asks for memory as it does.
+pub trait Collect: Give {
+    /// Takes `syllable`. If there is no memory for it, that is the only refusal, and it stays as it
+    /// was.
+    fn collect(&mut self, syllable: &Syllable) -> Result<(), AllocError>
+        ensures given { OnOk result
+            (self.new ≡ Self.given self.old (placed_of syllable.now ∷ [])) }
+        ensures unchanged { OnErr result (self.new ≡ self.old) };
+
+    /// Returns whether it takes syllables by the slices that spell them.
+    fn takes_runs(&self) -> bool;
+}
+
 /// How far a run of syllables was taken.
 #[derive(Clone, Copy)]
 pub struct Run {
-    /// How many bytes it has.
+    /// Its length in bytes.
     pub bytes: usize,
     /// The place of the next character.
     pub next: Place,

@@ -50,9 +50,8 @@ pub fn a_text_is_kept_again_by_kept()
     gabc_body::by_kept_laws::texts_go_by_kept();
 }
 
-/// Law: what a stage reports of the syllable that it reads is kept again where it is read by
-/// itself, and what is open after it is what the stage reports. It is no longer than a syllable may
-/// be.
+/// Law: what a stage reports of the syllable that it reads is kept again if it is read by itself,
+/// and what is open after it is what the stage reports. It is no longer than a syllable may be.
 pub fn what_is_reported_is_kept_again()
     ensures again { (s : ScoreStageState) (t : List ℕ) (openers : Openers) (comment : Bool) →
         All IsScalar t → CanBeReadAgain s → ReportsReading s (encode_utf8_all t) openers comment →
@@ -66,11 +65,11 @@ pub fn what_is_reported_is_kept_again()
     a_text_is_kept_again_by_kept();
 }
 
-/// Law: a text that is kept again where it is read by itself, no longer than a syllable may be, is
+/// Law: a text that is kept again if it is read by itself, and no longer than a syllable may be, is
 /// what some stage reports of the syllable that it reads, wherever its openers are said to stand.
-/// It is kept again where each of its characters is kept, no syllable is whole, and what is open
-/// after it is reported: the `(` of notes, an inner opener, and a comment only where a `%` after it
-/// begins one.
+/// It is kept again if each of its characters is kept, no syllable is whole, and what is open after
+/// it is reported: the `(` of notes, an inner opener, and a comment only if a `%` after it begins
+/// one.
 pub fn what_is_kept_again_is_reported()
     ensures { (limits : Limits) (lines macros : ℕ) (t : List ℕ) (openers : Openers)
         (comment : Bool) → All IsScalar t → IsKeptAgain lines macros t openers comment →
@@ -82,8 +81,8 @@ pub fn what_is_kept_again_is_reported()
     a_text_is_kept_again_by_kept();
 }
 
-/// Law: where spans are open, a text is one syllable, within a limit and with warnings alone,
-/// exactly if it is so by what is kept.
+/// Law: after open spans, a text is one syllable, within a limit and with warnings alone, exactly
+/// if it is so by what is kept.
 pub fn a_syllable_is_read_by_kept()
     ensures { (lines macros : ℕ) (t : List ℕ) (spans : Spans) (limit : ℕ)
         (m : UnplacedSyllable) → All IsScalar t → CountsFit first_place t →

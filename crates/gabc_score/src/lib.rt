@@ -21,12 +21,11 @@ mod bounds;
 mod build_body;
 mod collecting;
 mod context;
+mod emit;
 mod first_sound;
 mod give;
-mod giving;
 pub mod kept_laws;
 mod machine_laws;
-mod moving;
 mod part_ends;
 mod part_events;
 mod part_pushes;
@@ -39,9 +38,10 @@ mod run;
 mod score_event;
 mod score_machine;
 mod score_stage;
+mod set_place;
 mod slot;
 mod slot_pair;
-mod slot_tells;
+mod slot_reports;
 mod spelled;
 pub mod stage_laws;
 mod text_places;
@@ -54,8 +54,8 @@ pub use gabc_body::{
     Before, BodyEvent, InputEnding, LentSyllable, Position, Score, Snippet, Snippets, Spans,
     Syllable, Syllables, canon_len, canon_lent, canon_starting, canon_syllable, laws, unit_laws,
 };
-pub use give::{Give, Run};
+pub use give::{Collect, Give, Run};
 pub use score_event::{BorrowedSyllable, ScoreEvent};
 pub use score_stage::ScoreStage;
 pub use spelled::{SpelledSnippet, SpelledSnippets, SpelledSyllable};
-pub use whole::{score_whole, score_whole_with_hasher};
+pub use whole::{ScoreRest, score_given, score_whole, score_whole_with_hasher};

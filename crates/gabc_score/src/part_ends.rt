@@ -8,7 +8,7 @@ ghost use Rattle.gabc_score.specs.machine.PartPushes.{EndsLast};
 use gabc_notes::{NoteEnd, NoteEvent};
 use gabc_text::{TextEnd, TextEvent};
 
-/// Whether a text ended at its `(`.
+/// Returns whether a text ended at its `(`.
 fn is_text_end(out: TextEvent) -> bool
     ensures { result ≡ text_end out }
 {
@@ -18,7 +18,7 @@ fn is_text_end(out: TextEvent) -> bool
     }
 }
 
-/// Whether a snippet ended at its `|`.
+/// Returns whether a snippet ended at its `|`.
 fn is_next(out: NoteEvent) -> bool
     ensures { result ≡ note_next out }
 {
@@ -31,7 +31,7 @@ fn is_next(out: NoteEvent) -> bool
     }
 }
 
-/// Whether a snippet ended at its `)`.
+/// Returns whether a snippet ended at its `)`.
 fn is_close(out: NoteEvent) -> bool
     ensures { result ≡ note_close out }
 {
@@ -44,7 +44,7 @@ fn is_close(out: NoteEvent) -> bool
     }
 }
 
-/// Whether a text ended at its `(` with these: its end is the last event.
+/// Returns whether a text ended at its `(` with `events`: its end is the last of them.
 pub(crate) fn ends_text(events: &[TextEvent]) -> bool
     requires { EndsLast text_end events.now }
     ensures { result ≡ list_any text_end events.now }
@@ -55,7 +55,7 @@ pub(crate) fn ends_text(events: &[TextEvent]) -> bool
     }
 }
 
-/// Whether a snippet ended at a `|` with these: its end is the last event.
+/// Returns whether a snippet ended at a `|` with `events`: its end is the last of them.
 pub(crate) fn ends_at_next(events: &[NoteEvent]) -> bool
     requires { EndsLast note_next events.now }
     ensures { result ≡ list_any note_next events.now }
@@ -66,7 +66,7 @@ pub(crate) fn ends_at_next(events: &[NoteEvent]) -> bool
     }
 }
 
-/// Whether a snippet ended at its `)` with these: its end is the last event.
+/// Returns whether a snippet ended at its `)` with `events`: its end is the last of them.
 pub(crate) fn ends_at_close(events: &[NoteEvent]) -> bool
     requires { EndsLast note_close events.now }
     ensures { result ≡ list_any note_close events.now }

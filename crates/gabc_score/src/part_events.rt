@@ -23,7 +23,7 @@ fn innermost(opened: Place, how: NoteEnd) -> NoteEnd
     }
 }
 
-/// What a snippet of that line emitted, with the place of its innermost open bracket.
+/// Returns what a snippet of that line emitted, with the place of its innermost open bracket.
 pub(crate) fn note_event(line: u8, opened: Place, out: NoteEvent) -> BodyEvent
     ensures { result ≡ event_of_notes line opened out }
 {
@@ -57,7 +57,7 @@ pub(crate) fn emit_notes(line: u8, opened: Place, events: &[NoteEvent], out: &mu
     }
 }
 
-/// Adds an event of a text to what was gathered, and what is found with it to `found`.
+/// Adds an event of a text to what was gathered, and its finding to `found`.
 #[inline(always)]
 fn hold_in_text(event: TextEvent, pair: &mut SlotPair, found: &mut Room<Finding>)
     requires { CanHold (of_text event ∷ []) pair.old found.old }
@@ -69,8 +69,7 @@ fn hold_in_text(event: TextEvent, pair: &mut SlotPair, found: &mut Room<Finding>
     }
 }
 
-/// Adds an event of a snippet of that line to what was gathered, and what is found with it to
-/// `found`.
+/// Adds an event of a snippet of that line to what was gathered, and its finding to `found`.
 #[inline(always)]
 fn hold_in_notes(
     line: u8,
@@ -93,7 +92,7 @@ fn hold_in_notes(
     }
 }
 
-/// Adds the events of a text to what was gathered, and what is found among them to `found`.
+/// Adds the events of a text to what was gathered, and their findings to `found`.
 #[inline(always)]
 pub(crate) fn hold_text(events: &[TextEvent], pair: &mut SlotPair, found: &mut Room<Finding>)
     requires { CanHold (map (λ o. of_text o) events.now) pair.old found.old }
@@ -104,8 +103,7 @@ pub(crate) fn hold_text(events: &[TextEvent], pair: &mut SlotPair, found: &mut R
     }
 }
 
-/// Adds the events of a snippet of that line to what was gathered, and what is found among them to
-/// `found`.
+/// Adds the events of a snippet of that line to what was gathered, and their findings to `found`.
 #[inline(always)]
 pub(crate) fn hold_notes(
     line: u8,

@@ -13,7 +13,7 @@ use gabc_notes::{NoteEvent, NoteStage};
 use gabc_places::{Char, Room, Stage};
 use gabc_text::{TextEvent, TextStage};
 
-/// Pushes a character to a text, whose events are then in its room.
+/// Pushes a character to a text. Its events are then in `events`.
 pub(crate) fn push_text(stage: &mut TextStage, x: Char, events: &mut Room<TextEvent>)
     requires events { 8 ≤ events.old.limit }
     ensures once { EndsLast text_end events.new.items }
@@ -25,7 +25,7 @@ pub(crate) fn push_text(stage: &mut TextStage, x: Char, events: &mut Room<TextEv
     stage.push(x, events);
 }
 
-/// Pushes a character to a snippet of GABC, whose events are then in its room.
+/// Pushes a character to a snippet of GABC. Its events are then in `events`.
 pub(crate) fn push_gabc(stage: &mut NoteStage, x: Char, events: &mut Room<NoteEvent>)
     requires events { 3 ≤ events.old.limit }
     ensures next_once { EndsLast note_next events.new.items }
@@ -37,7 +37,7 @@ pub(crate) fn push_gabc(stage: &mut NoteStage, x: Char, events: &mut Room<NoteEv
     stage.push(x, events);
 }
 
-/// Pushes a character to a snippet of NABC, whose events are then in its room.
+/// Pushes a character to a snippet of NABC. Its events are then in `events`.
 pub(crate) fn push_nabc(stage: &mut NabcStage, x: Char, events: &mut Room<NoteEvent>)
     requires events { 3 ≤ events.old.limit }
     ensures next_once { EndsLast note_next events.new.items }
@@ -49,7 +49,7 @@ pub(crate) fn push_nabc(stage: &mut NabcStage, x: Char, events: &mut Room<NoteEv
     stage.push(x, events);
 }
 
-/// Ends a text or a snippet, whose last events are then in its room.
+/// Ends a text or a snippet. Its last events are then in `events`.
 pub(crate) fn finish_part<S: Stage<Input = Char>>(stage: &mut S, events: &mut Room<S::Output>)
     requires { S.most_of stage.old ≤ events.old.limit }
     ensures events { events.new.limit ≡ events.old.limit }

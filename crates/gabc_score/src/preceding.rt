@@ -1,11 +1,17 @@
-//! What stands before a syllable, of its score.
+//! What stands before a syllable of a score.
 
 ghost use Rattle.std.specs.Prelude.{◌≡◌};
 ghost use Rattle.gabc_score.specs.Before.{preceding_of};
 
 use gabc_body::{Before, Spans};
 
-/// What the syllables before a syllable come to.
+/// What is open if no span is.
+pub(crate) const NO_SPANS: Spans = Spans {
+    eu: false,
+    nlba: false,
+};
+
+/// The totals of the syllables before a syllable.
 #[derive(Clone, Copy)]
 pub(crate) struct Preceding {
     /// Their number, which saturates.
@@ -19,7 +25,7 @@ pub(crate) struct Preceding {
 }
 
 impl Preceding {
-    /// Returns what the syllables before come to, of which `before` tells.
+    /// Returns the totals that `before` reports.
     pub(crate) fn of(before: Before) -> Preceding
         ensures { result ≡ preceding_of before }
     {

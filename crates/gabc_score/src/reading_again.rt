@@ -20,7 +20,7 @@ use crate::score_stage::ScoreStage;
 use gabc_places::{Char, Place};
 
 impl BodyStage {
-    /// Returns where the next character of a kept text stands that is read again: what is open
+    /// Returns the place of the next character of a kept text that is read again: what is open
     /// after this text at `openers` begins there.
     pub(crate) fn place_again(&self, openers: Openers) -> Place
         ensures { result ≡ place_in (outer_of openers) (inner_of openers) self.now.part }
@@ -34,8 +34,8 @@ impl BodyStage {
 }
 
 impl ScoreMachine {
-    /// Reads a character of the body, and gives nothing. Where a syllable becomes whole or a limit
-    /// is passed, the reading is over.
+    /// Reads a character of the body, and gives nothing. If a syllable becomes whole or a limit is
+    /// passed, the reading is over.
     fn pass_again(&mut self, x: Char)
         requires { StandsInBody self.old }
         ensures rests { IsScore self.new }
@@ -49,7 +49,7 @@ impl ScoreMachine {
     }
 
     /// Reads `c` again, a character of a kept text after which this is open at `openers`, or a `%`
-    /// after it. Where a syllable becomes whole or a limit is passed, the reading is over.
+    /// after it. If a syllable becomes whole or a limit is passed, the reading is over.
     fn take_again(&mut self, c: char, openers: Openers)
         requires rests { IsScore self.old }
         ensures rests { IsScore self.new }
@@ -66,7 +66,7 @@ impl ScoreMachine {
 
     /// Reads each character of `kept` again, a kept text after which this is open at `openers`, and
     /// the `%` of a comment after it if `in_comment`.
-    fn read_told(&mut self, kept: &str, openers: Openers, in_comment: bool)
+    fn read_reported(&mut self, kept: &str, openers: Openers, in_comment: bool)
         requires rests { IsScore self.old }
         ensures rests { IsScore self.new }
         ensures steps { ReadsThrough self.old openers
@@ -80,10 +80,10 @@ impl ScoreMachine {
         }
     }
 
-    /// Reads `kept` again, the kept text of a syllable, where nothing is read of it yet: after it
-    /// this is open at `openers`, a comment is open if `in_comment`, and the next character stands
-    /// at `next`. Returns whether no syllable became whole, and no limit was passed. Where one was,
-    /// the reading is over.
+    /// Reads `kept` again, the kept text of a syllable of which nothing is read yet: after it this
+    /// is open at `openers`, a comment is open if `in_comment`, and the next character stands at
+    /// `next`. Returns whether no syllable became whole, and no limit was passed. Otherwise the
+    /// reading is over.
     pub(crate) fn read_again(
         &mut self,
         kept: &str,
@@ -98,7 +98,7 @@ impl ScoreMachine {
         let ScorePart::Body = self.part else {
             return false;
         };
-        self.read_told(kept, openers, in_comment);
+        self.read_reported(kept, openers, in_comment);
         self.go_to(next);
         match self.part {
             ScorePart::Body => true,
@@ -114,13 +114,13 @@ impl ScoreStage {
     /// Reads `kept` again, the kept text of a syllable that is not whole. The stage stands before
     /// this syllable, of which nothing is read, and in no comment. After the text this is open at
     /// `openers`, a comment is open if `in_comment`, and the next character stands at `next`.
-    /// Nothing is given, and what is found is left out. Returns whether no syllable became whole
-    /// and no limit was passed. Then what stands before and what is held are what they were; else
-    /// the stage has come to its end. If some stage past the comment in front, after the same and
-    /// under the same limits, reports this of the syllable that it reads, then the answer is
-    /// `true`, and this stage reports the same. What it reports stays that of a text, if `kept` is
-    /// one of an input and what is open stands in its order before `next`. Outside the body it
-    /// changes nothing and returns `false`.
+    /// Nothing is given, and findings are left out. Returns whether no syllable became whole and no
+    /// limit was passed. If so, what stands before and what is held are what they were; else the
+    /// stage has come to its end. If some stage past the comment in front, after the same and under
+    /// the same limits, reports this of the syllable that it reads, then the answer is `true`, and
+    /// this stage reports the same. What it reports stays that of a text, if `kept` is one of an
+    /// input and what is open stands in its order before `next`. Outside the body it changes
+    /// nothing and returns `false`.
     pub fn read_again(
         &mut self,
         kept: &str,

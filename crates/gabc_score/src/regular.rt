@@ -1,4 +1,4 @@
-//! How far the regular syllable goes that a text begins with.
+//! The length of the regular syllable that a text begins with.
 
 ghost use Rattle.std.specs.Prelude.{◌≡◌, ◌≤◌, ◌<◌, length, take, drop, slice_index, true, false, IfSome, IsTrue};
 ghost use Rattle.std.specs.List.{All};
@@ -16,7 +16,7 @@ use gabc_notes::regular_notes;
 use gabc_text::{SpanMark, regular_text};
 use memchr::memchr2;
 
-/// Returns which spans are open after `mark`, where `spans` are open before it.
+/// Returns which spans are open after `mark`, if `spans` are open before it.
 #[inline(always)]
 pub(crate) fn spans_past(mark: Option<SpanMark>, spans: Spans) -> Spans
     ensures { result ≡ past_mark mark spans }
@@ -36,7 +36,7 @@ pub(crate) fn spans_past(mark: Option<SpanMark>, spans: Spans) -> Spans
     }
 }
 
-/// How long a regular syllable is.
+/// The lengths of a regular syllable.
 #[derive(Clone, Copy)]
 pub(crate) struct RegularLen {
     /// The bytes of the blanks and comments before its text.
@@ -141,7 +141,7 @@ pub(crate) fn snippet_len(line: u8, text: &str) -> usize
     }
 }
 
-/// Returns how many bytes the snippets of a regular syllable have that `text` begins with under
+/// Returns the length in bytes of the snippets of a regular syllable that `text` begins with under
 /// `lines` NABC lines, with the marks that end them; 0, if it begins with none.
 #[inline(always)]
 fn snippets_len(lines: u8, text: &str) -> usize
@@ -167,8 +167,8 @@ fn snippets_len(lines: u8, text: &str) -> usize
 /// Returns how long the regular syllable is that `text` begins with under `lines` NABC lines, if it
 /// begins with one that has no span mark but one at the beginning of its text. Nothing is found in
 /// it, and but for the blanks before its text it is its own canonical text
-/// (`regular_laws::a_regular_syllable_makes_its_spelling`). There may be one where it returns none.
-/// The first `plain` bytes of `text` are known to be plain.
+/// (`regular_laws::a_regular_syllable_makes_its_spelling`). There may be one though it returns
+/// `None`. The first `plain` bytes of `text` are known to be plain.
 #[inline(always)]
 pub(crate) fn regular_syllable(lines: u8, text: &str, plain: usize) -> Option<RegularLen>
     requires { All IsPlainByte (take plain text.now) }

@@ -18,7 +18,7 @@ ghost use Rattle.gabc_body.specs.SyllablesOfUnits.{characters_in};
 /// Law: a regular syllable is read as it stands, wherever it begins, whatever macros are defined
 /// and whatever follows: each of its characters has its list of events, nothing is found in it, and
 /// the next text begins after its `)`. It is blanks and comments or none, a regular text, and
-/// regular snippets, each of the line whose turn it is; where there are no NABC lines it has one
+/// regular snippets, each of the line whose turn it is; if there are no NABC lines, it has one
 /// snippet. Its characters are those of its unit.
 pub fn a_regular_syllable_is_read_as_it_stands()
     ensures characters { (at : Place) (r : SyllableParts) →
@@ -60,7 +60,8 @@ pub fn a_stage_reads_a_regular_syllable_as_it_stands()
 
 /// Law: a regular syllable makes its own spelling, wherever it begins and whatever was emitted
 /// before: with its `)` it gives one syllable, in which nothing is found. The blanks before its
-/// text begin a word and are kept as one; the rest is kept as it stands, and is its canonical text.
+/// text begin a word and are kept as one; the rest is kept as it stands, each snippet in its place,
+/// and is its canonical text.
 pub fn a_regular_syllable_makes_its_spelling()
     ensures { (lines macros : ℕ) (at : Place) (r : SyllableParts) (before : List BodyEvent) →
         IsRegularSyllable lines r → length (encode_utf8_all (spelled r)) < 2 ^ 63 →
@@ -82,7 +83,7 @@ pub fn a_regular_syllable_makes_its_spelling()
 
 /// Law: a regular syllable that begins where a text begins makes one syllable, which depends on the
 /// place, the characters and the open spans alone, whatever was gathered before: it is read to its
-/// end, and what is given with it is the syllable that was held, if one was.
+/// end, and with it the held syllable is given, if there was one.
 pub(crate) fn a_regular_syllable_goes_through()
     ensures { (lines macros : ℕ) (at : Place) (r : SyllableParts) (spans : Spans) →
         IsRegularSyllable lines r → CountsFit at (spelled r) →

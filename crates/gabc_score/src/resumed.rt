@@ -1,6 +1,6 @@
 //! A stage over a score that goes on after syllables which another one has read.
 
-ghost use Rattle.std.specs.Prelude.{◌≡◌, ◌+◌, ◌<◌, ◌≤◌, ◌^◌, not, ℕ, None, IfOk, [], length, true, false};
+ghost use Rattle.std.specs.Prelude.{◌≡◌, ◌<◌, ◌≤◌, ◌^◌, not, ℕ, None, IfOk, [], length, true, false};
 ghost use Rattle.std.specs.List.{list_any};
 ghost use Rattle.std.specs.Str.{chars};
 ghost use Rattle.gabc_text.specs.TextStage.{fresh_stage};
@@ -16,7 +16,7 @@ ghost use Rattle.gabc_score.specs.machine.PartKeeps.{in_text, PartKeeps};
 ghost use Rattle.gabc_body.specs.witness.SyllableBuilder.{nothing_open};
 ghost use Rattle.gabc_score.specs.machine.ReadAlone.{is_error_event, BeginsAlone, HasRoomFor, HoldsAlone, IsFree, ReadsAll, ReadsAlone, StandsAlone};
 ghost use Rattle.gabc_score.specs.machine.Resumed.{gathered_after};
-ghost use Rattle.gabc_score.specs.machine.ScoreMachine.{shown, IsInBody, IsScore};
+ghost use Rattle.gabc_score.specs.machine.ScoreMachine.{shown, IsScore};
 
 use crate::body_stage::{BodyPart, BodyStage};
 use crate::bounds::Bounds;
@@ -33,14 +33,13 @@ use gabc_text::TextStage;
 use std::alloc::AllocError;
 
 impl SlotPair {
-    /// Says what stands before the syllable that is read.
+    /// Sets what stands before the syllable that is read.
     fn follow(&mut self, before: Before)
         ensures { self.new ≡ record self.old {
           gathered = gathered_after before self.old.gathered;
         } }
     {
-        self.eu = before.spans.eu;
-        self.nlba = before.spans.nlba;
+        self.spans = before.spans;
         self.follows = 0 < before.syllables;
         self.total = before.canonical;
         self.sounded = if before.sounded {
@@ -84,7 +83,6 @@ impl ScoreMachine {
             pair,
             found,
             next: Place::START,
-            has_lent: 0 < before.syllables,
             bounds: Bounds {
                 before: preceding,
                 after: preceding,
@@ -93,7 +91,7 @@ impl ScoreMachine {
     }
 }
 
-/// Returns whether an error is found.
+/// Returns whether `event` is an error.
 fn is_error(event: ScoreEvent) -> bool
     ensures { result ≡ is_error_event event }
 {
@@ -106,7 +104,7 @@ fn is_error(event: ScoreEvent) -> bool
     }
 }
 
-/// Returns whether an error is found among these.
+/// Returns whether an error is among `events`.
 fn has_error(events: &[ScoreEvent]) -> bool
     ensures { result ≡ list_any is_error_event events.now }
 {
@@ -114,7 +112,7 @@ fn has_error(events: &[ScoreEvent]) -> bool
 }
 
 impl ScoreMachine {
-    /// Returns whether it goes on in the body, where these events report no error.
+    /// Returns whether it goes on in the body, and `events` report no error.
     fn is_fine(&self, events: &[ScoreEvent]) -> bool
         ensures body { self.now.part ≡ ScorePart.Body →
             result ≡ not (list_any is_error_event events.now) }
@@ -126,7 +124,7 @@ impl ScoreMachine {
         }
     }
 
-    /// Reads a character, where no syllable is held. Returns whether no limit is passed with it,
+    /// Reads a character, while no syllable is held. Returns whether no limit is passed with it,
     /// and no error is found.
     fn read_alone(&mut self, x: Char, room: &mut Room<ScoreEvent>) -> bool
         requires alone { StandsAlone self.old }
@@ -141,7 +139,7 @@ impl ScoreMachine {
         is_fine
     }
 
-    /// Reads the characters of `text`, the first of which stands at `at`, where no syllable is
+    /// Reads the characters of `text`, the first of which stands at `at`, while no syllable is
     /// held. Returns whether one is whole with the last of them and none before, no limit is passed
     /// and no error is found.
     pub(crate) fn read_all(&mut self, at: Place, text: &str, room: &mut Room<ScoreEvent>) -> bool
@@ -166,7 +164,7 @@ impl ScoreMachine {
     }
 
     /// Reads `text` as one syllable, which is held then, and begins to read the next text. Returns
-    /// whether it is one, with which no limit is passed and in which no error is found. Where it is
+    /// whether it is one, with which no limit is passed and in which no error is found. If it is
     /// none, nothing is read any more.
     fn hold_again(&mut self, text: &str, room: &mut Room<ScoreEvent>) -> bool
         requires alone { BeginsAlone self.old }
@@ -194,8 +192,8 @@ impl ScoreStage {
     /// reserves the memory that it ever takes, as `in_memory` does. It holds no syllable, and the
     /// next character is the first of a text, at 1:1 until `go_to` says otherwise. `before` is what
     /// another stage under the same limits reported of what stands before the syllable that it
-    /// held: where no syllable does, no span is open and nothing has sounded. It fails only for
-    /// want of memory.
+    /// held: if no syllable does, no span is open and nothing has sounded. It fails only for want
+    /// of memory.
     pub fn resume(memory: &Memory, limits: Limits, before: Before) -> Result<ScoreStage, AllocError>
         requires { IsAtOutset (preceding_of before) }
         ensures { IfOk result (λ stage. IsAfterSyllables limits before stage) }
@@ -209,9 +207,9 @@ impl ScoreStage {
     /// to read the next text. The stage has to begin a text at 1:1 and to hold no syllable. Returns
     /// whether `text` is one syllable: whole with its last character and not before, with which no
     /// limit is passed and in which no error is found. The spans that are open before it count, and
-    /// the stage stands after the same as before. Where `text` is no syllable, the stage has come
-    /// to its end. Where it is one of an input, what the stage reports stays that of a text. `room`
-    /// is empty, and has room for 16 events; nothing stands in it afterwards.
+    /// the stage stands after the same as before. If `text` is no syllable, the stage has come to
+    /// its end. If it is one of an input, what the stage reports stays that of a text. `room` is
+    /// empty, has room for 16 events, and is left empty.
     pub fn hold_again(&mut self, text: &str, room: &mut Room<ScoreEvent>) -> bool
         requires begins { BeginsText self.old }
         requires none { held_of self.old ≡ None }

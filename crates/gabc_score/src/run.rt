@@ -1,28 +1,20 @@
 //! A machine over a score that takes whole regular syllables from a text at once.
 
-ghost use Rattle.std.specs.Prelude.{◌≡◌, ◌+◌, ◌<◌, ◌≤◌, ◌^◌, ◌||◌, not, nat_lt, ℕ, List, [], ◌∷◌, ◌++◌, drop, length, take, true, false, IfSome};
+ghost use Rattle.std.specs.Prelude.{◌≡◌, ◌+◌, ◌<◌, ◌≤◌, ◌^◌, ◌||◌, not, nat_lt, ℕ, List, [], ◌∷◌, ◌++◌, length, take, true, false, IfSome};
 ghost use Rattle.std.specs.List.{All};
-ghost use Rattle.std.specs.Str.{chars};
-ghost use Rattle.std.specs.String.Boundary.{IsSplitPoint};
 ghost use Rattle.gabc_places.specs.Place.{place_past};
-ghost use Rattle.gabc_places.specs.TextOfAnInput.{IsPlain};
-ghost use Rattle.gabc_text.specs.TextStage.{fresh_stage};
 ghost use Rattle.gabc_body.specs.Canonical.{position_by};
-ghost use Rattle.gabc_score.specs.GivesSyllables.{GivesSyllables, Runs};
 ghost use Rattle.gabc_score.specs.SpelledSyllable.{IsSpelling, Spells};
 ghost use Rattle.gabc_score.specs.machine.RegularLen.{BeginsRegularly, IsPlainByte};
 ghost use Rattle.gabc_body.specs.Syllable.{PlacedSyllable, UnplacedSyllable};
-ghost use Rattle.gabc_score.specs.machine.PartCounts.{CountsHold};
-ghost use Rattle.gabc_score.specs.machine.PartKeeps.{in_text, PartKeeps};
 ghost use Rattle.gabc_score.specs.RegularSyllable.{with_lines};
 ghost use Rattle.gabc_score.specs.machine.Run.{EndsRun, GoesBefore, IsFound, IsSamePair, IsSpelledBy, IsSteady, SpellsFound, StandsBetween, RunsTo, RunsMore, TakesRun, before_by, canonical_length, len_of, mark_of, sounds_among};
-ghost use Rattle.gabc_body.specs.witness.SyllableBuilder.{nothing_open};
-ghost use Rattle.gabc_score.specs.machine.ScoreMachine.{shown, IsScore, IsShort};
+ghost use Rattle.gabc_score.specs.machine.ScoreMachine.{has_given, IsScore, IsShort};
 
 use crate::body_stage::BodyPart;
 use crate::bounds::Bounds;
 use crate::give::{Give, Run};
-use crate::preceding::Preceding;
+use crate::preceding::{NO_SPANS, Preceding};
 use crate::regular::{plain_len, regular_syllable, spans_past};
 use crate::regular_laws;
 use crate::score_event::ScoreEvent;
@@ -35,7 +27,7 @@ use gabc_body::{Spans, position_by};
 use gabc_places::{Limits, Place, Room};
 use gabc_text::{SpanMark, mark_at};
 
-/// How many bytes are looked at together for whether they are plain.
+/// The number of bytes that are looked at together for whether they are plain.
 const MOST_LOOKED_AT: usize = 256;
 
 /// A regular syllable of a run, which is not given yet.
@@ -49,12 +41,12 @@ pub(crate) struct Found<'a> {
     gap: usize,
     /// The bytes before its `(`.
     opening: usize,
-    /// How many of the first bytes of `rest` are known to be plain.
+    /// The number of first bytes of `rest` that are known to be plain.
     plain: usize,
 }
 
-/// Returns how many of the first bytes of `rest` are known to be plain, where the first `left` are:
-/// looks further if none is.
+/// Returns how many of the first bytes of `rest` are known to be plain, if the first `left` are:
+/// looks further if `left` is 0.
 #[inline(always)]
 fn plain_after(rest: &str, left: usize) -> usize
     requires { All IsPlainByte (take left rest.now) }
@@ -126,7 +118,7 @@ impl<'a> Found<'a> {
         mark_at(&self.spelled.as_bytes()[self.gap..])
     }
 
-    /// Returns how many canonical bytes stand before the syllable after it, where `before` stand
+    /// Returns how many canonical bytes stand before the syllable after it, if `before` stand
     /// before it.
     #[inline(always)]
     fn canonical_after(self, before: usize) -> usize
@@ -138,8 +130,8 @@ impl<'a> Found<'a> {
         before + (self.spelled.len() - self.gap) + start
     }
 
-    /// Returns its slices, where there are `lines` NABC lines, these spans are open, and it stands
-    /// before one that begins a word or not.
+    /// Returns its slices, under `lines` NABC lines and with `spans` open. `next_starts` says
+    /// whether the next syllable begins a word.
     fn slices(self, lines: u8, spans: Spans, next_starts: bool) -> SpelledSyllable<'a>
         requires { BeginsRegularly lines (self.spelled.now ++ self.rest.now) (len_of self) }
         ensures is { IsSpelling result }
@@ -159,7 +151,7 @@ impl<'a> Found<'a> {
         }
     }
 
-    /// Returns whether a note or a clef comes with it in GABC, where there are `lines` NABC lines.
+    /// Returns whether a note or a clef comes with it in GABC, under `lines` NABC lines.
     #[inline(never)]
     fn sounds(self, lines: u8) -> bool
         requires { BeginsRegularly lines (self.spelled.now ++ self.rest.now) (len_of self) }
@@ -167,15 +159,11 @@ impl<'a> Found<'a> {
             (len_of self.entry)) →
             result ≡ sounds_among (with_lines lines 0 is.syllable.nexts is.syllable.final) }
     {
-        let any = Spans {
-            eu: false,
-            nlba: false,
-        };
-        self.slices(lines, any, true).sounds()
+        self.slices(lines, NO_SPANS, true).sounds()
     }
 
-    /// Gives it to `out`, where there are `lines` NABC lines, these spans are open, and it stands
-    /// before one that begins a word or not. Returns whether `out` takes it.
+    /// Gives it to `out`, under `lines` NABC lines and with `spans` open. `next_starts` says
+    /// whether the next syllable begins a word. Returns whether `out` takes it.
     fn give<G: Give>(self, lines: u8, spans: Spans, next_starts: bool, out: &mut G) -> bool
         requires { BeginsRegularly lines (self.spelled.now ++ self.rest.now) (len_of self) }
         ensures given { result ≡ true → (is : BeginsRegularly lines
@@ -188,12 +176,12 @@ impl<'a> Found<'a> {
     }
 }
 
-/// Where a run stands: before a syllable that was found and is not given yet.
+/// The state of a run: before a syllable that was found and is not given yet.
 #[derive(Clone, Copy)]
 pub(crate) struct Reached<'a> {
     /// That syllable.
     last: Found<'a>,
-    /// How many syllables of the run stand before it.
+    /// The number of syllables of the run before it.
     count: u64,
     /// The canonical bytes before it.
     canonical: usize,
@@ -202,7 +190,7 @@ pub(crate) struct Reached<'a> {
 }
 
 impl<'a> Reached<'a> {
-    /// Returns what stands before its syllable, where `begun` stands before the run.
+    /// Returns what stands before its syllable, if `begun` stands before the run.
     fn preceding(self, begun: Preceding) -> Preceding
         ensures { result ≡ before_by begun self.entry }
     {
@@ -216,8 +204,8 @@ impl<'a> Reached<'a> {
 }
 
 impl SlotPair {
-    /// Gives the syllable that is held its place in its word, before one that begins a word or not.
-    /// `has_lent` says whether a syllable stands before it.
+    /// Gives the held syllable its place in its word. `has_lent` says whether a syllable stands
+    /// before it, and `next_starts` whether the next one begins a word.
     fn place_held(&mut self, has_lent: bool, next_starts: bool)
         requires used { self.old.used ≡ SlotUse.Filling }
         ensures gathered { self.new.gathered ≡ self.old.gathered }
@@ -228,12 +216,11 @@ impl SlotPair {
               position = position_by (not has_lent || m.text.word_start) next_starts;
             } }
     {
-        let starts = !has_lent || self.holder.syllable().text.word_start;
-        self.holder.place(position_by(starts, next_starts));
+        self.holder.place(has_lent, next_starts);
     }
 
-    /// Forgets the syllable that is held. `total` are the canonical bytes before the next one, and
-    /// `spans` are open before it.
+    /// Drops the held syllable. Before the next one there are `total` canonical bytes, and `spans`
+    /// are open.
     fn forget_held(&mut self, total: usize, spans: Spans)
         requires used { self.old.used ≡ SlotUse.Filling }
         ensures gathered { self.new.gathered ≡ record self.old.gathered {
@@ -246,13 +233,12 @@ impl SlotPair {
     {
         self.held = false;
         self.total = total;
-        self.eu = spans.eu;
-        self.nlba = spans.nlba;
+        self.spans = spans;
     }
 }
 
 impl ScoreMachine {
-    /// Returns whether it stands between two syllables, the first of which is held, and a text
+    /// Returns whether it stands between two syllables, of which the first is held, and a text
     /// begins at `at`.
     fn is_between(&self, at: Place) -> bool
         requires rests { IsScore self.now }
@@ -270,8 +256,7 @@ impl ScoreMachine {
         self.body.begins_text(at)
     }
 
-    /// Returns whether the first note or clef comes with `found`, where there are `lines` NABC
-    /// lines.
+    /// Returns whether the first note or clef comes with `found`, under `lines` NABC lines.
     #[inline(always)]
     fn is_first_with(&self, lines: u8, found: &Found<'_>) -> bool
         requires { BeginsRegularly lines (found.now.spelled.now ++ found.now.rest.now)
@@ -286,8 +271,8 @@ impl ScoreMachine {
         found.sounds(lines)
     }
 
-    /// Gives the syllable that is held to `out`, before one that begins a word or not. Returns
-    /// whether `out` takes it.
+    /// Gives the held syllable to `out`. `next_starts` says whether the next one begins a word.
+    /// Returns whether `out` takes it.
     fn give_held<G: Give>(&mut self, next_starts: bool, out: &mut G) -> bool
         requires used { self.old.pair.used ≡ SlotUse.Filling }
         requires short { All (IsShort self.old.limits.syllable) self.old.pair.gathered.made }
@@ -296,20 +281,17 @@ impl ScoreMachine {
         ensures given { result ≡ true → (m : UnplacedSyllable) → self.old.pair.gathered.made ≡ m ∷ [] →
             out.new ≡ G.given out.old (record {
               made = m;
-              position = position_by (not self.old.has_lent || m.text.word_start) next_starts;
+              position = position_by (not (has_given self.old) || m.text.word_start) next_starts;
             } ∷ []) }
         ensures kept { result ≡ false → out.new ≡ out.old }
     {
-        if !out.takes(self.limits.syllable as usize + 1) {
-            return false;
-        }
-        self.pair.place_held(self.has_lent, next_starts);
-        out.give(self.pair.first());
-        true
+        self.pair.place_held(self.bounds.follows(), next_starts);
+        out.give(self.pair.first(), self.limits.syllable as usize + 1)
     }
 
     /// Gives the syllables of a run to `out`, from the one that `begun` has found on, with which
-    /// `text` begins, as long as one follows and `out` takes them. Returns where it stands then.
+    /// `text` begins, as long as one follows and `out` takes them. Returns the state of the run
+    /// then.
     #[inline(never)]
     fn give_on<'a, G: Give>(&self, begun: Reached<'a>, text: &'a str, out: &mut G) -> Reached<'a>
         requires found { IsFound self.now.body.nabc_lines self.now.limits begun.canonical
@@ -357,14 +339,13 @@ impl ScoreMachine {
         reached
     }
 
-    /// Goes on before a syllable whose first character stands at `at`, where `before` stands before
-    /// it: those before it are given, none is held.
+    /// Goes on before a syllable whose first character stands at `at`, after `before`: those before
+    /// it are given, none is held.
     fn go_before(&mut self, before: Preceding, at: Place)
         requires { self.old.pair.used ≡ SlotUse.Filling }
         ensures { GoesBefore self.old before at self.new }
     {
         self.pair.forget_held(before.canonical, before.spans);
-        self.has_lent = true;
         self.bounds = Bounds {
             before,
             after: before,

@@ -1,22 +1,21 @@
-//! A machine from what a stage of headers emits to the score.
+//! A machine that makes a score of the events of a stage of headers.
 
-ghost use Rattle.std.specs.Prelude.{◌≡◌, ◌≢◌, ◌+◌, ◌<◌, ◌≤◌, ◌^◌, List, [], ◌∷◌, ◌++◌, false, length, take, None, Some, IfOk, MatchOption};
+ghost use Rattle.std.specs.Prelude.{◌≡◌, ◌≢◌, ◌<◌, ◌^◌, List, take, None, Some, IfOk, MatchOption};
 ghost use Rattle.gabc_headers.specs.declared.head_event.HeadEvent.{HeadEvent as HeadItem};
 ghost use Rattle.gabc_score.specs.declared.body_stage.BodyPart.{BodyPart};
 ghost use Rattle.gabc_score.specs.witness.BodyStage.{running_events_left};
 ghost use Rattle.gabc_places.specs.BoundedList.{Fits};
-ghost use Rattle.gabc_body.specs.ScoreEvents.{outputs_of, Stop, characters_in};
-ghost use Rattle.gabc_score.specs.ScoreStage.{GivesOutputs, GivesAt, GivesLast};
+ghost use Rattle.gabc_body.specs.ScoreEvents.{Stop, characters_in};
 ghost use Rattle.gabc_score.specs.ScoreReports.{before_with, held_of, reading_of};
 ghost use Rattle.gabc_body.specs.Syllable.{unplaced_of};
 ghost use Rattle.gabc_score.specs.witness.ScoreStage.{left_of};
-ghost use Rattle.gabc_score.specs.machine.ScoreStage.{placed_after, begun_score, body_left};
-ghost use Rattle.gabc_score.specs.machine.ScoreMachine.{shown, IsInBody, IsBeforeBody, IsScore, KeepsMemory};
+ghost use Rattle.gabc_score.specs.machine.ScoreStage.{begun_score, body_left};
+ghost use Rattle.gabc_score.specs.machine.ScoreMachine.{shown, IsInBody, IsBeforeBody, IsScore};
 ghost use Rattle.gabc_score.specs.machine.ReadsChar.{EndsInputs, Gathers, ReadsChar, StandsInBody, StopsWith, TakesInput};
 
 use crate::body_stage::{BodyPart, BodyStage};
 use crate::bounds::Bounds;
-use crate::giving::{find_first, give_broken, give_end, give_point, give_stop};
+use crate::emit::{find_first, give_broken, give_end, give_point, give_stop};
 use crate::score_event::ScoreEvent;
 use crate::slot_pair::{SlotPair, SlotUse};
 use gabc_body::{Before, Syllable};
@@ -24,7 +23,7 @@ use gabc_headers::HeadEvent;
 use gabc_places::{Char, Fault, Finding, Limits, Memory, Place, Room};
 use std::alloc::AllocError;
 
-/// Where a machine stands: before the body, in it, or after its last event.
+/// The part of a score in which a machine stands: before the body, in it, or after its last event.
 #[derive(Clone, Copy)]
 pub(crate) enum ScorePart {
     Heads,
@@ -32,26 +31,25 @@ pub(crate) enum ScorePart {
     Over,
 }
 
-/// Reads what a stage of headers emits.
+/// Takes the events of a stage of headers, and gives the score.
 #[derive(Drop)]
 pub(crate) struct ScoreMachine {
     pub(crate) limits: Limits,
     pub(crate) part: ScorePart,
     pub(crate) body: BodyStage,
     pub(crate) pair: SlotPair,
-    /// What is found with the input that is read.
+    /// The findings of the current input.
     pub(crate) found: Room<Finding>,
     /// The place after the last character of the body.
     pub(crate) next: Place,
-    /// Whether a syllable was borrowed.
-    pub(crate) has_lent: bool,
-    /// What stands before and after what is held.
+    /// What stands before and after the held syllable.
     pub(crate) bounds: Bounds,
 }
 
 impl ScoreMachine {
-    /// Reserves in `memory` what the reading of a body ever takes, whose first character stands at
-    /// `at`. Its canonical headers have `head` bytes, and `body` is a new stage.
+    /// Returns a machine in the body, whose first character stands at `at`, and reserves in
+    /// `memory` all that the reading takes. The canonical headers have `head` bytes, and `body` is
+    /// a new stage.
     pub(crate) fn in_body(
         memory: &Memory,
         limits: Limits,
@@ -77,7 +75,6 @@ impl ScoreMachine {
             pair,
             found,
             next: at,
-            has_lent: false,
             bounds,
         })
     }
@@ -94,8 +91,6 @@ impl ScoreMachine {
         self.pair.restart();
         self.found.clear();
         self.next = Place::START;
-        self.has_lent = false;
-        self.bounds = Bounds::after_headers(0);
     }
 
     /// Gives the last whole syllable and the fault. Nothing follows.
@@ -104,7 +99,7 @@ impl ScoreMachine {
         requires fits { Fits out.old 16 }
         ensures { StopsWith self.old fault self.new out.old out.new }
     {
-        give_stop(&mut self.pair, self.has_lent, fault, out);
+        give_stop(&mut self.pair, self.bounds.follows(), fault, out);
         self.part = ScorePart::Over;
     }
 
@@ -148,8 +143,8 @@ impl ScoreMachine {
             ),
             None => {
                 let is_whole = self.pair.is_whole();
-                let gave = give_point(&mut self.pair, self.has_lent, &mut self.found, out);
-                self.has_lent = self.has_lent || gave;
+                let follows = self.bounds.follows();
+                let gave = give_point(&mut self.pair, follows, &mut self.found, out);
                 self.bounds.pass(is_whole, gave, &self.pair);
                 self.next = x.place.saturating_after(x.c);
             }
@@ -170,15 +165,9 @@ impl ScoreMachine {
         match self.pair.end_fault(self.limits, self.next) {
             Some(fault) => self.stop(fault, out),
             None => {
+                let follows = self.bounds.follows();
                 let found = self.found.slice();
-                give_end(
-                    &mut self.pair,
-                    self.has_lent,
-                    has_last,
-                    self.next,
-                    found,
-                    out,
-                );
+                give_end(&mut self.pair, follows, has_last, self.next, found, out);
                 self.part = ScorePart::Over;
             }
         }
@@ -250,8 +239,8 @@ impl ScoreMachine {
         }
     }
 
-    /// Returns what stands before the syllable that is held, or before the one that is read where
-    /// none is held.
+    /// Returns what stands before the held syllable, or, if none is held, before the one that is
+    /// read.
     pub(crate) fn before(&self) -> Before
         ensures { result ≡ before_with self.now.body self.now.bounds.before }
     {
@@ -266,7 +255,7 @@ impl ScoreMachine {
         }
     }
 
-    /// Returns the syllable that is held, if one is.
+    /// Returns the held syllable, if there is one.
     pub(crate) fn held(&self) -> Option<&Syllable>
         requires rests { IsScore self.now }
         ensures { MatchOption result (held_of (shown self.now) ≡ None)
@@ -295,11 +284,11 @@ impl ScoreMachine {
         ensures { EndsInputs self.old out.old out.new self.new }
     {
         self.pair.free();
-        give_broken(&mut self.pair, self.has_lent, out);
+        give_broken(&mut self.pair, self.bounds.follows(), out);
         self.part = ScorePart::Over;
     }
 
-    /// Ends the inputs. Where neither a stop nor the end has come, the source has failed.
+    /// Ends the inputs. If neither a stop nor the end has come, the source has failed.
     pub(crate) fn finish(&mut self, out: &mut Room<ScoreEvent>)
         requires rests { IsScore self.old }
         requires fits { Fits out.old 16 }

@@ -1,6 +1,6 @@
-//! A stage from what a stage of headers emits to the score.
+//! A stage that makes a score of the events of a stage of headers.
 
-ghost use Rattle.std.specs.Prelude.{◌≡◌, ◌≤◌, List, [], length, take, None, Some, IfOk, MatchOption};
+ghost use Rattle.std.specs.Prelude.{◌≡◌, ◌≤◌, List, [], take, None, Some, IfOk, MatchOption};
 ghost use Rattle.gabc_headers.specs.declared.head_event.HeadEvent.{HeadEvent};
 ghost use Rattle.gabc_score.specs.witness.BodyStage.{texts_by_stage};
 ghost use Rattle.gabc_body.specs.ScoreEvents.{score_outputs};
@@ -29,9 +29,9 @@ use gabc_places::{Limits, Memory, Place, Room, Stage};
 use std::alloc::{AllocError, Global};
 use std::marker::Model;
 
-/// Reads a score from what a stage of headers emits: what is found, each whole syllable with its
-/// position, and what stops the reading (GregorioRef, "Syllable Text Syntax"). A call gives at most
-/// 16 events. It asks for no memory once made.
+/// Takes the events of a stage of headers, and gives the score: what is found, each whole syllable
+/// with its position, and what stops the reading (GregorioRef, "Syllable Text Syntax"). A call
+/// gives at most 16 events. It asks for no memory once made.
 #[derive(Drop)]
 pub struct ScoreStage {
     pub(crate) machine: ScoreMachine,
@@ -85,7 +85,6 @@ impl ScoreStage {
                 pair,
                 found,
                 next: Place::START,
-                has_lent: false,
                 bounds,
             },
         })
@@ -104,9 +103,9 @@ impl ScoreStage {
 
     /// Takes whole syllables from the front of `text`, of which the first character stands at `at`,
     /// and returns how far it went. At their characters it gives syllables and nothing else, to
-    /// `out`. From then on it gives what it would give had each of the characters been pushed. Of
-    /// those that it could take it may leave some to `push`. `room` is empty, and has room for 16
-    /// events; nothing stands in it afterwards.
+    /// `out`. From then on it gives what it would give had each of the characters been pushed. It
+    /// may stop early, and `push` takes the rest. `room` is empty, has room for 16 events, and is
+    /// left empty.
     pub fn take_run<G: Give>(
         &mut self,
         at: Place,
@@ -133,11 +132,11 @@ impl ScoreStage {
         self.machine.limits
     }
 
-    /// Returns what stands before the syllable that is held, or before the one that is read where
-    /// none is held: the numbers that the headers gave, and of the syllables before how many they
-    /// are, how many bytes they and the canonical headers have, which spans are open after them,
-    /// and whether one of them has a note or a clef in GABC. Before the headers are whole, and
-    /// after the last event, it returns `None`.
+    /// Returns what stands before the held syllable, or, if none is held, before the one that is
+    /// read: the numbers that the headers gave, and of the syllables before how many they are, how
+    /// many bytes they and the canonical headers have, which spans are open after them, and whether
+    /// one of them has a note or a clef in GABC. Before the headers are whole, and after the last
+    /// event, it returns `None`.
     pub fn before(&self) -> Option<Before>
         ensures { result ≡ before_of self.now }
     {
@@ -147,9 +146,9 @@ impl ScoreStage {
         }
     }
 
-    /// Returns the whole syllable that is held, if one is: it is given when the next one is whole,
-    /// or at the last event. Outside the body it returns `None`. The syllable's position is not
-    /// known yet, and what it says of it counts for nothing.
+    /// Returns the held syllable, if there is one: it is whole, and is given when the next one is
+    /// whole, or at the last event. Outside the body it returns `None`. The syllable's position is
+    /// not known yet, and what it says of it counts for nothing.
     pub fn held(&self) -> Option<&Syllable>
         ensures { MatchOption result (held_of self.now ≡ None)
             (λ s. held_of self.now ≡ Some (unplaced_of s.now)) }
@@ -198,15 +197,15 @@ impl ScoreStage {
         }
     }
 
-    /// Says that the next character stands at `at`. What is open keeps the place where it began.
+    /// Sets the place of the next character to `at`. What is open keeps the place where it began.
     pub fn go_to(&mut self, at: Place)
         ensures { self.new ≡ moved_to at self.old }
     {
         self.machine.go_to(at);
     }
 
-    /// Returns the syllable that the last call gave as `lent`. What it returns where none was given
-    /// is not said.
+    /// Returns the syllable that the last call gave as `lent`. If that gave none, the result is not
+    /// specified.
     pub fn syllable(&self, lent: BorrowedSyllable) -> &Syllable
         ensures { placed_of result.now ≡ borrowed_in lent self.now }
     {

@@ -1,7 +1,7 @@
-//! A syllable that is read in room reserved for it.
+//! A syllable that is read into memory reserved for it.
 
 use crate::first_sound::{FirstSound, first_sound};
-use gabc_body::{Position, Snippet, Snippets, Syllable};
+use gabc_body::{Position, Snippet, Snippets, Spans, Syllable, position_by};
 use gabc_places::{Memory, Span};
 use gabc_text::{TextPart, TextView};
 use std::alloc::AllocError;
@@ -29,11 +29,12 @@ impl Model for Slot {
 }
 
 impl Slot {
-    ghost use Rattle.std.specs.Prelude.{◌≡◌, ◌+◌, ◌<◌, ◌^◌, [], ◌∷◌, IfOk, string_bytes};
+    ghost use Rattle.std.specs.Prelude.{◌≡◌, ◌+◌, ◌<◌, ◌^◌, ◌||◌, not, [], ◌∷◌, IfOk, string_bytes};
     ghost use Rattle.gabc_notes.specs.FirstNoteOrClef.{first_note_or_clef};
     ghost use Rattle.gabc_notes.specs.Items.{items_of};
     ghost use Rattle.gabc_text.specs.BuiltText.{with_part};
     ghost use Rattle.gabc_body.specs.Body.{empty_snippet};
+    ghost use Rattle.gabc_body.specs.Canonical.{position_by};
     ghost use Rattle.gabc_body.specs.Syllable.{slice, text_at, placed_of, unplaced_of};
     ghost use Rattle.gabc_score.specs.machine.FirstSound.{kind_of};
     ghost use Rattle.gabc_body.specs.witness.Gatherer.{span_of};
@@ -62,7 +63,7 @@ impl Slot {
         })
     }
 
-    /// Forgets what was read. The memory stays reserved.
+    /// Drops what was read. The memory stays reserved.
     pub(crate) fn clear(&mut self)
         ensures { self.new ≡ record self.old { reading = nothing_open } }
     {
@@ -72,7 +73,7 @@ impl Slot {
         self.from = 0;
     }
 
-    /// A character is kept.
+    /// Keeps `c`.
     pub(crate) fn keep(&mut self, c: char)
         requires { FitsKept self.old.limit self.old.reading 4 }
         ensures { self.new ≡ record self.old { reading = with_kept self.old.reading c } }
@@ -146,22 +147,26 @@ impl Slot {
         });
     }
 
-    /// Makes the syllable that was read whole.
-    pub(crate) fn close(&mut self, eu: bool, nlba: bool)
-        ensures { self.new ≡ record self.old { eu = eu; nlba = nlba } }
+    /// Makes the syllable that was read whole. `spans` are open after it.
+    pub(crate) fn close(&mut self, spans: Spans)
+        ensures { self.new ≡ record self.old { eu = spans.eu; nlba = spans.nlba } }
     {
-        self.syllable.eu = eu;
-        self.syllable.nlba = nlba;
+        self.syllable.eu = spans.eu;
+        self.syllable.nlba = spans.nlba;
     }
 
-    /// Gives the syllable its position.
-    pub(crate) fn place(&mut self, position: Position)
-        ensures { self.new ≡ record self.old { position = position } }
+    /// Gives the syllable its position in its word. `follows` says whether a syllable stands before
+    /// it, and `next_starts` whether the next one begins a word.
+    pub(crate) fn place(&mut self, follows: bool, next_starts: bool)
+        ensures { self.new ≡ record self.old {
+          position = position_by (not follows || self.old.reading.view.word_start) next_starts;
+        } }
     {
-        self.syllable.position = position;
+        let starts = !follows || self.syllable.text.word_start;
+        self.syllable.position = position_by(starts, next_starts);
     }
 
-    /// The bytes of a span of the kept text.
+    /// Returns the bytes of a span of the kept text.
     pub(crate) fn slice(&self, span: Span) -> &[u8]
         ensures { result.now ≡ slice span self.now.reading.kept }
     {

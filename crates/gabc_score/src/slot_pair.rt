@@ -5,8 +5,9 @@ ghost use Rattle.std.specs.Prelude.{IfOk};
 ghost use Rattle.gabc_body.specs.witness.SyllableBuilder.{nothing_open};
 
 use crate::first_sound::FirstSound;
+use crate::preceding::NO_SPANS;
 use crate::slot::Slot;
-use gabc_body::{LentSyllable, canonical_len, position_by};
+use gabc_body::{LentSyllable, Spans, canonical_len};
 use gabc_notes::{NoteEnd, NoteEvent};
 use gabc_places::{Code, Fault, Limits, Memory, Place, Span};
 use gabc_text::{Piece, PieceKind, TextEnd, TextEvent, TextPart, TextView};
@@ -14,7 +15,7 @@ use std::alloc::AllocError;
 use std::marker::Model;
 use std::mem::swap;
 
-/// How the slot is used that reads.
+/// The state of the slot `reader`.
 #[derive(Clone, Copy)]
 pub(crate) enum SlotUse {
     /// It holds what is read of a syllable.
@@ -25,15 +26,15 @@ pub(crate) enum SlotUse {
     Lent,
 }
 
-/// What was gathered of a body, of which only the last whole syllable is held.
+/// What was gathered of a body. Of its whole syllables only the last is held.
 #[derive(Drop)]
 pub(crate) struct SlotPair {
     /// The most bytes that a syllable may have.
     limit: usize,
     pub(crate) reader: Box<Slot, Memory>,
     pub(crate) used: SlotUse,
-    /// From which byte on the kept text of the whole syllable in `reader` is its canonical text, if
-    /// that is known.
+    /// The byte from which on the kept text of the whole syllable in `reader` is its canonical
+    /// text, if it is known.
     pub(crate) reader_from: Option<usize>,
     /// The last whole syllable, if it is held.
     pub(crate) holder: Box<Slot, Memory>,
@@ -42,15 +43,14 @@ pub(crate) struct SlotPair {
     pub(crate) held: bool,
     /// Whether a syllable stands before the one that is read.
     pub(crate) follows: bool,
-    /// Whether the span of `<eu>` is open, and that of `<nlba>`.
-    pub(crate) eu: bool,
-    pub(crate) nlba: bool,
+    /// The spans that are open.
+    pub(crate) spans: Spans,
     /// The bytes of the canonical headers and of all syllables that stand before the one that is
     /// read, or the last value.
     pub(crate) total: usize,
     /// Whether one of them is longer than the limit.
     over: bool,
-    /// Where the bracket stands that the end of the input leaves open.
+    /// The place of the bracket that the end of the input leaves open.
     cut: Option<Place>,
     /// What came first in the GABC snippets that have ended, if a note or a clef has come.
     pub(crate) sounded: Option<FirstSound>,
@@ -80,8 +80,8 @@ impl Model for SlotPair {
       gathered = record {
         limit = s.limit;
         builder = reading_in s.used s.reader.value;
-        eu = s.eu;
-        nlba = s.nlba;
+        eu = s.spans.eu;
+        nlba = s.spans.nlba;
         made = held_in s.held s.holder.value ++ made_last s.used s.reader.value;
         follows = s.follows;
         total = s.total;
@@ -124,8 +124,7 @@ impl SlotPair {
             holder_from: None,
             held: false,
             follows: false,
-            eu: false,
-            nlba: false,
+            spans: NO_SPANS,
             total: 0,
             over: false,
             cut: None,
@@ -133,7 +132,7 @@ impl SlotPair {
         })
     }
 
-    /// Forgets what was gathered: nothing was read, as in new slots. Their memory stays reserved.
+    /// Drops what was gathered: nothing was read, as in new slots. Their memory stays reserved.
     pub(crate) fn restart(&mut self)
         ensures gathered { self.new.gathered ≡ nothing_gathered self.old.gathered.limit 0 }
         ensures used { self.new.used ≡ SlotUse.Filling }
@@ -142,8 +141,7 @@ impl SlotPair {
         self.used = SlotUse::Filling;
         self.held = false;
         self.follows = false;
-        self.eu = false;
-        self.nlba = false;
+        self.spans = NO_SPANS;
         self.total = 0;
         self.over = false;
         self.cut = None;
@@ -193,7 +191,7 @@ impl SlotPair {
         }
     }
 
-    /// Opens or closes a span, where the part is a mark that does.
+    /// Opens or closes a span, if the part is a mark that does.
     fn add_mark_of(&mut self, part: TextPart)
         requires { self.old.used ≡ SlotUse.Filling }
         ensures { self.new ≡ record self.old {
@@ -211,10 +209,11 @@ impl SlotPair {
     {
         if let PieceKind::Mark = piece.kind {
             let spelled = self.reader.slice(piece.span);
-            let eu = is_open_after(b"<eu>", b"</eu>", self.eu, piece.kind, spelled);
-            let nlba = is_open_after(b"<nlba>", b"</nlba>", self.nlba, piece.kind, spelled);
-            self.eu = eu;
-            self.nlba = nlba;
+            let Spans { eu, nlba } = self.spans;
+            self.spans = Spans {
+                eu: is_open_after(b"<eu>", b"</eu>", eu, piece.kind, spelled),
+                nlba: is_open_after(b"<nlba>", b"</nlba>", nlba, piece.kind, spelled),
+            };
         }
     }
 
@@ -268,7 +267,7 @@ impl SlotPair {
         }
     }
 
-    /// Returns whether neither a note nor a clef has come in GABC, where `line` is a line of GABC.
+    /// Returns whether `line` is a line of GABC, and neither a note nor a clef has come in GABC.
     #[inline(always)]
     fn awaits_on(&self, line: u8) -> bool
         ensures { result ≡ awaits self.now.gathered.first_kind line }
@@ -277,7 +276,7 @@ impl SlotPair {
     }
 
     /// Finds the first note or clef in the snippet of `line` that has ended, which has this span,
-    /// where neither came before.
+    /// if neither came before.
     #[inline(always)]
     fn add_first_sound(&mut self, line: u8, span: Span)
         requires { self.old.used ≡ SlotUse.Filling }
@@ -295,7 +294,7 @@ impl SlotPair {
         requires { self.old.used ≡ SlotUse.Filling }
         ensures { HasGathered self.old (with_syllable self.old.gathered) SlotUse.Made self.new }
     {
-        self.reader.close(self.eu, self.nlba);
+        self.reader.close(self.spans);
         let made = LentSyllable::of(self.reader.syllable());
         let starts = !self.follows || made.syllable.text.word_start;
         let len = canonical_len(made, starts);
@@ -307,7 +306,7 @@ impl SlotPair {
         self.used = SlotUse::Made;
     }
 
-    /// Closes the last text, where it has a piece, a centre or a translation: its notes are one
+    /// Closes the last text, if it has a piece, a centre or a translation: its notes are one
     /// empty snippet. Returns whether it has.
     pub(crate) fn close_last(&mut self) -> bool
         requires { self.old.used ≢ SlotUse.Lent }
@@ -358,7 +357,7 @@ impl SlotPair {
         }
     }
 
-    /// The bytes of the syllable that is read.
+    /// Returns the length in bytes of the syllable that is read.
     fn kept_len(&self) -> usize
         ensures { result ≡ length self.now.gathered.builder.kept }
     {
@@ -385,16 +384,16 @@ impl SlotPair {
         }
     }
 
-    /// Whether the syllable in the slot that reads begins a word.
+    /// Returns whether the syllable in the slot `reader` begins a word.
     fn starts(&self) -> bool
         ensures { result ≡ self.now.second.made.text.word_start }
     {
         self.reader.syllable().text.word_start
     }
 
-    /// Gives the held syllable where the one that was read is whole, which is held from then on.
+    /// Gives the held syllable if the one that was read is whole, which is held from then on.
     /// `has_lent` says whether one was borrowed before. Returns how many it gave, one or none.
-    pub(crate) fn turn(&mut self, has_lent: bool) -> usize
+    pub(crate) fn rotate(&mut self, has_lent: bool) -> usize
         ensures gathered { self.new.gathered ≡ with_held self.old.gathered }
         ensures lends { lent_syllables result self.new ≡ take (length self.old.gathered.made - 1)
             (placed_after has_lent self.old.gathered.made) }
@@ -409,8 +408,7 @@ impl SlotPair {
         swap(&mut self.reader, &mut self.holder);
         swap(&mut self.reader_from, &mut self.holder_from);
         if self.held {
-            let starts = !has_lent || self.starts();
-            self.reader.place(position_by(starts, next_starts));
+            self.reader.place(has_lent, next_starts);
             self.used = SlotUse::Lent;
             1
         } else {
@@ -426,8 +424,7 @@ impl SlotPair {
         requires { self.old.used ≢ SlotUse.Lent }
         ensures { LendsLast self.old (placed_after has_lent self.old.held) 1 result self.new }
     {
-        let starts = !has_lent || self.holder.syllable().text.word_start;
-        self.holder.place(position_by(starts, true));
+        self.holder.place(has_lent, true);
         if self.held { 1 } else { 0 }
     }
 
@@ -440,14 +437,13 @@ impl SlotPair {
         let SlotUse::Made = self.used else {
             return self.give_held(has_lent);
         };
-        let starts = self.starts();
         if self.held {
-            let first_starts = !has_lent || self.holder.syllable().text.word_start;
-            self.holder.place(position_by(first_starts, starts));
-            self.reader.place(position_by(starts, true));
+            let next_starts = self.starts();
+            self.holder.place(has_lent, next_starts);
+            self.reader.place(true, true);
             2
         } else {
-            self.reader.place(position_by(!has_lent || starts, true));
+            self.reader.place(has_lent, true);
             swap(&mut self.reader, &mut self.holder);
             swap(&mut self.reader_from, &mut self.holder_from);
             1
@@ -460,15 +456,15 @@ ghost use Rattle.gabc_body.specs.Syllable.{is_open_after};
 ghost use Rattle.gabc_body.specs.Body.{has_text};
 ghost use Rattle.gabc_text.specs.TextView.{content_of};
 
-/// Whether a last text is a syllable.
+/// Returns whether a last text is a syllable.
 fn has_text(view: &TextView) -> bool
     ensures { result ≡ has_text (content_of view.now) }
 {
     !view.pieces.as_slice().is_empty() || view.centre.is_some() || view.translation.is_some()
 }
 
-/// Whether a span is open after a piece of this kind and spelling, by the tags that open and close
-/// it.
+/// Returns whether a span is open after a piece of this kind and spelling, by the tags that open
+/// and close it.
 fn is_open_after(opening: &[u8], closing: &[u8], was: bool, kind: PieceKind, spelled: &[u8]) -> bool
     ensures { result ≡ is_open_after opening.now closing.now was kind spelled.now }
 {

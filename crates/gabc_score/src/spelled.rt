@@ -14,15 +14,15 @@ use gabc_text::translation_from;
 /// A regular syllable as it is spelled, in a slice of the text that it stands in.
 #[derive(Clone, Copy)]
 pub struct SpelledSyllable<'a> {
-    /// Where it stands in its word.
+    /// Its position in its word.
     pub position: Position,
     /// The spans that are open after it.
     pub spans: Spans,
-    /// How many NABC lines there are under each GABC snippet.
+    /// The number of NABC lines under each GABC snippet.
     pub lines: u8,
     /// Its canonical text but for the LF before a word.
     pub canonical: &'a str,
-    /// How many bytes of that stand before the `(`: those of its text and its translation.
+    /// The number of its bytes before the `(`: those of its text and its translation.
     pub opening: usize,
 }
 
@@ -43,13 +43,13 @@ pub struct SpelledSnippets<'a> {
     line: u8,
     /// The next one and what follows it, through the `)`.
     rest: &'a str,
-    /// Whether none is left.
+    /// Whether no snippet is left.
     over: bool,
 }
 
 impl<'a> SpelledSyllable<'a> {
     /// Returns its text with its translation.
-    fn text(self) -> &'a str
+    pub fn text(self) -> &'a str
         requires { IsSpelling self }
         ensures { result.now ≡ take self.entry.opening self.entry.canonical.now }
     {

@@ -4,7 +4,6 @@
 ghost use Rattle.std.specs.Prelude.{◌≡◌, ◌==◌, ◌+◌, ◌*◌, ◌<◌, ◌≤◌, ◌^◌, ℕ, List, [], ◌∷◌, None, Some, true, false, length, map, is_some, option_to_list, encode_utf8_all, IfOk, IfSome, OnErr, OnOk, Ok};
 ghost use Rattle.gabc_headers.specs.declared.head_event.HeadEvent.{HeadEvent};
 ghost use Rattle.gabc_headers.specs.declared.head_event.HeadEvent.TheVariants.{Stop};
-ghost use Rattle.std.specs.Char.{IsScalar};
 ghost use Rattle.std.specs.List.{All};
 ghost use Rattle.std.specs.Str.{IsUtf8};
 ghost use Rattle.gabc_headers.specs.witness.HeadEvents.{events_of_input, reading};
@@ -343,16 +342,14 @@ pub fn a_text_is_one_syllable()
         MayBeHeld limits before text m → MayBeHeld limits before text n → m ≡ n }
 {}
 
-/// Law: a text that is one syllable keeps at most five bytes for each of its characters, on the way
-/// and in all. So it is that syllable under each limit that is no less than this.
+/// Law: a text that is one syllable keeps no more bytes than it has, on the way and in all. So it
+/// is that syllable under each limit that is no less than its bytes.
 pub fn one_syllable_keeps_no_more_than_its_text()
     ensures { (lines macros : ℕ) (t : List ℕ) (spans : Spans) (limit other : ℕ)
-        (m : UnplacedSyllable) → All IsScalar t → length (encode_utf8_all t) < 2 ^ 63 →
-        5 * length t ≤ other → IsReadAsSyllable lines macros t spans limit m →
+        (m : UnplacedSyllable) → length (encode_utf8_all t) ≤ other →
+        IsReadAsSyllable lines macros t spans limit m →
         IsReadAsSyllable lines macros t spans other m × (length m.kept ≤ other) }
-{
-    kept_laws::a_syllable_is_read_by_kept();
-}
+{}
 
 /// Reads again what `told` reports of the syllable that it reads, in a stage that stands before
 /// this syllable. Both stand after the same and under the same limits, and the syllables that they

@@ -9,7 +9,7 @@ ghost use Rattle.gabc_score.specs.machine.PlaceByBytes.{begins_character};
 use gabc_places::Place;
 use memchr::memchr;
 
-/// How many bytes are looked at together for how many characters begin in them.
+/// The number of bytes that are looked at together when characters are counted.
 const MOST_COUNTED: usize = 240;
 
 /// Returns whether a character begins with `byte`, a byte of a text.

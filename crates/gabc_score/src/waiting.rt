@@ -12,7 +12,7 @@ use crate::give::Give;
 /// their canonical texts are one after another in the text.
 #[derive(Clone, Copy)]
 pub(crate) struct Waiting<'a> {
-    /// The text from that of the first of them on; where none waits, from that of the next one on.
+    /// The text from that of the first of them on; if none waits, from that of the next one on.
     text: &'a str,
     /// Whether that one begins a word.
     starts: bool,
@@ -23,9 +23,9 @@ pub(crate) struct Waiting<'a> {
 }
 
 impl<'a> Waiting<'a> {
-    /// Returns that none waits before the syllable that `text` begins with, which has a gap of
-    /// `gap` bytes before its text. `earlier` syllables of the run stand before it, and `most`
-    /// bytes may be given together.
+    /// Returns the state in which none waits, before the syllable that `text` begins with, which
+    /// has a gap of `gap` bytes before its text. `earlier` syllables of the run stand before it,
+    /// and `most` bytes may be given together.
     #[inline(always)]
     pub(crate) fn none(text: &'a str, gap: usize, earlier: u64, most: usize) -> Waiting<'a>
         requires { IsSplitPoint text.now gap }
@@ -43,7 +43,7 @@ impl<'a> Waiting<'a> {
         }
     }
 
-    /// Returns whether some wait, where `count` syllables of the run stand before the next one.
+    /// Returns whether some wait, if `count` syllables of the run stand before the next one.
     #[inline(always)]
     pub(crate) fn is_some(self, count: u64) -> bool
         ensures { result ≡ nat_lt self.entry.earlier count }

@@ -1,17 +1,20 @@
 //! The score of a whole text.
 
-ghost use Rattle.std.specs.Prelude.{◌≡◌, ◌+◌, ◌<◌, ◌≤◌, ◌^◌, [], length, IfOk};
-ghost use Rattle.std.specs.Str.{chars};
+ghost use Rattle.std.specs.Prelude.{◌≡◌, IfOk};
 ghost use Rattle.gabc_headers.specs.Heads.{body_byte};
 ghost use Rattle.gabc_body.specs.Score.{body_in, with_body, head_fault_by, score_of};
+ghost use Rattle.gabc_score.specs.SaysScore.{SaysScore};
 
 use crate::body_stage::BodyStage;
 use crate::build_body::build_body;
+use crate::collecting::Said;
 use crate::context::BodyContext;
+use crate::give::{Collect, Give};
+use crate::spelled::SpelledSyllable;
 use crate::text_places::place_past;
-use gabc_body::{BodyResult, InputEnding, Score, Syllables};
-use gabc_headers::{HeadFault, Heads, headers_whole_with_hasher};
-use gabc_places::{Fault, Limits, Memory, Place, Text};
+use gabc_body::{InputEnding, LentSyllable, Score, Syllable, Syllables};
+use gabc_headers::{HeadFault, HeaderBook, Heads, headers_whole_with_hasher};
+use gabc_places::{Fault, Findings, Limits, Memory, Place, Text};
 use std::alloc::{AllocError, Global};
 use std::hash::DefaultHasher;
 
@@ -20,7 +23,7 @@ use std::hash::DefaultHasher;
 /// whole syllables, each with its text, kept text, snippets, position and flags; what was found;
 /// and the fault, the earliest that a rule gives. What has its point at the stop is hidden.
 /// `gabc_places::text_of` gives the text, and the fault of an `InputEnding::At`. It fails only for
-/// want of memory. The names of headers are hashed with a fixed key: where strangers write the text
+/// want of memory. The names of headers are hashed with a fixed key: if strangers write the text
 /// and `limits.header` is large, take `score_whole_with_hasher`.
 pub fn score_whole(
     alloc: Global,
@@ -44,18 +47,58 @@ pub fn score_whole_with_hasher(
 ) -> Result<Score, AllocError>
     ensures { IfOk result (λ score. score ≡ score_of limits ending text.now) }
 {
+    let mut whole = WholeSyllables {
+        memory: Memory::with_capacity(alloc, 0)?,
+        syllables: Syllables::new(alloc),
+    };
+    let ScoreRest {
+        book,
+        findings,
+        fault,
+    } = score_given(alloc, text, ending, limits, hasher, &mut whole)?;
+    Ok(Score {
+        book,
+        syllables: whole.syllables,
+        findings,
+        fault,
+    })
+}
+
+/// What a score says beside its syllables.
+#[derive(Debug, Drop)]
+pub struct ScoreRest {
+    /// The headers that count; none if a fault lies in the headers.
+    pub book: Option<HeaderBook>,
+    /// What was found before the stop, in the order of places.
+    pub findings: Findings,
+    /// What stopped the reading, if something did.
+    pub fault: Option<Fault>,
+}
+
+/// Reads the score of `text` as `score_whole_with_hasher` does, gives its syllables to `taker`, and
+/// returns the rest. If memory lacks, `taker` may have taken some of them.
+pub fn score_given<C: Collect>(
+    alloc: Global,
+    text: &Text,
+    ending: InputEnding,
+    limits: Limits,
+    hasher: DefaultHasher,
+    taker: &mut C,
+) -> Result<ScoreRest, AllocError>
+    ensures { IfOk result (λ rest. SaysScore C.given taker.old taker.new rest
+        (score_of limits ending text.now)) }
+{
     gabc_headers::laws::heads_are_of_groups();
     match headers_whole_with_hasher(alloc, text, limits, hasher)? {
-        Ok(heads) => score_after(alloc, text, ending, limits, heads),
-        Err(stop) => Ok(stopped_in_heads(alloc, ending, stop)),
+        Ok(heads) => score_after(alloc, text, ending, limits, heads, taker),
+        Err(stop) => Ok(stopped_in_heads(ending, stop)),
     }
 }
 
-/// The score of a text whose headers have a fault.
-fn stopped_in_heads(alloc: Global, ending: InputEnding, stop: HeadFault) -> Score
+/// Returns what a text says whose headers have a fault.
+fn stopped_in_heads(ending: InputEnding, stop: HeadFault) -> ScoreRest
     ensures { result ≡ record {
       book = None;
-      syllables = [];
       findings = stop.findings;
       fault = head_fault_by ending stop.at_end stop.fault;
     } }
@@ -65,15 +108,15 @@ fn stopped_in_heads(alloc: Global, ending: InputEnding, stop: HeadFault) -> Scor
         findings,
         at_end,
     } = stop;
-    Score {
+    ScoreRest {
         book: None,
-        syllables: Syllables::new(alloc),
         findings,
         fault: head_fault(ending, at_end, fault),
     }
 }
 
-/// The fault of headers: one that has the end as its point gives way to what ended the text.
+/// Returns the fault of headers: one that has the end as its point gives way to what ended the
+/// text.
 fn head_fault(ending: InputEnding, at_end: bool, fault: Fault) -> Option<Fault>
     ensures { result ≡ head_fault_by ending at_end fault }
 {
@@ -87,17 +130,18 @@ fn head_fault(ending: InputEnding, at_end: bool, fault: Fault) -> Option<Fault>
     }
 }
 
-/// The score of a text with these headers.
-fn score_after(
+/// Reads the score of a text with these headers, and gives its syllables to `taker`.
+fn score_after<C: Collect>(
     alloc: Global,
     text: &Text,
     ending: InputEnding,
     limits: Limits,
     heads: Heads,
-) -> Result<Score, AllocError>
+    taker: &mut C,
+) -> Result<ScoreRest, AllocError>
     requires { heads.body ≡ body_byte text.now }
-    ensures { IfOk result (λ score. score
-        ≡ with_body heads (body_in limits ending text.now heads)) }
+    ensures { IfOk result (λ rest. SaysScore C.given taker.old taker.new rest
+        (with_body heads (body_in limits ending text.now heads))) }
 {
     gabc_body::by_kept_laws::a_score_says_what_is_kept();
     let Heads {
@@ -113,15 +157,55 @@ fn score_after(
         head: book.canonical_len(),
         findings,
     };
-    let BodyResult {
-        syllables,
-        findings,
-        fault,
-    } = build_body(&memory, stage, after, start, limits, ending)?;
-    Ok(Score {
+    let Said { findings, fault } = build_body(&memory, stage, after, start, limits, ending, taker)?;
+    Ok(ScoreRest {
         book: Some(book),
-        syllables,
         findings,
         fault,
     })
+}
+
+/// The syllables of a score, whose kept texts lie in `memory`.
+#[derive(Drop)]
+struct WholeSyllables {
+    memory: Memory,
+    syllables: Syllables,
+}
+
+impl Give for WholeSyllables {
+    ghost use Rattle.std.proofs.Common.{append_assoc, append-nil, rules, sym};
+    ghost use Rattle.std.specs.Prelude.{◌≡◌, ◌++◌};
+
+    ghost given = { λ w ss. record w { syllables = w.syllables ++ ss } };
+
+    // it takes no text but one of no bytes
+    ghost TakesJoined = { λ w n. n ≡ 1 };
+
+    ghost given_none = { Prim.search (rules, append-nil) };
+
+    ghost given_both = { Prim.search (rules, append_assoc) };
+
+    fn give(&mut self, lent: LentSyllable<'_>, _most: usize) -> bool {
+        self.collect(lent.syllable).is_ok()
+    }
+
+    fn give_spelled(&mut self, _syllable: SpelledSyllable<'_>) -> bool {
+        false
+    }
+
+    fn joins(&self) -> usize {
+        0
+    }
+
+    fn give_joined(&mut self, _starts: bool, _text: &str, _count: u64) {}
+}
+
+impl Collect for WholeSyllables {
+    fn collect(&mut self, syllable: &Syllable) -> Result<(), AllocError> {
+        self.syllables.push(syllable.copy(&self.memory)?)
+    }
+
+    fn takes_runs(&self) -> bool {
+        false
+    }
 }

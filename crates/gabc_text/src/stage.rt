@@ -8,8 +8,6 @@ ghost use Rattle.gabc_text.specs.witness.Keeps.{Keeps};
 ghost use Rattle.gabc_text.specs.machine.TextStage.{token_stage, events_of_token, settle_stage, events_of_settling, read_stage, events_of_reading, events_of_end, end_stage, push_stage, events_of_push, finish_stage, events_of_finish, is_cut_end, end_by};
 ghost use Rattle.gabc_text.specs.View.{piece_kind};
 ghost use Rattle.gabc_text.specs.witness.EventsLeft.{events_left, parts_by};
-ghost use Rattle.gabc_text.specs.machine.TextFacts.{IsInTag};
-ghost use Rattle.gabc_text.specs.machine.TokenState.{IsLetterBetween};
 ghost use Rattle.gabc_text.specs.machine.RawPart.{stage_past, is_in_raw};
 ghost use Rattle.gabc_text.specs.Events.{CountsFit, codes_of, events_by_point};
 ghost use Rattle.gabc_text.specs.End.{is_end};
@@ -22,15 +20,13 @@ use crate::text_facts::{
 };
 use crate::token::{TagEffect, TokenKind};
 use crate::token_state::{
-    Step, TokenState, is_in_tag, is_plain, is_plain_letter, is_unmatched, kind_at_end, next_step,
-    pass_in_tag, settled_kind,
+    Step, TokenState, is_plain, is_unmatched, kind_at_end, next_step, settled_kind,
 };
-use crate::view::PieceKind;
 use gabc_places::{Char, Place, Room, Stage};
 
 /// Reads a text, one character at a time, up to the `(` of its notes (GregorioRef, "Syllable Text
 /// Syntax"). What a character makes known is emitted with it; after the `(` nothing is emitted. A
-/// call emits at most 8 events. It asks for no memory. After its end `push` and `finish` change
+/// call emits at most 8 events. It does not allocate. After its end `push` and `finish` change
 /// nothing of it.
 #[derive(Clone, Copy)]
 pub struct TextStage {
@@ -40,7 +36,7 @@ pub struct TextStage {
     ended: bool,
 }
 
-/// Whether a text is cut that ends so.
+/// Returns whether a text that ends so is cut.
 fn is_cut(how: TextEnd) -> bool
     ensures { result ≡ is_cut_end how }
 {
@@ -81,8 +77,8 @@ impl TextStage {
         }
     }
 
-    /// Adds the parts that a token is: a piece comes with the blank that waits for it. Before its
-    /// last character, `last` bytes were kept.
+    /// Emits the parts of a token: a piece comes after the pending blank. Before its last
+    /// character, `last` bytes were kept.
     #[inline(always)]
     fn emit_parts(&self, kind: TokenKind, effect: TagEffect, last: usize, out: &mut Room<TextEvent>)
         requires { Fits out.old 2 }
@@ -103,7 +99,7 @@ impl TextStage {
         }
     }
 
-    /// A token, which ends before this place. Before its last character, `last` bytes were kept.
+    /// Reads a token, which ends before `place`. Before its last character, `last` bytes were kept.
     #[inline(always)]
     fn token(
         &mut self,
@@ -128,7 +124,7 @@ impl TextStage {
         self.facts.pass(kind, effect);
     }
 
-    /// The token, if any, that ends before the character.
+    /// Reads the token, if any, that ends before the character.
     fn settle(&mut self, c: char, out: &mut Room<TextEvent>)
         requires { Fits out.old 3 }
         ensures stage { self.new ≡ settle_stage self.old c }
@@ -146,7 +142,7 @@ impl TextStage {
         }
     }
 
-    /// The character, which goes on with a token or begins one.
+    /// Reads the character, which goes on with a token or begins one.
     fn read(&mut self, c: char, out: &mut Room<TextEvent>)
         requires { Fits out.old 5 }
         ensures stage { self.new ≡ read_stage self.old c }
@@ -167,43 +163,7 @@ impl TextStage {
         }
     }
 
-    /// The character, which is a letter between tokens. This does what `read` does, without its
-    /// tests.
-    fn letter(&mut self, c: char, out: &mut Room<TextEvent>)
-        requires fits { Fits out.old 5 }
-        requires between { self.old.state ≡ TokenState.Plain }
-        requires letter { IsLetterBetween c }
-        ensures stage { self.new ≡ read_stage self.old c }
-        ensures out { out.new ≡ extended_by out.old (events_of_reading self.old c) }
-        ensures few { length out.new.items ≤ length out.old.items + 5 }
-    {
-        let last = self.progress.kept;
-        emit_char(out, self.progress.next, Some(c));
-        emit_piece(out, self.progress.blank);
-        self.progress.pass(c, Some(c));
-        let piece = piece_there(self.facts, self.progress, PieceKind::Char, last);
-        emit_piece(out, Some(piece));
-        let place = self.progress.next;
-        self.progress
-            .pass_token(self.facts, TokenKind::Letter, TagEffect::Other, place);
-        self.facts.pass(TokenKind::Letter, TagEffect::Other);
-    }
-
-    /// The character, which begins a tag or goes on with one. This does what `read` does, without
-    /// its tests.
-    fn tag_character(&mut self, c: char, out: &mut Room<TextEvent>)
-        requires fits { Fits out.old 5 }
-        requires tag { IsInTag self.old.state c }
-        ensures stage { self.new ≡ read_stage self.old c }
-        ensures out { out.new ≡ extended_by out.old (events_of_reading self.old c) }
-        ensures few { length out.new.items ≤ length out.old.items + 5 }
-    {
-        emit_char(out, self.progress.next, Some(c));
-        self.progress.pass(c, Some(c));
-        pass_in_tag(&mut self.state, c);
-    }
-
-    /// The text ends.
+    /// Ends the text.
     fn end(&mut self, how: TextEnd, out: &mut Room<TextEvent>)
         requires { Fits out.old 4 }
         ensures stage { self.new ≡ end_stage self.old }
@@ -221,24 +181,8 @@ impl TextStage {
         self.ended = true;
     }
 
-    /// The character, after the token, if any, that ends before it. A `(` between tokens ends the
-    /// text.
-    fn settle_and_read(&mut self, c: char, out: &mut Room<TextEvent>)
-        requires fits { Fits out.old 8 }
-        requires open { self.old.ended ≡ false }
-        ensures stage { self.new ≡ push_stage self.old c }
-        ensures out { out.new ≡ extended_by out.old (events_of_push self.old c) }
-        ensures few { length out.new.items ≤ length out.old.items + 8 }
-    {
-        self.settle(c, out);
-        if c == '(' && is_plain(self.state) {
-            self.end(TextEnd::Notes, out);
-        } else {
-            self.read(c, out);
-        }
-    }
-
-    /// Takes a character.
+    /// Takes a character, after the token, if any, that ends before it. A `(` between tokens ends
+    /// the text.
     pub(crate) fn take(&mut self, c: char, out: &mut Room<TextEvent>)
         requires { Fits out.old 8 }
         ensures stage { self.new ≡ push_stage self.old c }
@@ -248,14 +192,15 @@ impl TextStage {
         if self.ended {
             return;
         }
-        match self.state {
-            TokenState::Plain if is_plain_letter(c) => self.letter(c, out),
-            _ if is_in_tag(&self.state, c) => self.tag_character(c, out),
-            _ => self.settle_and_read(c, out),
+        self.settle(c, out);
+        if c == '(' && is_plain(self.state) {
+            self.end(TextEnd::Notes, out);
+        } else {
+            self.read(c, out);
         }
     }
 
-    /// Whether it stands in a raw part, with no character of the ending read.
+    /// Returns whether it is in a raw part, with no character of the ending read.
     pub(crate) fn is_in_raw(&self) -> bool
         ensures { result ≡ is_in_raw self.now }
     {
@@ -274,7 +219,7 @@ impl TextStage {
         }
     }
 
-    /// Whether the text has ended.
+    /// Returns whether the text has ended.
     pub(crate) fn is_done(&self) -> bool
         ensures { result ≡ self.now.ended }
     {
@@ -307,7 +252,7 @@ impl TextStage {
     }
 }
 
-/// How a text ends whose last token, which begins here, the end of the input ended.
+/// Returns how a text ends whose last token begins at `from` and ends with the input.
 fn end_after(kind: TokenKind, from: Place) -> TextEnd
     ensures { result ≡ end_by kind from }
 {

@@ -1,14 +1,13 @@
 //! How a text is cut into tokens as its characters come.
 
-ghost use Rattle.std.specs.Prelude.{◌≡◌, IsTrue};
-ghost use Rattle.gabc_text.specs.machine.TokenState.{settled_kind, wanted_char, step_in_raw, step_at_tag_end, first_step, next_step, kind_at_end, is_plain, with_name, IsLetterBetween};
-ghost use Rattle.gabc_text.specs.machine.TextFacts.{IsInTag};
+ghost use Rattle.std.specs.Prelude.{◌≡◌};
+ghost use Rattle.gabc_text.specs.machine.TokenState.{settled_kind, wanted_char, step_in_raw, step_at_tag_end, first_step, next_step, kind_at_end, is_plain};
 ghost use Rattle.gabc_text.specs.machine.RawPart.{is_unmatched};
 
 use crate::tag_name::TagPrefix;
 use crate::token::{RawKind, TagEffect, TokenKind, is_special, single};
 
-/// What is read at a place: a token, or what was read of one.
+/// The state of the token machine.
 #[derive(Clone, Copy)]
 pub enum TokenState {
     /// Between tokens.
@@ -23,14 +22,14 @@ pub enum TokenState {
     Translation,
 }
 
-/// What a character does: it belongs to a token that goes on, or it ends one.
+/// The effect of a character: it belongs to a token that goes on, or it ends one.
 #[derive(Clone, Copy)]
 pub enum Step {
     Stays(TokenState),
     Ends { kind: TokenKind, effect: TagEffect },
 }
 
-/// The token that ends before the character, if one does.
+/// Returns the token that ends before the character, if one does.
 pub(crate) fn settled_kind(state: TokenState, c: char) -> Option<TokenKind>
     ensures { result ≡ settled_kind state c }
 {
@@ -82,7 +81,7 @@ pub(crate) fn wanted_char(raw: RawKind, matched: u8) -> char
     }
 }
 
-/// The end of a token that is no tag.
+/// Returns the step that ends a token that is no tag.
 fn ends(kind: TokenKind) -> Step
     ensures { result ≡ Step.Ends kind TagEffect.Other }
 {
@@ -92,14 +91,14 @@ fn ends(kind: TokenKind) -> Step
     }
 }
 
-/// The raw part goes on, with `matched` characters of its ending read.
+/// Returns the step with which the raw part goes on, with `matched` characters of its ending read.
 fn stays_in_raw(part: RawKind, matched: u8) -> Step
     ensures { result ≡ Step.Stays (TokenState.Raw part matched) }
 {
     Step::Stays(TokenState::Raw { part, matched })
 }
 
-/// What a character does in a raw part.
+/// Returns the effect of a character in a raw part.
 pub(crate) fn step_in_raw(part: RawKind, matched: u8, c: char) -> Step
     ensures { result ≡ step_in_raw part matched c }
 {
@@ -131,7 +130,7 @@ pub(crate) fn step_at_tag_end(effect: TagEffect) -> Step
     }
 }
 
-/// What a character does between tokens.
+/// Returns the effect of a character between tokens.
 pub(crate) fn first_step(c: char) -> Step
     ensures { result ≡ first_step c }
 {
@@ -144,18 +143,7 @@ pub(crate) fn first_step(c: char) -> Step
     }
 }
 
-/// Whether the character is one of ASCII that is a letter of the text between tokens: a letter, a
-/// digit or most marks. There it is a token by itself, and it is kept.
-pub(crate) fn is_plain_letter(c: char) -> bool
-    ensures { IsTrue result → IsLetterBetween c }
-{
-    match c {
-        '*'..=';' | '?'..='Z' | 'a'..='z' => true,
-        _ => false,
-    }
-}
-
-/// What a character does in this state.
+/// Returns the effect of a character in this state.
 pub(crate) fn next_step(state: TokenState, c: char) -> Step
     ensures { result ≡ next_step state c }
 {
@@ -181,28 +169,7 @@ pub(crate) fn next_step(state: TokenState, c: char) -> Step
     }
 }
 
-/// Returns whether a tag begins with the character or goes on with it.
-pub(crate) fn is_in_tag(state: &TokenState, c: char) -> bool
-    ensures { IsTrue result → IsInTag state.now c }
-{
-    match state {
-        TokenState::Plain => c == '<',
-        TokenState::Tag(_) => c != '>',
-        _ => false,
-    }
-}
-
-/// Goes past a character with which a tag begins or goes on.
-pub(crate) fn pass_in_tag(state: &mut TokenState, c: char)
-    ensures { state.new ≡ with_name state.old c }
-{
-    match state {
-        TokenState::Tag(name) => *name = name.with(c),
-        _ => *state = TokenState::Tag(TagPrefix::new()),
-    }
-}
-
-/// The token that the end of the text ends.
+/// Returns the token that the end of the text ends, if any.
 pub(crate) fn kind_at_end(state: TokenState) -> Option<TokenKind>
     ensures { result ≡ kind_at_end state }
 {
@@ -215,7 +182,7 @@ pub(crate) fn kind_at_end(state: TokenState) -> Option<TokenKind>
     }
 }
 
-/// Whether it stands between tokens.
+/// Returns whether it is between tokens.
 pub(crate) fn is_plain(state: TokenState) -> bool
     ensures { result ≡ is_plain state }
 {
@@ -225,7 +192,7 @@ pub(crate) fn is_plain(state: TokenState) -> bool
     }
 }
 
-/// Whether it stands in a raw part, with no character of its ending read.
+/// Returns whether it is in a raw part, with no character of its ending read.
 pub(crate) fn is_unmatched(state: TokenState) -> bool
     ensures { result ≡ is_unmatched state }
 {

@@ -7,8 +7,8 @@ use Rattle.gabc_places.specs.declared.code.Code.{Code}
 use Rattle.gabc_places.specs.declared.code.Finding.{Finding}
 use Rattle.gabc_places.specs.declared.place.Span.{Span}
 use Rattle.gabc_headers.specs.Lines.{lines, is_blank, is_bare, has_mark, before_mark, has_colon, before_colon, after_colon, trim_end}
+use Rattle.gabc_nodes.specs.declared.node.Node.{Node}
 use Rattle.gabc_tree.specs.declared.header_lines.Header.{Header}
-use Rattle.gabc_tree.specs.declared.node.Node.{Node}
 use Rattle.gabc_tree.specs.HeaderLines.{span_of, name_span, ended_at, header_at, line_nodes, left_open, found_at, found_after, nodes_of, open_after, nodes_from}
 use Rattle.gabc_tree.specs.machine.HeaderLines.{is_last, first_mark, first_colon, row_of, IsOpen}
 use Rattle.gabc_tree.proofs.LinesByBytes.{kept_within, row_within, before_is, after_is, colon_at, mark_at, mark_none, colon_within}

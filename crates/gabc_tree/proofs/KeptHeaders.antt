@@ -5,12 +5,12 @@ use Rattle.gabc_places.specs.declared.code.Finding.{Finding}
 use Rattle.gabc_places.specs.declared.place.Span.{Span}
 use Rattle.gabc_headers.specs.Lines.{lines, trim_end, ends_no_value}
 use Rattle.std.specs.Prelude.{slice_range}
+use Rattle.gabc_nodes.specs.declared.kind.Kind.{Kind}
+use Rattle.gabc_nodes.specs.declared.kind.Kind.TheVariants as kind
+use Rattle.gabc_nodes.specs.declared.node.Node.{Node}
 use Rattle.gabc_tree.specs.HeaderLines.{part, span, value_span, header_with, header_line_nodes}
 use Rattle.gabc_tree.specs.Placed.{offset, is_snippet}
 use Rattle.gabc_tree.specs.declared.header_lines.Header.{Header}
-use Rattle.gabc_tree.specs.declared.kind.Kind.{Kind}
-use Rattle.gabc_tree.specs.declared.kind.Kind.TheVariants as kind
-use Rattle.gabc_tree.specs.declared.node.Node.{Node}
 use Rattle.gabc_tree.proofs.KeptNodes as kept
 use Rattle.gabc_tree.proofs.KeptNodes.{AreKept, none, empty, kept_order, kept_sooner, kept_both}
 use Rattle.gabc_tree.proofs.NestedHeaders.{IsForm, IsPlaced, lines_in, lines_total, span_order, value_in}

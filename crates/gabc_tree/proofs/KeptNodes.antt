@@ -1,8 +1,8 @@
 -- Nodes of kept bytes that lie in one another, with a byte in each or a mark round it.
 use Rattle.std.proofs.Common.{◌≡◌, ◌≤◌, ℕ, ◌+◌, false, true, List, [], ◌∷◌, ◌++◌, length, sym, ap, subst, append_assoc, arith}
+use Rattle.gabc_nodes.specs.declared.node.Node.{Node}
 use Rattle.gabc_tree.specs.Nested.{AreNested, over, node}
 use Rattle.gabc_tree.specs.Placed.{is_snippet}
-use Rattle.gabc_tree.specs.declared.node.Node.{Node}
 
 -- The nodes lie in one another between two kept bytes. A node with no byte stands before the last
 -- one, and a mark stands before and after what is a snippet's.

@@ -7,10 +7,10 @@ use Rattle.gabc_places.specs.declared.code.Code.TheVariants.{E4, E5}
 use Rattle.gabc_places.specs.declared.code.Finding.{Finding}
 use Rattle.gabc_places.specs.declared.place.Span.{Span}
 use Rattle.gabc_headers.specs.Lines.{is_mark, lines, on_first, lines_len, is_blank, ends_no_value, is_bare, has_mark, before_mark, has_colon, before_colon, after_colon, trim_end}
+use Rattle.gabc_nodes.specs.declared.kind.Kind.{Kind}
+use Rattle.gabc_nodes.specs.declared.kind.Kind.TheVariants as kind
+use Rattle.gabc_nodes.specs.declared.node.Node.{Node}
 use Rattle.gabc_tree.specs.declared.header_lines.Header.{Header}
-use Rattle.gabc_tree.specs.declared.kind.Kind.{Kind}
-use Rattle.gabc_tree.specs.declared.kind.Kind.TheVariants as kind
-use Rattle.gabc_tree.specs.declared.node.Node.{Node}
 use Rattle.gabc_tree.specs.Nested.{AreNested, over, node}
 use Rattle.gabc_tree.specs.Placed.{offset, is_snippet}
 use Rattle.gabc_tree.specs.HeaderLines.{part, span, span_of, name_span, value_span, semicolons, comment_by, comment_of, header_with, header_by, ended_at, header_at, line_nodes, left_open, nodes_below, open_below, found_at, found_after, nodes_of, open_after, nodes_from, header_line_nodes}

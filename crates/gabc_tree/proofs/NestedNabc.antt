@@ -9,15 +9,15 @@ use Rattle.gabc_nabc.specs.Table.{nabc}
 use Rattle.gabc_nabc.specs.declared.descriptor.Descriptor.{Descriptor}
 use Rattle.gabc_nabc.proofs.parts_of_text.PartsAreTheReading.{parts_lie}
 use Rattle.gabc_notes.specs.Notes.{height_of}
+use Rattle.gabc_nodes.specs.declared.kind.Kind.TheVariants as kind
+use Rattle.gabc_nodes.specs.declared.node.Node.{Node}
 use Rattle.gabc_tree.specs.Nested.{AreNested}
 use Rattle.gabc_tree.specs.Placed.{is_snippet}
 use Rattle.gabc_tree.specs.NabcNodes.{kind_of_piece, is_digit, is_modifier, through_digit, glyph_before_pitch, before_pitch, piece_kind, pitch_at, piece_len, piece_node, pieces_from, pieces_of, descriptor_nodes, part_nodes, nabc_nodes}
 use Rattle.gabc_tree.specs.NoteNodes.{node_at}
 use Rattle.gabc_tree.specs.Numbers.{three}
-use Rattle.gabc_tree.specs.declared.kind.Kind.TheVariants as kind
 use Rattle.gabc_tree.specs.declared.nabc_nodes.PieceKind.{PieceKind}
 use Rattle.gabc_tree.specs.declared.nabc_nodes.PieceKind.TheVariants as piece
-use Rattle.gabc_tree.specs.declared.node.Node.{Node}
 use Rattle.gabc_tree.proofs.KeptNodes as kept_nodes
 use Rattle.gabc_tree.proofs.KeptNodes.{AreKept, none, kept_sooner, are_nested}
 use Rattle.gabc_tree.proofs.LongItems.{AreLong, long_bytes, items_long}

@@ -12,10 +12,10 @@ use Rattle.gabc_notes.proofs.items_of_text.ItemsByBytes.{items_lie_in}
 use Rattle.gabc_neumes.specs.Elements.{is_in_element}
 use Rattle.gabc_neumes.specs.InForce.{InForce, step_of, in_force_after}
 use Rattle.gabc_neumes.specs.declared.glyph.GlyphKind.{GlyphKind}
+use Rattle.gabc_nodes.specs.declared.node.Node.{Node}
 use Rattle.gabc_tree.specs.Nested.{AreNested}
 use Rattle.gabc_tree.specs.NoteNodes.{kind_of_item, is_note, through, last_to, later_items, glyph_from, glyph_node, glyph_nodes, item_nodes, gabc_nodes}
 use Rattle.gabc_tree.specs.Placed.{is_snippet}
-use Rattle.gabc_tree.specs.declared.node.Node.{Node}
 use Rattle.gabc_tree.proofs.KeptNodes.{AreKept, none, part, are_nested}
 use Rattle.gabc_tree.proofs.LongItems.{AreLong, long_bytes, items_long}
 

@@ -14,8 +14,8 @@ use Rattle.gabc_text.specs.Printed.{text_of_tokens}
 use Rattle.gabc_text.proofs.tokens.CountsOfTexts.{bytes_append}
 use Rattle.gabc_text.proofs.tokens.TextIsTokensAndRest.{parted}
 use Rattle.gabc_text.proofs.machine.LoopOverText.{bytes_chars}
-use Rattle.gabc_tree.specs.declared.kind.Kind.TheVariants as kind
-use Rattle.gabc_tree.specs.declared.node.Node.{Node}
+use Rattle.gabc_nodes.specs.declared.kind.Kind.TheVariants as kind
+use Rattle.gabc_nodes.specs.declared.node.Node.{Node}
 use Rattle.gabc_tree.specs.Nested.{AreNested}
 use Rattle.gabc_tree.specs.Placed.{is_snippet}
 use Rattle.gabc_tree.specs.TextNodes.{is_characters, is_escape, tag_node, node_by, span_at, numbers_of, is_piece_at, node_at, nodes_along, joined_after, joined, text_nodes}

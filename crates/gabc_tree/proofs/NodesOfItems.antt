@@ -14,15 +14,15 @@ use Rattle.gabc_neumes.specs.Cut.{longest_glyph}
 use Rattle.gabc_neumes.specs.Elements.{joins_segment, is_in_element, is_in_segment, notes_in}
 use Rattle.gabc_neumes.specs.InForce.{InForce, step_of, in_force_after}
 use Rattle.gabc_neumes.specs.declared.glyph.GlyphKind.{GlyphKind}
+use Rattle.gabc_nodes.specs.declared.kind.Kind.TheVariants as kind
+use Rattle.gabc_nodes.specs.declared.node.Node.{Node}
 use Rattle.gabc_tree.specs.Numbers.{glyph_numbers}
 use Rattle.gabc_tree.specs.NoteNodes.{is_note, node_at, through, last_to, later_items, glyph_at, glyph_from, glyph_node, glyph_nodes, item_node, item_nodes}
 use Rattle.gabc_tree.specs.machine.NoteNodes.{node_of_glyph, next_glyph, notes_after_first, left_after, grouped, nodes_at, place_after}
-use Rattle.gabc_tree.specs.declared.kind.Kind.TheVariants as kind
-use Rattle.gabc_tree.specs.declared.node.Node.{Node}
 use Rattle.gabc_tree.specs.declared.note_nodes.ItemPlace.{ItemPlace}
 use Rattle.gabc_tree.specs.declared.numbers.Numbers.{Numbers}
 
--- the items through the nth note, where some is to come
+-- the items through the nth note, if some is to come
 pub through_item : (n : ℕ) (i : Item) (items : List Item) → 0 < n
     → through n (i ∷ items) ≡ i ∷ through (if is_note i.kind then n - 1 else n) items
 through_item zero i items h = absurd (omega arith)

@@ -3,10 +3,10 @@ use Rattle.std.proofs.Common.{◌≡◌, ℕ, List, [], ◌∷◌, ◌++◌, len
 use Rattle.std.specs.Prelude.{drop}
 use Rattle.std.specs.List.{slice_range, concat}
 use Rattle.std.proofs.lemmas.List.Folds.{drop_split}
+use Rattle.gabc_nodes.specs.declared.node.Node.{Node}
 use Rattle.gabc_tree.specs.Nested as nested
 use Rattle.gabc_tree.specs.Nested.{AreNested, AreOneTree}
 use Rattle.gabc_tree.specs.Own.{AreOwn, over, node, HaveAllBytes}
-use Rattle.gabc_tree.specs.declared.node.Node.{Node}
 
 concat_both : (xs ys : List (List ℕ)) → concat (xs ++ ys) ≡ concat xs ++ concat ys
 concat_both [] ys = refl

@@ -1,10 +1,10 @@
 -- The pieces of a descriptor, one after the other.
 use Rattle.std.proofs.Common.{◌≡◌, ◌≢◌, ◌≤◌, ◌<◌, ℕ, zero, suc, ◌+◌, ◌-◌, ◌==◌, Bool, false, List, [], ◌∷◌, length, drop, get_or, drop-cons, ne_eqb, refl, ap, sym, ◌∙◌, arith, if◌then◌else◌}
 use Rattle.std.proofs.lemmas.List.{drop-drop}
+use Rattle.gabc_nodes.specs.declared.kind.Kind.{Kind}
+use Rattle.gabc_nodes.specs.declared.node.Node.{Node}
 use Rattle.gabc_tree.specs.NabcNodes.{piece_kind, kind_of_piece, piece_len, piece_numbers, piece_node, pieces_from}
 use Rattle.gabc_tree.specs.NoteNodes.{node_at}
-use Rattle.gabc_tree.specs.declared.kind.Kind.{Kind}
-use Rattle.gabc_tree.specs.declared.node.Node.{Node}
 use Rattle.gabc_tree.specs.declared.numbers.Numbers.{Numbers}
 
 -- the rest of a piece is passed

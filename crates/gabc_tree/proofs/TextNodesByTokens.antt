@@ -24,8 +24,8 @@ use Rattle.gabc_text.specs.TextTokens.{placed_token, placed_tokens, tokens_of}
 use Rattle.gabc_text.proofs.tokens.CountsOfTexts.{bytes_append, some_bytes}
 use Rattle.gabc_text.proofs.tokens.TextIsTokensAndRest.{parted}
 use Rattle.gabc_text.proofs.machine.LoopOverText.{bytes_encodes}
-use Rattle.gabc_tree.specs.declared.kind.Kind.TheVariants as node
-use Rattle.gabc_tree.specs.declared.node.Node.{Node}
+use Rattle.gabc_nodes.specs.declared.kind.Kind.TheVariants as node
+use Rattle.gabc_nodes.specs.declared.node.Node.{Node}
 use Rattle.gabc_tree.specs.declared.text_nodes.Before.{Before}
 use Rattle.gabc_tree.specs.TextNodes.{text_node, begins_with, numbers_of, is_piece_at, is_escape, raw_number, number_of_mark, tag_node, node_by, node_at, nodes_along, joined, text_nodes}
 use Rattle.gabc_tree.specs.machine.TextNodes.{shown_by, styles_past, shown_past, shown_past_tag, has_piece, node_after}

@@ -22,16 +22,17 @@ use Rattle.gabc_body.specs.Holding.{HoldsParts}
 use Rattle.gabc_body.specs.Score.{heads_text, after_heads, score_by, score_of}
 use Rattle.gabc_body.specs.Syllable.{PlacedSyllable}
 use Rattle.gabc_body.specs.declared.score.Score.{Score}
+use Rattle.gabc_nodes.specs.Node.{leaf}
+use Rattle.gabc_nodes.specs.declared.kind.Kind.TheVariants.{File, ScoreLine, Unread}
+use Rattle.gabc_nodes.specs.declared.node.Node.{Node}
 use Rattle.gabc_tree.specs.CodeNumber.{number_of_code}
 use Rattle.gabc_tree.specs.HeaderLines.{header_line_nodes}
 use Rattle.gabc_tree.specs.HeaderNodes.{head_nodes_by, head_end_by}
 use Rattle.gabc_tree.specs.Nested.{AreNested, over, node, AreOneTree}
-use Rattle.gabc_tree.specs.NotKept.{Reached, leaf, begun, joined, nodes_from, not_kept}
+use Rattle.gabc_tree.specs.NotKept.{Reached, begun, joined, nodes_from, not_kept}
 use Rattle.gabc_tree.specs.Placed.{Reach, offset, bytes_in, up_to, reach_to, byte_at, moved, placed_from, reach_after}
 use Rattle.gabc_tree.specs.SyllableNodes.{around}
 use Rattle.gabc_tree.specs.Tree.{ending_by, body_nodes, body_end, kept_characters, characters_before, rest_of, before_all, file_nodes, tree_nodes}
-use Rattle.gabc_tree.specs.declared.kind.Kind.TheVariants.{File, ScoreLine, Unread}
-use Rattle.gabc_tree.specs.declared.node.Node.{Node}
 use Rattle.gabc_tree.proofs.KeptHeaders.{headers_kept}
 use Rattle.gabc_tree.proofs.KeptNodes as kept_nodes
 use Rattle.gabc_tree.proofs.KeptNodes.{AreKept, none, kept_both}
@@ -157,7 +158,7 @@ module _ (limits : Limits) (bytes : List ℕ) (short : length bytes ≤ 42949672
   abbrev begins : ℕ → Reached
   begins head = begun (characters_before head text) (kept_characters score.syllables) score.findings
 
-  -- what is not kept, if the headers have so many bytes
+  -- what is not kept, if the headers have this number of bytes
   abbrev out : ℕ → List Node
   out head = joined (nodes_from (begins head) cs)
 

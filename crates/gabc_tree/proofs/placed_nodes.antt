@@ -1,7 +1,6 @@
 pub mod Ahead
 pub mod Fronts
 pub mod Appended
-pub mod Bodies
 pub mod Reaches
 pub mod PlacedNested
 pub mod Counted

@@ -18,12 +18,12 @@ use Rattle.gabc_body.specs.ReadAlone.{read_of}
 use Rattle.gabc_body.specs.Reading as read
 use Rattle.gabc_body.specs.Reading.{Part, InText, InNotes, BodyRead, fate_by, whole_of}
 use Rattle.gabc_body.specs.Score.{heads_text, score_of}
+use Rattle.gabc_nodes.specs.declared.kind.Kind.{Kind}
+use Rattle.gabc_nodes.specs.declared.kind.Kind.TheVariants as kind
 use Rattle.gabc_tree.specs.CodeNumber.{number_of_code}
 use Rattle.gabc_tree.specs.HeaderNodes.{head_end}
 use Rattle.gabc_tree.specs.NotKept.{Reached, begun, past, is_silent, out_of}
 use Rattle.gabc_tree.specs.Tree.{ending_by, characters_before, kept_characters}
-use Rattle.gabc_tree.specs.declared.kind.Kind.{Kind}
-use Rattle.gabc_tree.specs.declared.kind.Kind.TheVariants as kind
 
 -- what becomes of the character: a comment goes on up to an LF
 abbrev pub fate_at : ℕ → BodyRead → Char → Fate

@@ -7,11 +7,11 @@ use Rattle.gabc_places.specs.declared.code.Code.TheVariants.{E4, E5}
 use Rattle.gabc_places.specs.declared.code.Finding.{Finding}
 use Rattle.gabc_places.specs.declared.place.Span.{Span}
 use Rattle.gabc_headers.specs.Lines.{lines, is_blank, is_blank_or_lf, ends_no_value, is_bare, has_mark, before_mark, has_colon, before_colon, after_colon, trim_start, trim_end}
+use Rattle.gabc_nodes.specs.Node.{leaf}
+use Rattle.gabc_nodes.specs.declared.kind.Kind.{Kind}
+use Rattle.gabc_nodes.specs.declared.kind.Kind.TheVariants as kind
+use Rattle.gabc_nodes.specs.declared.node.Node.{Node}
 use Rattle.gabc_tree.specs.declared.header_lines.Header.{Header}
-use Rattle.gabc_tree.specs.declared.kind.Kind.{Kind}
-use Rattle.gabc_tree.specs.declared.kind.Kind.TheVariants as kind
-use Rattle.gabc_tree.specs.declared.node.Node.{Node}
-use Rattle.gabc_tree.specs.NotKept.{leaf}
 use Rattle.gabc_tree.specs.Placed.{offset}
 
 abbrev pub span : ℕ → ℕ → Span

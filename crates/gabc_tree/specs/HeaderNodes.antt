@@ -4,10 +4,10 @@ use Rattle.gabc_places.specs.declared.limits.Limits.{Limits}
 use Rattle.gabc_headers.specs.declared.heads.Heads.{Heads}
 use Rattle.gabc_headers.specs.declared.heads.HeadFault.{HeadFault}
 use Rattle.gabc_headers.specs.Heads.{heads_of}
+use Rattle.gabc_nodes.specs.Node.{leaf}
+use Rattle.gabc_nodes.specs.declared.kind.Kind.TheVariants.{ScoreLine}
+use Rattle.gabc_nodes.specs.declared.node.Node.{Node}
 use Rattle.gabc_tree.specs.HeaderLines.{header_line_nodes}
-use Rattle.gabc_tree.specs.declared.kind.Kind.TheVariants.{ScoreLine}
-use Rattle.gabc_tree.specs.declared.node.Node.{Node}
-use Rattle.gabc_tree.specs.NotKept.{leaf}
 use Rattle.gabc_tree.specs.Placed.{offset}
 
 abbrev pub head_end_by : Result Heads HeadFault → ℕ

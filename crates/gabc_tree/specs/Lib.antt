@@ -3,7 +3,6 @@ pub mod Fates
 pub mod HeaderLines
 pub mod HeaderNodes
 pub mod InputPlaces
-pub mod Kind
 pub mod NabcNodes
 pub mod Nested
 pub mod NotKept

@@ -7,13 +7,13 @@ use Rattle.gabc_places.specs.declared.place.Span.{Span}
 use Rattle.gabc_notes.specs.Notes.{begins_with, height_of}
 use Rattle.gabc_nabc.specs.Parts.{bytes_of, parts_of}
 use Rattle.gabc_nabc.specs.declared.descriptor.Descriptor.{Descriptor}
+use Rattle.gabc_nodes.specs.declared.kind.Kind.{Kind}
+use Rattle.gabc_nodes.specs.declared.kind.Kind.TheVariants as kind
+use Rattle.gabc_nodes.specs.declared.node.Node.{Node}
 use Rattle.gabc_tree.specs.Numbers.{three}
 use Rattle.gabc_tree.specs.NoteNodes.{node_at}
-use Rattle.gabc_tree.specs.declared.kind.Kind.{Kind}
-use Rattle.gabc_tree.specs.declared.kind.Kind.TheVariants as kind
 use Rattle.gabc_tree.specs.declared.nabc_nodes.PieceKind.{PieceKind}
 use Rattle.gabc_tree.specs.declared.nabc_nodes.PieceKind.TheVariants as piece
-use Rattle.gabc_tree.specs.declared.node.Node.{Node}
 use Rattle.gabc_tree.specs.declared.numbers.Numbers.{Numbers}
 
 -- ---- the piece with which a text begins
@@ -88,14 +88,14 @@ piece_numbers_by piece.Letters pitch t =
 abbrev pub piece_numbers : List ℕ → Numbers
 piece_numbers t = piece_numbers_by (piece_kind t) (pitch_of t) t
 
--- the node of the piece with which a text begins, where the text stands at that byte
+-- the node of the piece with which a text begins, if the text stands at that byte
 abbrev pub piece_node : ℕ → ℕ → List ℕ → Node
 piece_node base at t =
     node_at base (record { from = at; to = at + piece_len t }) 0 (kind_of_piece (piece_kind t)) (piece_numbers t)
 
 -- ---- the pieces of a descriptor
 
--- The nodes of the pieces of a text from that byte on, where so many bytes are to come of the piece
+-- The nodes of the pieces of a text from that byte on, if so many bytes are to come of the piece
 -- before. A `!` between pieces belongs to none.
 abbrev pub pieces_from : ℕ → ℕ → ℕ → List ℕ → List Node
 pieces_from base skip at [] = []

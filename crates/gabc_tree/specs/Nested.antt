@@ -1,7 +1,7 @@
 -- Nodes that lie in one another.
 use Rattle.std.specs.Prelude.{ℕ, ◌≡◌, ◌≤◌, List, [], ◌∷◌, ◌++◌, length}
-use Rattle.gabc_tree.specs.declared.kind.Kind.TheVariants.{File}
-use Rattle.gabc_tree.specs.declared.node.Node.{Node}
+use Rattle.gabc_nodes.specs.declared.kind.Kind.TheVariants.{File}
+use Rattle.gabc_nodes.specs.declared.node.Node.{Node}
 
 -- The nodes stand one after the other between two bytes. In each lie as many of those after it as
 -- it says, in the same way.

@@ -10,13 +10,14 @@ use Rattle.gabc_places.specs.declared.place.Place.{Place}
 use Rattle.gabc_places.specs.Place.{saturating_next_place}
 use Rattle.gabc_places.specs.Text.{is_left_out, read_as}
 use Rattle.gabc_text.specs.Token.{is_blank}
+use Rattle.gabc_nodes.specs.Kind.{number_of}
+use Rattle.gabc_nodes.specs.declared.kind.Kind.{Kind}
+use Rattle.gabc_nodes.specs.declared.kind.Kind.TheVariants.{Comment, LeftOut, FurtherBlank, Silent}
+use Rattle.gabc_nodes.specs.declared.node.Node.{Node}
+use Rattle.gabc_nodes.specs.Node.{leaf}
 use Rattle.gabc_tree.specs.CodeNumber.{number_of_code}
-use Rattle.gabc_tree.specs.Kind.{number_of}
-use Rattle.gabc_tree.specs.declared.kind.Kind.{Kind}
-use Rattle.gabc_tree.specs.declared.kind.Kind.TheVariants.{Comment, LeftOut, FurtherBlank, Silent}
-use Rattle.gabc_tree.specs.declared.node.Node.{Node}
 
--- Where the reading stands: the character before, the byte and the place of the next one, how many
+-- The state of the reading: the character before, the byte and the place of the next one, how many
 -- characters of the headers are to come, whether a comment is open, and of the body the characters
 -- that are to be kept and the findings to come.
 pub record Reached : Type 0 where
@@ -126,9 +127,6 @@ abbrev pub begun : ℕ → List ℕ → List Finding → Reached
 begun heads kept findings = record { previous = 0; byte = 0; place = start; heads = heads; comment = heads == 0; kept = kept; findings = from_here start findings }
 
 -- ---- the nodes
-
-abbrev pub leaf : Kind → ℕ → ℕ → ℕ → Node
-leaf kind a from to = record { begin = from; end = to; inner = 0; kind = kind; a = a; b = 0; c = 0 }
 
 abbrev pub nodes_by : Option (Kind × ℕ) → ℕ → ℕ → List Node
 nodes_by None from to = []

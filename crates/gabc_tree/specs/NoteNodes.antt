@@ -11,10 +11,10 @@ use Rattle.gabc_neumes.specs.Cut.{longest_glyph}
 use Rattle.gabc_neumes.specs.Elements.{is_in_element, is_in_segment, notes_in}
 use Rattle.gabc_neumes.specs.InForce.{InForce, step_of, in_force_after}
 use Rattle.gabc_neumes.specs.declared.glyph.GlyphKind.{GlyphKind}
+use Rattle.gabc_nodes.specs.declared.kind.Kind.{Kind}
+use Rattle.gabc_nodes.specs.declared.kind.Kind.TheVariants as kind
+use Rattle.gabc_nodes.specs.declared.node.Node.{Node}
 use Rattle.gabc_tree.specs.Numbers.{item_numbers, glyph_numbers}
-use Rattle.gabc_tree.specs.declared.kind.Kind.{Kind}
-use Rattle.gabc_tree.specs.declared.kind.Kind.TheVariants as kind
-use Rattle.gabc_tree.specs.declared.node.Node.{Node}
 use Rattle.gabc_tree.specs.declared.numbers.Numbers.{Numbers}
 
 -- ---- the nodes of items
@@ -94,7 +94,7 @@ glyph_nodes base kept (suc n) (i ∷ items) (x ∷ nodes) = elim (glyph_from kep
 
 -- ---- the nodes of a snippet
 
--- the nodes of a snippet whose bytes count from base on, where this is in force before it
+-- the nodes of a snippet whose bytes count from base on, if this is in force before it
 abbrev pub gabc_nodes : ℕ → InForce → List ℕ → List Node
 gabc_nodes base force kept =
     let items = items_of kept in glyph_nodes base kept (length items) items (item_nodes base kept false force items)

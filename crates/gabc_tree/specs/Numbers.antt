@@ -206,7 +206,7 @@ break_numbers t = three
     (if begins_with (codes "+") (drop 1 t) then 1 else if begins_with (codes "-") (drop 1 t) then 2 else 0)
     0
 
--- 1 and the digit, where the text is one digit and a `]`; else 0
+-- 1 and the digit, if the text is one digit and a `]`; else 0
 abbrev pub last_digit : List ℕ → ℕ
 last_digit (d ∷ b ∷ []) = if is_digit d && (b == 93) then 1 + (d - 48) else 0
 last_digit _ = 0
@@ -245,6 +245,6 @@ item_numbers force kept begins i = elim (note_in kept i) as (λ _. Numbers) [
   | None ↦ with_begins begins (other_numbers i.kind (bytes_of kept i))
 ]
 
--- of a glyph of that kind, with so many notes
+-- of a glyph of that kind, with this number of notes
 abbrev pub glyph_numbers : GlyphKind → ℕ → Numbers
 glyph_numbers kind count = three (number_of_base kind.base) (number_of_tail kind.tail) (min 65535 count)

@@ -1,9 +1,9 @@
 -- The bytes that belong to nodes: each to the innermost node that holds it.
 use Rattle.std.specs.Prelude.{ℕ, ◌≡◌, ◌≤◌, List, [], ◌∷◌, ◌++◌, length}
 use Rattle.std.specs.List.{slice_range, concat}
-use Rattle.gabc_tree.specs.declared.node.Node.{Node}
+use Rattle.gabc_nodes.specs.declared.node.Node.{Node}
 
--- What belongs to each stretch between two bytes, in order, where these nodes stand between them:
+-- What belongs to each stretch between two bytes, in order, if these nodes stand between them:
 -- the bytes between two nodes belong to the one in which both lie.
 pub data AreOwn (bytes : List ℕ) : ℕ → ℕ → List Node → List (List ℕ) → Type 0 where
   over : {from to : ℕ} → from ≤ to → AreOwn bytes from to [] (slice_range bytes from to ∷ [])

@@ -1,10 +1,10 @@
 -- Where nodes of kept texts stand in the input, and what is not kept between them. The kept bytes
 -- of an input are counted from 0.
 use Rattle.std.specs.Prelude.{ℕ, ◌+◌, ◌-◌, min, List, [], ◌∷◌, ◌++◌, Bool, cond, ◌&&◌, ◌==◌, nat_le, nat_lt, length, drop}
-use Rattle.gabc_tree.specs.declared.kind.Kind.{Kind}
-use Rattle.gabc_tree.specs.declared.kind.Kind.TheVariants.{Snippet}
-use Rattle.gabc_tree.specs.declared.node.Node.{Node}
-use Rattle.gabc_tree.specs.Kind.{number_of}
+use Rattle.gabc_nodes.specs.declared.kind.Kind.{Kind}
+use Rattle.gabc_nodes.specs.declared.kind.Kind.TheVariants.{Snippet}
+use Rattle.gabc_nodes.specs.declared.node.Node.{Node}
+use Rattle.gabc_nodes.specs.Kind.{number_of}
 
 -- an offset or a count of a node: none is larger
 abbrev pub offset : ℕ → ℕ

@@ -6,8 +6,8 @@ use Rattle.gabc_body.specs.declared.snippets.Snippet.{Snippet}
 use Rattle.gabc_body.specs.declared.syllable.Position.{Position}
 use Rattle.gabc_body.specs.declared.syllable.Position.TheVariants as position
 use Rattle.gabc_body.specs.Syllable.{PlacedSyllable, text_at}
-use Rattle.gabc_tree.specs.declared.kind.Kind.TheVariants as kind
-use Rattle.gabc_tree.specs.declared.node.Node.{Node}
+use Rattle.gabc_nodes.specs.declared.kind.Kind.TheVariants as kind
+use Rattle.gabc_nodes.specs.declared.node.Node.{Node}
 use Rattle.gabc_tree.specs.NabcNodes.{nabc_nodes}
 use Rattle.gabc_tree.specs.NoteNodes.{gabc_nodes}
 use Rattle.gabc_tree.specs.Placed.{offset}

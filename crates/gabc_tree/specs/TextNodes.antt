@@ -18,10 +18,10 @@ use Rattle.gabc_text.specs.View.{effect, kind_of, is_same, has_begin, has_end, h
 use Rattle.gabc_text.specs.Events.{styles_of, is_blank_at}
 use Rattle.gabc_text.specs.KeptText.{bytes_before}
 use Rattle.gabc_text.specs.RegularText.{mark_at}
-use Rattle.gabc_tree.specs.NotKept.{leaf}
-use Rattle.gabc_tree.specs.declared.kind.Kind.{Kind}
-use Rattle.gabc_tree.specs.declared.kind.Kind.TheVariants as kind
-use Rattle.gabc_tree.specs.declared.node.Node.{Node}
+use Rattle.gabc_nodes.specs.Node.{leaf}
+use Rattle.gabc_nodes.specs.declared.kind.Kind.{Kind}
+use Rattle.gabc_nodes.specs.declared.kind.Kind.TheVariants as kind
+use Rattle.gabc_nodes.specs.declared.node.Node.{Node}
 
 -- a node with these bytes, kind and numbers, in which no other lies
 abbrev pub text_node : Span → Kind → ℕ → ℕ → ℕ → Node

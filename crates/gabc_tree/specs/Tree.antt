@@ -10,13 +10,15 @@ use Rattle.gabc_places.specs.Text.{decoded_of, utf8_prefix_of}
 use Rattle.gabc_neumes.specs.InForce.{InForce, nothing_in_force}
 use Rattle.gabc_body.specs.declared.ending.InputEnding.{InputEnding}
 use Rattle.gabc_body.specs.declared.ending.InputEnding.TheVariants.{Whole, At}
+use Rattle.gabc_body.specs.declared.score.Score.{Score}
 use Rattle.gabc_body.specs.Score.{score_of}
 use Rattle.gabc_body.specs.Syllable.{PlacedSyllable}
+use Rattle.gabc_nodes.specs.Node.{leaf}
+use Rattle.gabc_nodes.specs.declared.kind.Kind.TheVariants.{File, Unread}
+use Rattle.gabc_nodes.specs.declared.node.Node.{Node}
 use Rattle.gabc_tree.specs.CodeNumber.{number_of_code}
 use Rattle.gabc_tree.specs.HeaderNodes.{head_end, head_nodes}
-use Rattle.gabc_tree.specs.declared.kind.Kind.TheVariants.{File, Unread}
-use Rattle.gabc_tree.specs.declared.node.Node.{Node}
-use Rattle.gabc_tree.specs.NotKept.{leaf, not_kept}
+use Rattle.gabc_tree.specs.NotKept.{not_kept}
 use Rattle.gabc_tree.specs.Placed.{Reach, offset, up_to, byte_at, placed_from, reach_after, moved}
 use Rattle.gabc_tree.specs.SyllableNodes.{around, syllable_nodes, force_past_syllable}
 
@@ -47,7 +49,7 @@ characters_before n (c ∷ t) = cond (n == 0) 0 (1 + characters_before (n - len_
 
 -- ---- the tree
 
--- after the last kept byte, of which there are so many: what is not kept, and after a fault all
+-- after the last kept byte, if this is their number: what is not kept, and after a fault all
 -- that is not read, of an input of that length
 abbrev pub rest_of : Reach → ℕ → ℕ → Option Fault → List Node
 rest_of r kept len None = r.out
@@ -64,11 +66,14 @@ abbrev pub file_nodes : List Node → List Node → ℕ → ℕ → Option Fault
 file_nodes out nodes kept len fault =
     around (leaf File 0 0 (offset len)) (placed_from (before_all out) nodes ++ rest_of (reach_after (before_all out) nodes) kept len fault)
 
+-- what these bytes say as a score
+abbrev pub score_in : Limits → List ℕ → Score
+score_in limits bytes = let decoded = decoded_of limits true bytes in score_of limits (ending_by decoded.fault) decoded.text
+
 abbrev pub tree_nodes : Limits → List ℕ → List Node
 tree_nodes limits bytes =
-    let decoded = decoded_of limits true bytes in
-    let text = decoded.text in
-    let score = score_of limits (ending_by decoded.fault) text in
+    let text = (decoded_of limits true bytes).text in
+    let score = score_in limits bytes in
     let head = head_end limits text in
     let out = not_kept (characters_before head text) (kept_characters score.syllables) score.findings (utf8_prefix_of (take limits.input bytes)) in
     file_nodes out (map (moved 0) (head_nodes limits text) ++ body_nodes (offset head) nothing_in_force score.syllables) (body_end (offset head) score.syllables) (length bytes) score.fault

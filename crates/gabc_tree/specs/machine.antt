@@ -1,7 +1,10 @@
+pub mod BodyNodes
 pub mod HeaderLines
+pub mod NodesOfBodies
 pub mod NotKept
 pub mod NoteNodes
 pub mod Placing
 pub mod Signs
+pub mod SyllableSlices
 pub mod TextNodes
 pub mod Walk

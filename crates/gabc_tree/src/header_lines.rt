@@ -5,9 +5,8 @@ ghost use Rattle.gabc_headers.specs.Lines.{is_blank, is_blank_or_lf, ends_no_val
 ghost use Rattle.gabc_tree.specs.HeaderLines.{part, span, span_of, semicolons, comment_of, header_by, header_with, ended_at, header_at, line_nodes, left_open, nodes_below, open_below, found_at, found_after, nodes_of, open_after, header_line_nodes};
 ghost use Rattle.gabc_tree.specs.machine.HeaderLines.{is_last, lead_of, run_with, bare_with, first_mark, first_colon, row_of, IsHeaderWithin, IsOpen};
 
-use crate::kind::Kind;
-use crate::node::Node;
 use crate::placing::offset;
+use gabc_nodes::{Kind, Node};
 use gabc_places::{Code, Finding, Span};
 use std::alloc::AllocError;
 
@@ -18,7 +17,7 @@ pub(crate) struct Header {
     found: Option<Code>,
     /// Its name.
     name: Span,
-    /// Where its value begins.
+    /// The place at which its value begins.
     value: usize,
 }
 
@@ -75,8 +74,7 @@ fn first_colon(row: &[u8]) -> Option<usize>
     None
 }
 
-/// Returns how many `;` stand at `byte` that are a mark, where after it stand `run`, or what is
-/// bare.
+/// Returns how many `;` stand at `byte` that are a mark, if after it stand `run`, or what is bare.
 fn run_with(byte: u8, bare: bool, run: usize) -> usize
     requires { run + 1 < 2 ^ 64 }
     ensures { result ≡ run_with byte bare run }

@@ -1,16 +1,15 @@
 //! The nodes of the headers.
 
 ghost use Rattle.std.specs.Prelude.{◌≡◌, ◌-◌, ◌++◌, take, encode_utf8_all, Ok, IfOk, OnOk};
+ghost use Rattle.gabc_nodes.specs.Node.{leaf};
+ghost use Rattle.gabc_nodes.specs.declared.kind.Kind.TheVariants.{ScoreLine};
 ghost use Rattle.gabc_tree.specs.HeaderNodes.{head_end, head_nodes, head_nodes_by};
-ghost use Rattle.gabc_tree.specs.NotKept.{leaf};
 ghost use Rattle.gabc_tree.specs.Placed.{offset as offset_of};
-ghost use Rattle.gabc_tree.specs.declared.kind.Kind.TheVariants.{ScoreLine};
 
 use crate::header_lines::header_lines;
-use crate::kind::Kind;
-use crate::node::Node;
 use crate::placing::offset;
 use gabc_headers::{Heads, headers_whole_with_hasher};
+use gabc_nodes::{Kind, Node};
 use gabc_places::{Limits, Text};
 use std::alloc::{AllocError, Global};
 use std::hash::DefaultHasher;

@@ -1,11 +1,11 @@
 //! A node that holds those after it.
 
 ghost use Rattle.std.specs.Prelude.{◌≡◌, ◌<◌, List, ◌∷◌, ◌++◌, length};
-ghost use Rattle.gabc_tree.specs.declared.node.Node.{Node};
+ghost use Rattle.gabc_nodes.specs.declared.node.Node.{Node};
 ghost use Rattle.gabc_tree.specs.SyllableNodes.{around};
 
-use crate::node::Node;
 use crate::placing::offset;
+use gabc_nodes::Node;
 
 /// Lets the node at the index `at` hold all those after it.
 pub(crate) fn hold(nodes: &mut Vec<Node>, at: usize)

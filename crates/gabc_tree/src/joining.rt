@@ -1,12 +1,11 @@
-//! Nodes that follow one another, joined where they are of one run.
+//! Nodes that follow one another, joined if they are of one run.
 
 ghost use Rattle.std.specs.Prelude.{◌≡◌, ◌∷◌, ◌&&◌, ◌==◌, List, [], OnOk};
-ghost use Rattle.gabc_tree.specs.declared.node.Node.{Node};
+ghost use Rattle.gabc_nodes.specs.declared.node.Node.{Node};
 ghost use Rattle.gabc_tree.specs.NotKept.{is_run as runs, joins as join};
 ghost use Rattle.gabc_tree.specs.machine.NotKept.{joined_after};
 
-use crate::kind::Kind;
-use crate::node::Node;
+use gabc_nodes::{Kind, Node};
 use std::alloc::{AllocError, Global};
 use std::marker::Model;
 

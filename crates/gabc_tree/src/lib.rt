@@ -14,21 +14,21 @@
 //! }
 //! ```
 //!
-//! The nodes are made in three steps. What is not kept is found beside what is kept (`not_kept`).
-//! The makers of nodes (`header_lines`, `text_nodes`, `note_nodes`, `nabc_nodes`) speak of the
-//! bytes of a kept text alone, so that none of them knows of comments or places. Then their nodes
-//! are put where they stand in the input (`placing`).
+//! The nodes are made in three steps. While the score is read, a taker (`taking`) has the makers of
+//! nodes (`text_nodes`, `note_nodes`, `nabc_nodes`) make those of each syllable. They and
+//! `header_lines` speak of the bytes of a kept text alone, so that none of them knows of comments
+//! or places. What is not kept is found beside what is kept (`not_kept`). Then the nodes are put
+//! where they stand in the input (`placing`).
 #![tactic(auto)]
 
+mod body_nodes;
 mod code_number;
 mod header_lines;
 mod header_nodes;
 mod holding;
 mod joining;
-mod kind;
 mod nabc_nodes;
 pub mod nested_laws;
-mod node;
 mod not_kept;
 mod note_nodes;
 mod numbers;
@@ -36,14 +36,13 @@ pub mod place_laws;
 mod place_reader;
 mod placing;
 pub mod reading_laws;
-mod short_texts;
 mod signs;
 mod syllable_nodes;
+mod taking;
 mod text_nodes;
 mod tree;
 
 pub use code_number::number_of_code;
-pub use kind::Kind;
-pub use node::Node;
+pub use gabc_nodes::{Kind, Node};
 pub use place_reader::PlaceReader;
-pub use tree::{Tree, tree_of, tree_of_with_hasher};
+pub use tree::{ScoreRead, Tree, read_score, tree_of, tree_of_with_hasher};

@@ -6,11 +6,10 @@ ghost use Rattle.gabc_nabc.specs.Parts.{AreWithin};
 ghost use Rattle.gabc_tree.specs.NabcNodes.{piece_kind, kind_of_piece, is_digit, is_modifier, through_digit, first_digit, glyph_before_pitch, before_pitch, pitch_at, piece_numbers_by, piece_len, piece_numbers, pieces_of, part_nodes, nabc_nodes};
 ghost use Rattle.gabc_tree.specs.declared.nabc_nodes.PieceKind.TheVariants as piece;
 
-use crate::kind::Kind;
-use crate::node::Node;
 use crate::note_nodes::node_at;
 use crate::numbers::Numbers;
 use gabc_nabc::{Descriptor, parts_in};
+use gabc_nodes::{Kind, Node};
 use gabc_notes::height_of;
 use gabc_places::Span;
 use std::alloc::AllocError;
@@ -67,7 +66,7 @@ fn modifiers_len(text: &[u8]) -> usize
     text.len()
 }
 
-/// Returns how many bytes `text` has through its first digit: all where it has none.
+/// Returns how many bytes `text` has through its first digit: all if it has none.
 fn len_through_digit(text: &[u8]) -> usize
     requires { 1 ≤ length text.now }
     ensures value { result ≡ through_digit text.now }
@@ -82,7 +81,7 @@ fn len_through_digit(text: &[u8]) -> usize
     text.len()
 }
 
-/// Returns the digit of the first digit of `text`, or 0 where it has none.
+/// Returns the digit of the first digit of `text`, or 0 if it has none.
 fn first_digit(text: &[u8]) -> u16
     ensures { result ≡ first_digit text.now }
 {

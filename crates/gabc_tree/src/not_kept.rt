@@ -1,18 +1,17 @@
 //! What of an input is not kept: comments, what is left out, further blanks, and what is silent.
 
-ghost use Rattle.std.specs.Prelude.{◌≡◌, ◌↔◌, ℕ, ◌+◌, ◌<◌, ◌≤◌, ◌^◌, List, [], ◌∷◌, ◌++◌, length, IfOk, OnOk, IsTrue, None, false};
+ghost use Rattle.std.specs.Prelude.{◌≡◌, ◌↔◌, ℕ, ◌+◌, ◌<◌, ◌≤◌, ◌^◌, List, [], ◌∷◌, ◌++◌, length, IfOk, OnOk, IsTrue, None, true, false};
 ghost use Rattle.std.specs.Char.{len_utf8};
 ghost use Rattle.std.specs.Str.{chars};
 ghost use Rattle.gabc_places.specs.Text.{is_left_out as is_silent, read_as as read};
 ghost use Rattle.gabc_text.specs.Token.{is_blank as is_a_blank};
-ghost use Rattle.gabc_tree.specs.NotKept.{leaves_out, is_before, is_at, from_here as findings_from, comes_next as comes_first, but_first, nodes_from, out_in_body, out_of as what_is_out, past as reached_past, not_kept as all_not_kept};
+ghost use Rattle.gabc_tree.specs.NotKept.{leaves_out, is_before, is_at, from_here as findings_from, comes_next as comes_first, but_first, nodes_from, out_by_code, out_in_body, out_of as what_is_out, past as reached_past, not_kept as all_not_kept};
 ghost use Rattle.gabc_tree.specs.Placed.{bytes_in};
-ghost use Rattle.gabc_tree.specs.machine.NotKept.{joined_after};
+ghost use Rattle.gabc_tree.specs.machine.NotKept.{is_kept_as as kept_as, joined_after};
 
 use crate::code_number::number_of_code;
 use crate::joining::Joining;
-use crate::kind::Kind;
-use crate::node::Node;
+use gabc_nodes::{Kind, Node};
 use gabc_places::{Code, Finding, Place};
 use std::alloc::{AllocError, Global};
 use std::marker::Model;
@@ -77,28 +76,61 @@ fn from_here(findings: &[Finding], here: Place) -> &[Finding]
     rest
 }
 
-/// Returns whether `c` is the first of `kept`, the characters that are to be kept: a blank may be
-/// kept as U+0020.
-fn comes_next(kept: &[char], c: char) -> bool
-    ensures { result ≡ comes_first kept.now c }
+/// Returns whether `next`, which is to be kept, is `c`: a blank may be kept as U+0020.
+#[inline(always)]
+fn is_kept_as(next: char, c: char) -> bool
+    ensures { result ≡ kept_as next c }
 {
-    match kept {
-        [next, ..] => c == *next || (*next == ' ' && is_blank(c)),
-        [] => false,
+    c == next || (next == ' ' && is_blank(c))
+}
+
+/// Returns whether `c` is the first character of `kept`, which is to be kept.
+fn comes_next(kept: &str, c: char) -> bool
+    ensures { result ≡ comes_first (chars kept.now) c }
+{
+    match kept.chars().next() {
+        Some(next) => is_kept_as(next, c),
+        None => false,
+    }
+}
+
+/// Returns whether `byte` is a character and the first one of `kept`, which is to be kept.
+#[inline(always)]
+fn byte_comes_next(kept: &str, byte: u8) -> bool
+    ensures comes { IsTrue result → comes_first (chars kept.now) byte ≡ true }
+    ensures ascii { IsTrue result → byte < 128 }
+{
+    match kept.as_bytes() {
+        [next, ..] if *next < 128 => is_kept_as(*next as char, byte as char),
+        _ => false,
     }
 }
 
 /// Returns `kept` without its first character.
-fn past_first(kept: &[char]) -> &[char]
-    ensures { result.now ≡ but_first kept.now }
+#[inline(always)]
+fn past_first(kept: &str) -> &str
+    ensures { chars result.now ≡ but_first (chars kept.now) }
 {
-    match kept {
-        [_, rest @ ..] => rest,
-        [] => kept,
+    let mut rest = kept.chars();
+    match rest.next() {
+        Some(_) => rest.as_str(),
+        None => kept,
     }
 }
 
-/// Where the reading stands between two characters of an input.
+/// Returns the kind and the number of `c`, which is not kept and of which nothing is found, if some
+/// of the body is still to be kept: `kept`.
+fn out_in_silence(kept: &str, c: char) -> Option<(Kind, u16)>
+    ensures { result ≡ out_by_code (chars kept.now) c None }
+{
+    match kept.chars().next() {
+        Some(_) if is_blank(c) => Some((Kind::FurtherBlank, 0)),
+        Some(_) => Some((Kind::LeftOut, number_of_code(Code::E6))),
+        None => None,
+    }
+}
+
+/// The state of the reading between two characters of an input.
 #[derive(Drop)]
 struct Reading<'a> {
     /// The character before the next one.
@@ -110,13 +142,14 @@ struct Reading<'a> {
     heads: usize,
     /// Whether a comment is open.
     comment: bool,
-    /// The characters of the body that are to be kept.
-    kept: &'a [char],
+    /// What of the body is to be kept.
+    kept: &'a str,
     /// The findings from here on that leave out a character.
     findings: &'a [Finding],
 }
 
 impl<'a> Model for Reading<'a> {
+    ghost use Rattle.std.specs.Str.{chars};
     ghost use Rattle.gabc_tree.specs.NotKept.{Reached};
 
     ghost Value = { Reached };
@@ -127,7 +160,7 @@ impl<'a> Model for Reading<'a> {
       place = r.place;
       heads = r.heads;
       comment = r.comment;
-      kept = r.kept.now;
+      kept = chars r.kept.now;
       findings = r.findings.now;
     } };
 }
@@ -136,8 +169,8 @@ impl<'a> Reading<'a> {
     ghost use Rattle.gabc_tree.specs.NotKept.{begun, past_shown};
 
     /// Returns the place before the first character.
-    fn new(heads: usize, kept: &'a [char], findings: &'a [Finding]) -> Reading<'a>
-        ensures { result ≡ begun heads kept.now findings.now }
+    fn new(heads: usize, kept: &'a str, findings: &'a [Finding]) -> Reading<'a>
+        ensures { result ≡ begun heads (chars kept.now) findings.now }
     {
         Reading {
             previous: '\0',
@@ -168,9 +201,7 @@ impl<'a> Reading<'a> {
             [first, ..] if is_same(first.place, self.place) => {
                 Some((Kind::LeftOut, number_of_code(first.code)))
             }
-            _ if self.kept.is_empty() => None,
-            _ if is_blank(c) => Some((Kind::FurtherBlank, 0)),
-            _ => Some((Kind::LeftOut, number_of_code(Code::E6))),
+            _ => out_in_silence(self.kept, c),
         }
     }
 
@@ -235,10 +266,9 @@ impl<'a> Reading<'a> {
         let c = byte as char;
         self.heads == 0
             && !self.comment
-            && byte < 128
             && byte != b'\r'
             && !is_silent_after(self.previous, c)
-            && comes_next(self.kept, c)
+            && byte_comes_next(self.kept, byte)
     }
 
     /// Goes past `byte` if it is the next character and is kept of the body, and returns whether it
@@ -303,12 +333,12 @@ pub(crate) fn not_kept(
     alloc: Global,
     input: &str,
     heads: usize,
-    kept: &[char],
+    kept: &str,
     findings: &[Finding],
 ) -> Result<Vec<Node>, AllocError>
     requires { length input.now < 2 ^ 32 }
     ensures nodes { IfOk result (λ nodes.
-        nodes.items ≡ all_not_kept heads kept.now findings.now (chars input.now)) }
+        nodes.items ≡ all_not_kept heads (chars kept.now) findings.now (chars input.now)) }
     ensures few { IfOk result (λ nodes. bytes_in nodes.items < 2 ^ 32) }
 {
     let mut joining = Joining::new(alloc);

@@ -8,15 +8,14 @@ ghost use Rattle.gabc_tree.specs.Numbers.{number_of_base, number_of_tail, glyph_
 ghost use Rattle.gabc_tree.specs.NoteNodes.{kind_of_item, node_at, item_node, item_nodes, is_note, through, last_to, gabc_nodes};
 ghost use Rattle.gabc_tree.specs.machine.NoteNodes.{next_glyph, left_after, nodes_at, place_after};
 
-use crate::kind::Kind;
-use crate::node::Node;
 use crate::numbers::{Numbers, numbers_of_note, numbers_of_other};
 use gabc_neumes::{Alterations, Base, GlyphKind, Tail, glyph_from, is_in_element};
+use gabc_nodes::{Kind, Node};
 use gabc_notes::{Item, ItemKind, ItemReader, items_in, note_of};
 use gabc_places::Span;
 use std::alloc::AllocError;
 
-/// Where the maker of nodes stands between the items of a snippet.
+/// The state of the maker of nodes between the items of a snippet.
 #[derive(Clone, Copy)]
 struct ItemPlace {
     /// Whether the item before is part of an element.

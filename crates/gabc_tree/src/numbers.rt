@@ -48,7 +48,7 @@ fn number_of_alter(alter: Alter) -> u16
     }
 }
 
-/// Returns the number of the degree of `sound`: 7 where it has none.
+/// Returns the number of the degree of `sound`: 7 if it has none.
 fn number_of_degree(sound: Sound) -> u16
     ensures value { result ≡ number_of_degree sound }
     ensures small { result ≤ 7 }
@@ -259,7 +259,7 @@ fn numbers_of_clef(text: &[u8]) -> Numbers
     Numbers { a, b, c }
 }
 
-/// Returns 1 and the digit with which `text` begins, or 0 where it begins with none.
+/// Returns 1 and the digit with which `text` begins, or 0 if it begins with none.
 fn digit_after(text: &[u8]) -> u16
     ensures { result ≡ digit_after text.now }
 {
@@ -331,7 +331,7 @@ fn numbers_of_break(text: &[u8]) -> Numbers
     Numbers { a, b, c: 0 }
 }
 
-/// Returns 1 and the digit of the macro that the attribute `text` calls, or 0 where it calls none
+/// Returns 1 and the digit of the macro that the attribute `text` calls, or 0 if it calls none
 /// (GregorioRef, "Macros").
 fn number_of_attribute(text: &[u8]) -> u16
     ensures { result ≡ attribute_number text.now }

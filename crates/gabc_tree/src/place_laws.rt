@@ -1,4 +1,4 @@
-//! Laws: where what is found stands in the input. Each function is there for its clauses, and does
+//! Laws of the places of findings in the input. Each function is there for its clauses, and does
 //! nothing.
 
 ghost use Rattle.std.specs.Prelude.{ℕ, List};

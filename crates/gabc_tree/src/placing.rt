@@ -1,12 +1,11 @@
 //! Nodes of kept texts, put where they stand in the input.
 
-ghost use Rattle.std.specs.Prelude.{◌≡◌, ◌+◌, ◌<◌, ◌≤◌, ◌^◌, ◌∷◌, ◌++◌, map, length, drop, [], OnOk, IfOk, IsTrue};
+ghost use Rattle.std.specs.Prelude.{◌≡◌, ◌+◌, ◌<◌, ◌≤◌, ◌^◌, ◌∷◌, ◌++◌, length, drop, [], OnOk, IfOk, IsTrue};
 ghost use Rattle.gabc_tree.specs.Tree.{rest_of};
 ghost use Rattle.gabc_tree.specs.Placed.{offset as offset_of, bytes_in, before_byte, is_snippet as is_a_snippet, up_to, reach_to, byte_at, is_between as is_between_marks, moved as moved_by, placed_from, reach_after, inside_of, end_by, nodes_at, reach_past, begin_of, first_of};
 
 use crate::code_number::number_of_code;
-use crate::kind::Kind;
-use crate::node::Node;
+use gabc_nodes::{Kind, Node};
 use gabc_places::Fault;
 use std::alloc::{AllocError, Global};
 use std::marker::Model;
@@ -24,7 +23,7 @@ pub(crate) fn offset(n: usize) -> u32
 
 /// Returns `node`, which counts the bytes of a text whose first byte is the kept byte `base`, where
 /// it stands in what is kept.
-fn moved(base: u32, node: Node) -> Node
+pub(crate) fn moved(base: u32, node: Node) -> Node
     ensures { result ≡ moved_by base node }
 {
     Node {
@@ -211,7 +210,7 @@ impl<'a> Placing<'a> {
     }
 
     /// Adds `node`, whose bytes are kept bytes.
-    pub(crate) fn place(&mut self, node: Node) -> Result<(), AllocError>
+    fn place(&mut self, node: Node) -> Result<(), AllocError>
         ensures { OnOk result (self.new ≡ record {
           nodes = self.old.nodes ++ nodes_at self.old.reach node;
           reach = reach_past self.old.reach node;
@@ -223,15 +222,15 @@ impl<'a> Placing<'a> {
         self.place_among(node)
     }
 
-    /// Adds `nodes`, which count the bytes of a text whose first byte is the kept byte `base`.
-    pub(crate) fn place_all(&mut self, base: u32, nodes: &[Node]) -> Result<(), AllocError>
+    /// Adds `nodes`, whose bytes are kept bytes.
+    pub(crate) fn place_all(&mut self, nodes: &[Node]) -> Result<(), AllocError>
         ensures { OnOk result (self.new ≡ record {
-          nodes = self.old.nodes ++ placed_from self.old.reach (map (moved_by base) nodes.now);
-          reach = reach_after self.old.reach (map (moved_by base) nodes.now);
+          nodes = self.old.nodes ++ placed_from self.old.reach nodes.now;
+          reach = reach_after self.old.reach nodes.now;
         }) }
     {
         for node in nodes {
-            self.place(moved(base, *node))?;
+            self.place(*node)?;
         }
         Ok(())
     }

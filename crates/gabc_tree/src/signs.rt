@@ -42,7 +42,7 @@ pub(crate) enum EpisemaSize {
     Right,
 }
 
-/// Where an oriscus is told to point.
+/// The direction in which an oriscus is told to point.
 #[derive(Clone, Copy, Debug, PartialEq, Eq)]
 pub(crate) enum Orientation {
     NotTold,
@@ -343,7 +343,7 @@ impl SuffixesRead {
         side: Side::Auto,
     };
 
-    /// Returns what they say with `signs` in place of theirs, where no `_` begins them.
+    /// Returns what they say with `signs` in place of theirs, if no `_` begins them.
     fn without_run(signs: NoteSigns) -> SuffixesRead
         ensures { result ≡ record { signs = signs; run = 0; side = Side.Auto } }
     {

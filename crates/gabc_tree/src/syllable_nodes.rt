@@ -1,20 +1,64 @@
 //! The nodes of a syllable in its kept text.
 
-ghost use Rattle.std.specs.Prelude.{◌≡◌, ◌<◌, ◌^◌, ◌++◌, ◌∷◌, [], length, string_bytes, OnOk};
-ghost use Rattle.gabc_body.specs.Syllable.{placed_of};
+ghost use Rattle.std.specs.Prelude.{◌≡◌, ◌<◌, ◌^◌, ◌++◌, ◌∷◌, [], length, OnOk};
+ghost use Rattle.gabc_body.specs.Syllable.{placed_of, text_at as text_of_span};
 ghost use Rattle.gabc_tree.specs.SyllableNodes.{position_number as number_of_position, flags_of as flags, text_len as len_of_text, force_at, force_past_notes, force_past_syllable, force_past, inside_nodes, syllable_node, force_after, snippet_nodes as nodes_of_snippet, notes_nodes, syllable_nodes as nodes_of_syllable, around};
+ghost use Rattle.gabc_tree.specs.machine.SyllableSlices.{Shows, placed_by};
 
 use crate::holding::hold;
-use crate::kind::Kind;
 use crate::nabc_nodes::nabc_nodes;
-use crate::node::Node;
 use crate::note_nodes::gabc_nodes;
 use crate::placing::offset;
 use crate::text_nodes::text_nodes;
-use gabc_body::{Position, Snippet, Syllable};
+use gabc_body::{Position, Snippet, Spans, Syllable};
 use gabc_neumes::Alterations;
+use gabc_nodes::{Kind, Node};
 use gabc_places::Span;
 use std::alloc::AllocError;
+
+/// A syllable by the slices of which its nodes are made.
+#[derive(Clone, Copy)]
+pub(crate) struct SyllableSlices<'a> {
+    /// Its kept text.
+    pub kept: &'a str,
+    /// Its snippets, in order.
+    pub snippets: &'a [Snippet],
+    /// Its position in its word.
+    pub position: Position,
+    /// The spans that are open after it.
+    pub spans: Spans,
+    /// Whether blanks stand before its text.
+    pub word_start: bool,
+}
+
+impl<'a> SyllableSlices<'a> {
+    /// Returns the slices of `syllable`.
+    pub(crate) fn of(syllable: &'a Syllable) -> SyllableSlices<'a>
+        ensures { Shows result (placed_of syllable.now) }
+    {
+        SyllableSlices {
+            kept: syllable.kept.as_str(),
+            snippets: syllable.snippets.as_slice(),
+            position: syllable.position,
+            spans: Spans {
+                eu: syllable.eu,
+                nlba: syllable.nlba,
+            },
+            word_start: syllable.text.word_start,
+        }
+    }
+}
+
+/// Returns the text of `span` in `kept`. A span that does not begin and end between characters of
+/// `kept` has none.
+fn text_at(kept: &str, span: Span) -> &str
+    ensures { result.now ≡ text_of_span span kept.now }
+{
+    if span.from > span.to || !kept.is_char_boundary(span.from) || !kept.is_char_boundary(span.to) {
+        return "";
+    }
+    &kept[span.from..span.to]
+}
 
 /// Returns the number of `position`: 0 of a whole word, 1 of a word's beginning, 2 of its middle, 3
 /// of its end.
@@ -31,40 +75,41 @@ fn position_number(position: Position) -> u16
 
 /// Returns 1 if the span of `eu` is open after the text of `syllable`, 2 if that of `nlba` is, and
 /// 4 if blanks stand before its text, in one sum.
-fn flags_of(syllable: &Syllable) -> u16
-    ensures { result ≡ flags (placed_of syllable.now) }
+fn flags_of(syllable: SyllableSlices<'_>) -> u16
+    ensures { result ≡ flags (placed_by syllable.entry) }
 {
-    let eu = if syllable.eu { 1 } else { 0 };
-    let nlba = if syllable.nlba { 2 } else { 0 };
-    let word_start = if syllable.text.word_start { 4 } else { 0 };
+    let eu = if syllable.spans.eu { 1 } else { 0 };
+    let nlba = if syllable.spans.nlba { 2 } else { 0 };
+    let word_start = if syllable.word_start { 4 } else { 0 };
     eu + nlba + word_start
 }
 
 /// Returns how many bytes of its kept text the text of `syllable` has: those before its `(`, or all
 /// of them if it has no notes.
-fn text_len(syllable: &Syllable) -> usize
-    ensures { result ≡ len_of_text (string_bytes syllable.now.kept) syllable.now.snippets.items }
+fn text_len(syllable: SyllableSlices<'_>) -> usize
+    ensures { result ≡ len_of_text syllable.entry.kept.now syllable.entry.snippets.now }
 {
-    let len = syllable.kept.as_str().len();
-    match syllable.snippets.as_slice() {
+    let len = syllable.kept.len();
+    match syllable.snippets {
         [first, ..] if 0 < first.span.from && first.span.from < len => first.span.from - 1,
         _ => len,
     }
 }
 
-/// Adds the nodes of `snippet` to `out`, before which these `alterations` are in force.
+/// Adds the nodes of `snippet`, which stands in the kept text `kept`, to `out`. Before it these
+/// `alterations` are in force.
 #[tactic(auto, using(crate::proofs::syllables::TextsFit::text_fits))]
 fn snippet_nodes(
-    syllable: &Syllable,
+    kept: &str,
     snippet: Snippet,
     alterations: &mut Alterations,
     out: &mut Vec<Node>,
 ) -> Result<(), AllocError>
-    requires { length (string_bytes syllable.now.kept) < 2 ^ 32 }
+    requires { length kept.now < 2 ^ 32 }
     ensures nodes { OnOk result (out.new.items ≡ out.old.items
-        ++ nodes_of_snippet alterations.old (string_bytes syllable.now.kept) snippet) }
+        ++ nodes_of_snippet alterations.old kept.now snippet) }
     ensures force { OnOk result (alterations.new
-        ≡ force_past alterations.old (string_bytes syllable.now.kept) snippet) }
+        ≡ force_past alterations.old kept.now snippet) }
 {
     let at = out.len();
     out.push(Node {
@@ -76,7 +121,7 @@ fn snippet_nodes(
         b: 0,
         c: 0,
     })?;
-    let text = syllable.text_at(snippet.span);
+    let text = text_at(kept, snippet.span);
     let base = offset(snippet.span.from) as usize;
     if snippet.line == 0 {
         gabc_nodes(text, base, alterations, out)?;
@@ -87,23 +132,22 @@ fn snippet_nodes(
     Ok(())
 }
 
-/// Adds the nodes of the snippets of `syllable` to `out`, before which these `alterations` are in
-/// force.
+/// Adds the nodes of `snippets`, which stand in the kept text `kept`, to `out`. Before them these
+/// `alterations` are in force.
 fn add_notes(
-    syllable: &Syllable,
+    kept: &str,
+    snippets: &[Snippet],
     alterations: &mut Alterations,
     out: &mut Vec<Node>,
 ) -> Result<(), AllocError>
-    requires { length (string_bytes syllable.now.kept) < 2 ^ 32 }
+    requires { length kept.now < 2 ^ 32 }
     ensures nodes { OnOk result (out.new.items ≡ out.old.items
-        ++ notes_nodes alterations.old (string_bytes syllable.now.kept)
-        syllable.now.snippets.items) }
+        ++ notes_nodes alterations.old kept.now snippets.now) }
     ensures force { OnOk result (alterations.new
-        ≡ force_after alterations.old (string_bytes syllable.now.kept)
-        syllable.now.snippets.items) }
+        ≡ force_after alterations.old kept.now snippets.now) }
 {
-    for snippet in syllable.snippets.as_slice() {
-        snippet_nodes(syllable, *snippet, alterations, out)?;
+    for snippet in snippets {
+        snippet_nodes(kept, *snippet, alterations, out)?;
     }
     Ok(())
 }
@@ -112,41 +156,41 @@ fn add_notes(
 /// `alterations` are in force.
 #[tactic(auto, using(crate::proofs::syllables::TextsFit::text_short))]
 fn add_inside(
-    syllable: &Syllable,
+    syllable: SyllableSlices<'_>,
     alterations: &mut Alterations,
     out: &mut Vec<Node>,
 ) -> Result<(), AllocError>
-    requires { length (string_bytes syllable.now.kept) < 2 ^ 32 }
+    requires { length syllable.kept.now < 2 ^ 32 }
     ensures nodes { OnOk result (out.new.items ≡ out.old.items
-        ++ inside_nodes alterations.old (placed_of syllable.now)) }
+        ++ inside_nodes alterations.old (placed_by syllable.entry)) }
     ensures force { OnOk result (alterations.new
-        ≡ force_past_notes alterations.old (placed_of syllable.now)) }
+        ≡ force_past_notes alterations.old (placed_by syllable.entry)) }
 {
-    let len = syllable.kept.as_str().len();
+    let SyllableSlices { kept, snippets, .. } = syllable;
     let to = text_len(syllable);
-    text_nodes(syllable.text_at(Span { from: 0, to }), out)?;
-    if to < len {
-        return add_notes(syllable, alterations, out);
+    text_nodes(text_at(kept, Span { from: 0, to }), out)?;
+    if to < kept.len() {
+        return add_notes(kept, snippets, alterations, out);
     }
     Ok(())
 }
 
 /// Lets the alterations before `syllable` end if it begins a word.
-fn begin_word(syllable: &Syllable, alterations: &mut Alterations)
-    ensures { alterations.new ≡ force_at alterations.old (placed_of syllable.now) }
+fn begin_word(syllable: SyllableSlices<'_>, alterations: &mut Alterations)
+    ensures { alterations.new ≡ force_at alterations.old (placed_by syllable.entry) }
 {
-    if syllable.starts_word() {
+    if syllable.position.starts_word() {
         alterations.start_word();
     }
 }
 
 /// Returns the node of `syllable` without what lies in it.
-fn node_of(syllable: &Syllable) -> Node
-    ensures { result ≡ syllable_node (placed_of syllable.now) }
+fn node_of(syllable: SyllableSlices<'_>) -> Node
+    ensures { result ≡ syllable_node (placed_by syllable.entry) }
 {
     Node {
         begin: 0,
-        end: offset(syllable.kept.as_str().len()),
+        end: offset(syllable.kept.len()),
         inner: 0,
         kind: Kind::Syllable,
         a: position_number(syllable.position),
@@ -158,15 +202,15 @@ fn node_of(syllable: &Syllable) -> Node
 /// Adds the nodes of `syllable` to `out`, before which these `alterations` are in force. They count
 /// the bytes of its kept text.
 pub(crate) fn syllable_nodes(
-    syllable: &Syllable,
+    syllable: SyllableSlices<'_>,
     alterations: &mut Alterations,
     out: &mut Vec<Node>,
 ) -> Result<(), AllocError>
-    requires { length (string_bytes syllable.now.kept) < 2 ^ 32 }
+    requires { length syllable.kept.now < 2 ^ 32 }
     ensures nodes { OnOk result (out.new.items ≡ out.old.items
-        ++ nodes_of_syllable alterations.old (placed_of syllable.now)) }
+        ++ nodes_of_syllable alterations.old (placed_by syllable.entry)) }
     ensures force { OnOk result (alterations.new
-        ≡ force_past_syllable alterations.old (placed_of syllable.now)) }
+        ≡ force_past_syllable alterations.old (placed_by syllable.entry)) }
 {
     begin_word(syllable, alterations);
     let at = out.as_slice().len();

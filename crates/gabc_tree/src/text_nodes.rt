@@ -2,12 +2,11 @@
 
 ghost use Rattle.std.specs.Prelude.{◌≡◌, ◌+◌, ◌<◌, ◌≤◌, ◌^◌, ◌++◌, List, length, slice_range, is_some, option_to_list, OnOk};
 ghost use Rattle.gabc_text.specs.View.{is_open_after, piece_kind};
-ghost use Rattle.gabc_tree.specs.declared.node.Node.{Node};
+ghost use Rattle.gabc_nodes.specs.declared.node.Node.{Node};
 ghost use Rattle.gabc_tree.specs.TextNodes.{text_node as node_of_text, text_nodes, joined, bit, styles_number, numbers, is_escape, raw_number, number_of_mark, tag_node};
 ghost use Rattle.gabc_tree.specs.machine.TextNodes.{shown_past, shown_past_tag, styles_past, has_piece, is_blank_piece, node_after};
 
-use crate::kind::Kind;
-use crate::node::Node;
+use gabc_nodes::{Kind, Node};
 use gabc_places::Span;
 use gabc_text::{
     SpanMark, Style, Styles, TagEffect, TextToken, TokenKind, TokenReader, mark_at, tokens_in,
@@ -99,7 +98,7 @@ impl Before {
         styles_number(self.styles) + bit(self.begun && !self.ended, 128)
     }
 
-    /// Returns whether `token` is a blank that is a piece, where `ahead` are the tokens after it.
+    /// Returns whether `token` is a blank that is a piece, if `ahead` are the tokens after it.
     fn is_blank_piece(self, token: TextToken, ahead: TokenReader<'_>) -> bool
         ensures { result ≡ is_blank_piece self token.kind ahead.entry }
     {

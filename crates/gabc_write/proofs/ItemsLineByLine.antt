@@ -76,7 +76,8 @@ later_line : (index : ℕ) (gs rest : List Glyph) → Below index gs → line_of
 later_line index [] rest h = refl
 later_line index (g ∷ gs) rest h = grind (arith, later_line index gs rest h.1, ne_eqb)
 
--- Between notes of a segment: of its glyphs those are written that begin before, and of the last of them n notes are to come.
+-- Between notes of a segment: of its glyphs those are written that begin before, and of the last of
+-- them n notes are to come.
 pub record Cut (done ahead : List Note) (left : ℕ) : Type 0 where
   pub written : List Glyph
   pub most : ℕ
@@ -85,11 +86,12 @@ pub record Cut (done ahead : List Note) (left : ℕ) : Type 0 where
   pub all : glyphs_of (done ++ ahead) ≡ written ++ glyphs_within most (length done + left) (drop left ahead)
   pub below : Below (length done) written
 
--- where a segment begins
+-- at the beginning of a segment
 cut_first : (ahead : List Note) → Cut [] ahead 0
 cut_first ahead = record { written = []; most = length ahead; fits = omega arith; enough = omega arith; all = refl; below = tt }
 
--- What a note does: the line of the glyph that begins with it, and where the cut stands after it.
+-- The steps at a note: the line of the glyph that begins with it, and the place of the cut after
+-- it.
 record AtNote (done ahead : List Note) (n : Note) (left : ℕ) : Type 0 where
   line : line_of_glyph_at (glyphs_of (done ++ n ∷ ahead)) (length done) ≡ line_of_next left (longest_glyph (length (n ∷ ahead)) (n ∷ ahead))
   after : Cut (done ++ n ∷ []) ahead (left_after left (longest_glyph (length (n ∷ ahead)) (n ∷ ahead)))
@@ -171,7 +173,7 @@ at_note law done ahead n zero c = go (longest_glyph (length (n ∷ ahead)) (n �
           after = subst (λ (o : Option (GlyphKind × ℕ)). Cut (done ++ n ∷ []) ahead (left_after zero o)) (sym e) b.1;
         }
 
--- ---- where the writer stands
+-- ---- the state of the writer
 
 -- Between what is before and the items.
 pub record Stands (kept : List ℕ) (before items : List Item) (place : ItemPlace) : Type 0 where
@@ -256,7 +258,7 @@ steps_reversed kept (i ∷ items) =
     ∙ (ap (λ (t : List ScoreStep). t ++ step_of kept i ∷ []) (steps_reversed kept items)
     ∙ sym (reverse-append (step_of kept i ∷ []) (map (step_of kept) items))))
 
--- where none is to come, all are passed
+-- if none is to come, all are passed
 pub all_passed : (outset : InForce) (kept : List ℕ) (before items : List Item) → items ≡ reverse before ++ [] → in_force_at outset kept before ≡ passed outset (map (step_of kept) items)
 all_passed outset kept before items e = grind (arith, append-nil, steps_reversed, reverse-reverse)
 

@@ -1,9 +1,7 @@
 pub mod CanonicalTextIsPrintedSyllable
 pub mod CanonicalTextsArePrinted
-pub mod HeldAgain
-pub mod HeldAreWrittenAlike
-pub mod HeldIsReadAgain
-pub mod HeldWithOneText
+pub mod EquivalentSyllablesAreWrittenAlike
+pub mod HeldSyllableRoundTrips
 pub mod NoErrorIsFoundAgain
 pub mod NoLimitIsPassedAgain
 pub mod PartsEndAtTheirMarks
@@ -15,6 +13,8 @@ pub mod ScoreIsPrinted
 pub mod ScoreReadAgainIsTheSame
 pub mod SnippetsAreReadAgain
 pub mod StageHoldsAgain
+pub mod SyllableIsHeldByItsText
 pub mod SyllableIsReadFromItsText
 pub mod SyllablesHoldUnits
+pub mod SyllablesOfOneTextAreEquivalent
 pub mod SyllablesSayTheSame

@@ -71,7 +71,7 @@ ArePrintedTexts [] [] = Unit {0}
 ArePrintedTexts (s ∷ syllables) (f ∷ facts) = (canonical_in_place s ≡ encode_utf8_all (printed_syllable f.view f.snippets)) × ArePrintedTexts syllables facts
 ArePrintedTexts _ _ = ⊥
 
--- this is said by the text of each unit, and by what its own snippets keep, where it has notes
+-- this is said by the text of each unit, and by what its own snippets keep, if it has notes
 abbrev pub AreOwnFacts : ℕ → List ScoreUnit → List SyllableFacts → Type 0
 AreOwnFacts lines [] [] = Unit {0}
 AreOwnFacts lines (u ∷ units) (f ∷ facts) = ((f.view ≡ view_facts u.text) × (u.snippets ≢ [] → f.snippets ≡ kept_snippets lines 0 u.snippets)) × AreOwnFacts lines units facts

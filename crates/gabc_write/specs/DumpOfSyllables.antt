@@ -20,7 +20,7 @@ position_word Beginning = codes "beginning"
 position_word Middle = codes "middle"
 position_word End = codes "end"
 
--- `syllable NUMBER POSITION`, then ` eu` and ` nlba` where these spans are open
+-- `syllable NUMBER POSITION`, then ` eu` and ` nlba` if these spans are open
 abbrev pub first_line_by : ℕ → Position → Bool → Bool → List ℕ
 first_line_by number position eu nlba =
     codes "syllable " ++ (decimal number ++ (codes " " ++ (position_word position
@@ -90,7 +90,7 @@ lines_of_syllables number outset [] = []
 lines_of_syllables number outset (s ∷ syllables) =
     lines_of_syllable number outset s ++ lines_of_syllables (number + 1) (passed outset (steps_of_syllable s)) syllables
 
--- The dump of this book and these syllables. Where the score was stopped, it has no last line.
+-- The dump of this book and these syllables. If the score was stopped, it has no last line.
 abbrev pub dump_text : Bool → List (List ℕ × List ℕ) → List PlacedSyllable → List ℕ
 dump_text whole book syllables =
     dump_heads book ++ (lines_of_syllables 1 nothing_in_force syllables ++ (if whole then end_line (length syllables) else []))

@@ -17,7 +17,7 @@ use Rattle.gabc_write.specs.PlainText.{IsText}
 use Rattle.gabc_write.specs.SyllableMeaning.{AreSame}
 
 -- The canonical lines of this book and the canonical texts of these syllables are a file of what
--- the units of the syllables say. Where the input was decoded from bytes, the file reads as a text
+-- the units of the syllables say. If the input was decoded from bytes, the file reads as a text
 -- that was.
 pub record IsPrintedScore (input : List ℕ) (book : List (List ℕ × List ℕ)) (syllables : List PlacedSyllable) : Type 0 where
   pub units : List ScoreUnit

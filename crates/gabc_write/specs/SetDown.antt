@@ -17,7 +17,7 @@ use Rattle.gabc_write.specs.DumpOfSyllables.{HaveOneDump}
 use Rattle.gabc_write.specs.SyllableMeaning.{meaning_of}
 use Rattle.gabc_write.specs.SyllableRead.{as_it_stands}
 
--- of two syllables that are held both say the same where they stand, wherever in their word.
+-- two held syllables say the same where they stand, wherever in their word.
 -- `first` says whether no syllable stands before them.
 abbrev pub SayTheSame : Bool → Option UnplacedSyllable → Option UnplacedSyllable → Type 0
 SayTheSame first None None = Unit {0}
@@ -47,13 +47,13 @@ pub record GoesOnEquivalentlyInLine (told made : ScoreStageState) : Type 0 where
   pub says : SayTheSame (told.before.syllables == 0) (held_of told) (held_of made)
   pub gives : (xs : List HeadEvent) → AreInLine told.held.next xs → GiveTheSame (held_of told) (held_of made) (left_of told xs) (left_of made xs)
 
--- Two syllables are written alike where both stand there in their word: they have one canonical
+-- Two syllables are written alike if both have this position in their word: they have one canonical
 -- text and one dump.
 pub record IsWrittenAlike (m n : UnplacedSyllable) (position : Position) : Type 0 where
   pub canonical : canonical_in_place (record { made = m; position = position }) ≡ canonical_in_place (record { made = n; position = position })
   pub dump : HaveOneDump (record { made = m; position = position }) (record { made = n; position = position })
 
--- so are two that are held, wherever in their word
+-- so are two held ones, wherever in their word
 abbrev pub AreWrittenAlike : Option UnplacedSyllable → Option UnplacedSyllable → Type 0
 AreWrittenAlike None None = Unit {0}
 AreWrittenAlike (Some m) (Some n) = (position : Position) → IsWrittenAlike m n position

@@ -17,8 +17,8 @@ pub record PieceMeaning : Type 0 where
   pub text : List ℕ
 
 -- Its canonical text, its pieces, the centre between them, the translation and the snippets with
--- their lines, where it stands in its word, and whether a span of several syllables is open at the
--- end of its text. Texts are bytes.
+-- their lines, its position in its word, and whether a span of several syllables is open at the end
+-- of its text. Texts are bytes.
 pub record SyllableMeaning : Type 0 where
   pub text : List ℕ
   pub word_start : Bool

@@ -79,7 +79,7 @@ fn letter_of_note(text: &[u8]) -> u8
     }
 }
 
-/// Puts the name of `degree`, or `-` where there is none, with a blank before it and one after it.
+/// Puts the name of `degree`, or `-` if there is none, with a blank before it and one after it.
 fn put_degree<S: Put>(degree: Option<u8>, out: &mut S)
     ensures { out.new ≡ S.taken out.old (codes " " ++ (degree_word degree ++ codes " ")) }
 {

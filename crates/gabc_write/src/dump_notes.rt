@@ -19,7 +19,7 @@ use gabc_notes::{Item, ItemKind, ItemReader, Note, Shape, items_in, note_of};
 use gabc_places::{Put, Span};
 use itoa::Buffer;
 
-/// Where a writer stands between the items of a snippet.
+/// The state of a writer between the items of a snippet.
 #[derive(Clone, Copy)]
 struct ItemPlace {
     /// Whether the item before is part of an element.

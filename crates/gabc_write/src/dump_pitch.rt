@@ -8,7 +8,7 @@ ghost use Rattle.gabc_write.specs.machine.NoteLines.{lines_of_pitch, lines_of_si
 use gabc_neumes::Alter;
 use gabc_places::Put;
 
-/// Returns the letters of the name of `degree`, where it has two: `sol` alone has three.
+/// Returns the letters of the name of `degree`, if it has two: `sol` alone has three.
 fn two_letters(degree: u8) -> (u8, u8)
     ensures { degree ≢ 4 → degree_word (Some degree) ≡ result.0 ∷ result.1 ∷ [] }
 {

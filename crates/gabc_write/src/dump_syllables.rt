@@ -20,7 +20,7 @@ use gabc_score::{Position, Snippet, Spans, Syllable};
 use gabc_text::{TextView, write_text};
 use itoa::Buffer;
 
-/// Puts a blank and the word for where a syllable stands in its word.
+/// Puts a blank and the word for the position of a syllable in its word.
 fn put_position<S: Put>(position: Position, out: &mut S)
     ensures { out.new ≡ S.taken out.old (codes " " ++ position_word position) }
 {
@@ -132,7 +132,7 @@ fn put_snippets<S: Put>(
     }
 }
 
-/// Passes the start of a word, where a syllable at `position` begins one.
+/// Passes the start of a word, if a syllable at `position` begins one.
 pub(crate) fn pass_position(position: Position, alterations: &mut Alterations)
     ensures { alterations.new ≡ passed alterations.old (first_steps position) }
 {

@@ -24,7 +24,7 @@ fn is_plain(byte: u8) -> bool
     byte != b'\\' && byte != b'\n'
 }
 
-/// Returns how many bytes of `text` stand before its first backslash or LF: all, where it has none.
+/// Returns how many bytes of `text` stand before its first backslash or LF: all, if it has none.
 fn plain_len(text: &[u8]) -> usize
     ensures within { result ≤ length text.now }
     ensures plain { escaped text.now ≡ take result text.now ++ escaped (drop result text.now) }

@@ -65,7 +65,7 @@ pub fn syllable_again()
 /// itself: wherever this text stands and whatever was emitted before, it is one syllable, whole
 /// with its last character, that says the same, holds a unit, leaves the same spans open after the
 /// same spans and has the same canonical text. What is found in it are warnings, and no more bytes
-/// are kept on the way than the text has. So it is where the syllable is the first one of a score,
+/// are kept on the way than the text has. So it is if the syllable is the first one of a score,
 /// whose canonical text begins a word whatever its own text says: what is read begins a word then.
 pub fn a_syllable_is_read_from_its_own_text()
     ensures { (lines macros : ℕ) (first : Bool) (m : UnplacedSyllable) → HoldsSomeUnit lines m →
@@ -93,7 +93,7 @@ pub fn what_is_held_is_read_from_its_own_text()
     a_syllable_is_read_from_its_own_text();
 }
 
-/// Law: where the inputs of a stage over a score just cease, whatever it has read, what it gives
+/// Law: if the inputs of a stage over a score just cease, whatever it has read, what it gives
 /// then is written as one syllable: read by itself, its canonical text is one, whole with its last
 /// character and not before.
 pub fn what_breaks_off_is_one_syllable(stage: &ScoreStage)
@@ -261,10 +261,10 @@ pub fn syllables_that_say_the_same_have_one_dump()
         lines_of_syllables number outset ss ≡ lines_of_syllables number outset ts }
 {}
 
-/// Law: two syllables that are held and say the same where they stand have one dump, and leave the
-/// same in force where the same is before them, wherever in their word they are written and
-/// whatever their texts say of the start of a word, if the spans of their snippets begin and end
-/// between characters.
+/// Law: two held syllables that say the same where they stand have one dump, and leave the same in
+/// force if the same is before them, wherever in their word they are written and whatever their
+/// texts say of the start of a word, if the spans of their snippets begin and end between
+/// characters.
 pub fn held_syllables_that_say_the_same_have_one_dump()
     ensures { (first : Bool) (m n : UnplacedSyllable) (position : Position) → HasWholeSnippets m →
         HasWholeSnippets n → SayTheSame first (Some m) (Some n) →

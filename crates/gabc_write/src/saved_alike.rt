@@ -1,6 +1,6 @@
 //! Laws by which a saved state stands for a stage: two stages over a score of which the same is
-//! saved go on alike, and what they hold is written alike. Each function's contract is a law, and
-//! its body calls the laws that it stands on.
+//! saved go on alike, and their held syllables are written alike. Each function's contract is a
+//! law, and its body calls the laws that it stands on.
 
 ghost use Rattle.gabc_score.specs.ScoreReports.{held_of};
 ghost use Rattle.gabc_score.specs.witness.IsReachable.{IsReachable};
@@ -10,7 +10,7 @@ ghost use Rattle.gabc_write.specs.SetDown.{AreWrittenAlike, GoesOnEquivalentlyIn
 
 use crate::laws;
 
-/// In the body two stages of which the same is saved go on alike, of characters that stand one
+/// Law: in the body two stages of which the same is saved go on alike, of characters that stand one
 /// after the other. They run under the same limits after the same, hold none or syllables with one
 /// canonical text there, and report the same of the syllable that is not whole. What the one
 /// reports is that of a text, and the next character stands where a text that is read has counted
@@ -31,7 +31,7 @@ pub fn what_is_saved_alike_goes_on_alike()
     gabc_score::stage_laws::stages_that_report_the_same_agree_in_line();
 }
 
-/// Of two stages that go on alike the syllables that they hold are written alike, wherever in their
+/// Law: the held syllables of two stages that go on alike are written alike, wherever in their
 /// word: each has the canonical text of the other, and the dump of the other.
 pub fn what_goes_on_alike_is_written_alike()
     ensures { (one other : ScoreStageState) → IsReachable one → IsReachable other →

@@ -12,9 +12,9 @@ use crate::laws;
 use gabc_places::Room;
 use gabc_score::{ScoreEvent, ScoreStage};
 
-/// Holds the syllable that `told` holds, if it holds one, by its canonical text `held`. Returns
-/// whether that text is a syllable.
-fn hold_told(
+/// Makes `stage` hold the held syllable of `told`, if there is one, by its canonical text `held`.
+/// Returns whether that text is a syllable.
+fn hold_reported(
     stage: &mut ScoreStage,
     told: &ScoreStage,
     held: &str,
@@ -43,7 +43,7 @@ fn hold_told(
 
 /// Reads what `told` has read of the syllable that is not whole. Returns whether that is a part of
 /// a syllable.
-fn read_told(stage: &mut ScoreStage, told: &ScoreStage) -> bool
+fn read_reported(stage: &mut ScoreStage, told: &ScoreStage) -> bool
     requires runs { is_some (before_of told.now) ≡ true }
     requires front { is_in_front told.now.body.part ≡ false }
     requires begins { BeginsAlike told.now stage.old }
@@ -63,13 +63,13 @@ fn read_told(stage: &mut ScoreStage, told: &ScoreStage) -> bool
     stage.read_again(told.reading(), openers, in_comment, next)
 }
 
-/// From what `told` reports in the body, not in front of the first text, a stage is restored that
-/// gives the same of whatever follows. `stage` is what `ScoreStage::resume` makes, under the same
-/// limits, of what `told` reports to stand before. It holds the syllable of which `held` is the
-/// canonical text there, if one is held, and reads the kept text of the next one. Only the held
-/// syllable stands as it is read from this text: it says the same, and as the first of the score it
-/// begins a word. The next character has to stand where a text that is read has counted it. The
-/// answer is `true`. `room` is empty and has room for 16 events; nothing stands in it afterwards.
+/// Restores in `stage`, from what `told` reports in the body, not in front of the first text, a
+/// stage that gives the same of whatever follows. `stage` is what `ScoreStage::resume` makes, under
+/// the same limits, of what `told` reports to stand before. The restored stage holds the syllable
+/// of which `held` is the canonical text there, if `told` holds one, and reads the kept text of the
+/// next one. Only the held syllable stands as it is read from this text: it says the same, and as
+/// the first of the score it begins a word. The next character has to stand where a text that is
+/// read has counted it. Returns `true`. `room` is empty, has room for 16 events, and is left empty.
 pub fn a_stage_is_restored(
     told: &ScoreStage,
     stage: &mut ScoreStage,
@@ -90,10 +90,10 @@ pub fn a_stage_is_restored(
 {
     gabc_score::stage_laws::a_stage_is_reachable(told);
     gabc_score::stage_laws::what_is_reported_is_within_the_limits();
-    if !hold_told(stage, told, held, room) {
+    if !hold_reported(stage, told, held, room) {
         return false;
     }
-    if !read_told(stage, told) {
+    if !read_reported(stage, told) {
         return false;
     }
     gabc_score::stage_laws::a_stage_is_reachable(stage);

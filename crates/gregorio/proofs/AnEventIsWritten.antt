@@ -35,7 +35,7 @@ ends_where_emitted : (outputs : List ScoreOutput) (old new : BoundedList ScoreEv
     → StopsAtEnd is_last_event (events_left s) old new → EndsAtLast (IsSilent s) outputs
 ends_where_emitted outputs old new s emitted stops = ends_at_last (events_left s) old new stops (λ none xs. nothing_left s xs none) First [] outputs emitted.events
 
--- where a run is over after these, it was over before, or they end it
+-- if a run is over after these, it was over before, or they end it
 over_by_last : (P : Type 0) (w : Written) (outputs : List ScoreOutput) → EndsAtLast P outputs → (IsSome w.ended → P) → IsSome (after_outputs w outputs).ended → P
 over_by_last P w [] ends before over = before over
 over_by_last P w (Found f ∷ outputs) ends before over = over_by_last P (after_output w (Found f)) outputs ends before over
@@ -45,7 +45,8 @@ over_by_last P w (End ∷ outputs) ends before over = ends.1
 
 -- ---- an event
 
--- A writer of this stage and these bytes shows `now`. Its stage emitted `events` into an emptied room.
+-- A writer of this stage and these bytes shows `now`. Its stage emitted `events` into an emptied
+-- room.
 module _ (score mid : ScoreStageState) (writer : RunWriterState) (now : ScoreWriterState) (view : record { score = score; writer = writer } ≡ now) (x : HeadEvent)
     (r cleared filled : BoundedList ScoreEvent) (empty : cleared ≡ record r { items = [] }) (events : List ScoreEvent) (are : events ≡ filled.items)
     (step : GivesAt score x mid cleared filled) (stops : StopsAtEnd is_last_event (events_left mid) cleared filled) where
@@ -95,7 +96,7 @@ module _ (score mid : ScoreStageState) (writer : RunWriterState) (now : ScoreWri
       writer = new_is;
     })
 
-    -- where the run is over, the stage gives nothing more
+    -- if the run is over, the stage gives nothing more
     pub silent_after : (IsSome writer.written.ended → IsSilent score) → IsSome new.written.ended → IsSilent mid
     silent_after before over =
         over_by_last (IsSilent mid) writer.written step.outputs ends

@@ -1,4 +1,4 @@
--- The dump of a syllable has room where there is room for one like it, with notes or without.
+-- The dump of a syllable has room if there is room for one like it, with notes or without.
 use Rattle.std.proofs.Common.{◌≡◌, ℕ, ◌+◌, ◌*◌, ◌-◌, ◌≤◌, Bool, true, List, length, take_all, arith, ap, append-nil}
 use Rattle.gabc_places.specs.BoundedList.{BoundedList, Fits, extended_by}
 use Rattle.gabc_places.specs.Put.{filled_with}

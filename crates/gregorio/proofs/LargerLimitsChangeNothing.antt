@@ -1,4 +1,4 @@
--- Larger limits change nothing, where the input may be as long and nothing in it was too long.
+-- Larger limits change nothing, if the input may be as long and nothing in it was too long.
 use Rattle.std.proofs.Common.{◌≡◌, ℕ, List, length, take, nat_lt, false, sym, ap, ◌∙◌, arith}
 use Rattle.std.specs.Option.{option_map}
 use Rattle.gabc_places.specs.declared.code.Code.{Code}

@@ -12,7 +12,7 @@ use Rattle.gabc_headers.specs.witness.Heads.{heads_by}
 use Rattle.gabc_headers.specs.witness.HeadEvents.{reading, after_headers, fresh_stage, progress_by, progress_with, stage_past}
 use Rattle.gregorio.specs.machine.HeldHeaders.{after_mark}
 
--- where no limit is passed
+-- if no limit is passed
 one_by : (b : Bool) → b ≡ false
     → progress_by (37 ∷ []) (heads_by (37 ∷ []) (earliest (too_long (37 ∷ []) (cond b (Some 0) None) ++ stop_at 1 (record { line = 1; column = 2 }) F2 ∷ []))) ≡ reading (37 ∷ [])
 one_by b e = rw e refl

@@ -26,7 +26,7 @@ on_err_any r h = grind arith
 one_fails : (a b c d e f : Calls) → GoesOn a b → GoesOn d e → (FailsOnce b c × GoesOn e f) ⊎ (GoesOn b c × FailsOnce e f) → (FailsOnce a c × GoesOn d f) ⊎ (GoesOn a c × FailsOnce d f)
 one_fails a b c d e f h k g = grind (arith, fails_after, goes_on_after)
 
--- where nothing waited these bytes were taken
+-- if nothing waited, these bytes were taken
 abbrev pub IsTaken : EngineState → EngineState → List ℕ → Type 0
 IsTaken e f bytes = (rest : List ℕ) (ending : SourceEnding) → streams_left e ending (bytes ++ rest) ≡ with_waiting f (streams_left f ending rest)
 

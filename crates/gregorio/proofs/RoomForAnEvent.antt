@@ -98,7 +98,7 @@ needed_within part room = grind arith
 pub needed_more : (part : ScorePart) (a b : ℕ) → a ≤ b → needed_in part a ≤ needed_in part b
 needed_more part a b h = grind arith
 
--- where this is needed, and after the last nothing is given, so much is needed for what was given
+-- if this is needed, and after the last nothing is given, so much is needed for what was given
 pub needed_for : (format : Format) (limit : ℕ) (part : ScorePart) (room : ℕ) (outputs : List ScoreOutput) → (part ≡ score_part.Over → outputs ≡ []) → texts_room format limit outputs ≤ room
     → texts_room format limit outputs ≤ needed_in part room
 needed_for format limit part room outputs none within = grind arith

@@ -20,10 +20,10 @@ use Rattle.gregorio_jobs.specs.declared.job.Format.{Format}
 use Rattle.gregorio.specs.Engine.{IsPrompt, fault_of, with_waiting}
 use Rattle.gregorio.specs.witness.Engine.{EngineState, streams_left}
 use Rattle.gregorio.specs.Streams.{Streams, after_bytes, ended_with, streams_of_outcome}
-use Rattle.gregorio.specs.Run.{Use, used, Done, IsKnown, SinkCut, Compiles, Taken}
+use Rattle.gregorio.specs.Run.{Use, used, Done, IsKnown, IsRun, SinkCut, Compiles, Taken}
 use Rattle.gregorio.specs.SourceBytes.{ReadsSource}
 use Rattle.gregorio.specs.Outcome.{is_whole, ending_by, is_cut_short, outcome_of, status_by, status_of, is_error_finding}
-use Rattle.gregorio.specs.machine.Compile.{AreSent, AreCut, IsPromptAs, Knows, NoneOrAll, StreamsAreCut, IsFedAll, IsFedInPart, IsRun, SaysOutcomes}
+use Rattle.gregorio.specs.machine.Compile.{AreSent, AreCut, IsPromptAs, Knows, NoneOrAll, StreamsAreCut, IsFedAll, IsFedInPart, SaysOutcomes}
 use Rattle.gregorio.proofs.pieces.BytesAreJoined.{with_both_after}
 use Rattle.gregorio.proofs.PiecesAreSent.{sent_on, cut_by, cut_longer, none_or_all}
 

@@ -1,13 +1,9 @@
 -- The texts of a score are read under limits that are enough for them as under those of their state.
-use Rattle.std.proofs.Common.{◌≡◌, ◌↔◌, ◌*◌, ◌<◌, ◌≤◌, ◌^◌, ℕ, List, length, encode_utf8_all, ap, subst, arith}
-use Rattle.std.specs.Char.{IsScalar}
-use Rattle.std.specs.List.{All}
+use Rattle.std.proofs.Common.{◌≡◌, ◌↔◌, ◌≤◌, ℕ, List, length, encode_utf8_all, ap, subst, arith}
 use Rattle.std.specs.Str.{chars}
-use Rattle.std.proofs.lemmas.Str.{encodes-chars, scalars-chars}
+use Rattle.std.proofs.lemmas.Str.{encodes-chars}
 use Rattle.gabc_places.specs.declared.limits.Limits.{Limits}
 use Rattle.gabc_places.specs.TextOfAnInput.{IsText}
-use Rattle.gabc_score.proofs.runs.RunGoesOn.{few_characters}
-use Rattle.gabc_score.proofs.texts_of_body.BodyAfterHeads.{are_scalars}
 use Rattle.gabc_body.specs.ReadAlone.{IsReadAsSyllable}
 use Rattle.gabc_body.specs.Syllable.{UnplacedSyllable}
 use Rattle.gabc_body.specs.declared.before.Spans.{Spans}
@@ -17,15 +13,12 @@ use Rattle.gregorio.specs.SavedState.{IsHeldRead, IsKeptRead, IsScoreRead, Repor
 use Rattle.gregorio.specs.machine.Judging.{IsEnoughFor, LetsTexts}
 use Rattle.gregorio.specs.machine.Restoring.{AreFieldsIn}
 
-module _ (law : (lines macros : ℕ) (t : List ℕ) (spans : Spans) (limit other : ℕ) (m : UnplacedSyllable) → All IsScalar t → length (encode_utf8_all t) < 2 ^ 63 → 5 * length t ≤ other → IsReadAsSyllable lines macros t spans limit m
+module _ (law : (lines macros : ℕ) (t : List ℕ) (spans : Spans) (limit other : ℕ) (m : UnplacedSyllable) → length (encode_utf8_all t) ≤ other → IsReadAsSyllable lines macros t spans limit m
     → IsReadAsSyllable lines macros t spans other m × (length m.kept ≤ other)) where
   held_alike : (limits other : Limits) (f : ScoreFields) → IsText f.held → LetsTexts f other → other.input ≡ limits.input → IsHeldRead limits f → IsHeldRead other f
   held_alike limits other f is lets input h =
-      let few = few_characters f.held is.utf8 in
       let all = ap length (encodes-chars f.held is.utf8) in
-      let most = other.in_range.syllable_most in
-      let one = law _ _ _ _ limits.syllable other.syllable h.m (are_scalars (chars f.held) (scalars-chars f.held is.utf8))
-      (omega (arith, all, most, lets.held)) (omega (arith, few, lets.held)) h.may.read in
+      let one = law _ _ (chars f.held) _ limits.syllable other.syllable h.m (omega (arith, all, lets.held)) h.may.read in
       let size = ap length h.is in
       record {
         m = h.m;

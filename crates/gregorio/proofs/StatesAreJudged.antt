@@ -19,7 +19,7 @@ module _ (s : StateFields) (own : Limits) (tells : ReportsLimits s own) (phase :
   pub not_read : (IsPhaseRead own s phase → ⊥) → AreOfState s → ⊥
   not_read refused h = refused (subst (IsPhaseRead own s) is (subst (λ (l : Limits). IsPhaseRead l s s.phase) (told_once s h.limits own h.limits_are tells) h.read))
 
-  -- the texts are read exactly where the fields are those of a state
+  -- the texts are read exactly if the fields are those of a state
   pub judged : (b : Bool) → IsTrue b ↔ IsPhaseRead own s phase → IsTrue b ↔ AreOfState s
   judged b both = (λ yes. read_so (both.0 yes), λ h. both.1 (subst (IsPhaseRead own s) is (subst (λ (l : Limits). IsPhaseRead l s s.phase) (told_once s h.limits own h.limits_are tells) h.read)))
 

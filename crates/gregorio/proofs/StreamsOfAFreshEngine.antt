@@ -33,7 +33,7 @@ use Rattle.gregorio.proofs.StreamsOfOutputs.{said}
 next_is : (n : ℕ) → n + 1 < 2 ^ 64 → next_number n ≡ n + 1
 next_is n h = grind (arith, nat_tests)
 
--- no count saturates where there are fewer syllables than that
+-- no count saturates if there are fewer syllables than that
 pub count_is : (n : ℕ) (ss : List PlacedSyllable) → n + length ss < 2 ^ 64 → count_after n ss ≡ n + length ss
 count_is n [] h = omega arith
 count_is n (s ∷ ss) h = grind (arith, count_is (n + 1) ss (omega (arith, h)), next_is)

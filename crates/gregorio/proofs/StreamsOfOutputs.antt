@@ -106,7 +106,7 @@ job_stays w (End ∷ outputs) = job_stays (after_output w End) outputs
 pub headed_stays : (w : Written) (outputs : List ScoreOutput) → (after_outputs w outputs).headed ≡ w.headed
 headed_stays w outputs = (job_stays w outputs).1.1.1
 
--- where no headers are to be written, none are later
+-- if no headers are to be written, none are later
 never_later : (w : Written) (outputs : List ScoreOutput) → is_before_heads w ≡ false → is_before_heads (after_outputs w outputs) ≡ false
 never_later w [] h = h
 never_later w (Found f ∷ outputs) h = never_later (after_output w (Found f)) outputs h
@@ -151,7 +151,7 @@ pub in_body : (w : Written) (book : List (List ℕ × List ℕ)) (from_heads : L
     → streams_from w book from_heads lists ≡ streams_in w (concat_of lists)
 in_body w book from_heads lists headed = without_heads w book from_heads lists (inl (ap (λ (b : Bool). not (b || is_some w.ended)) headed))
 
--- where the run is over and the score says nothing more
+-- if the run is over and the score says nothing more
 pub over_is_last : (w : Written) (score : ScoreStageState) (how : RunEnding) → IsOver w score how → (book : List (List ℕ × List ℕ)) (from_heads : List HeadEvent)
     → streams_from w book from_heads (left_of score from_heads) ≡ ended_by how
 over_is_last w score how over book from_heads =

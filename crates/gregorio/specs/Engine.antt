@@ -11,7 +11,7 @@ use Rattle.gregorio_jobs.specs.declared.job.Job.{Job}
 use Rattle.gregorio_jobs.specs.declared.job.Status.{Status}
 use Rattle.gregorio_jobs.specs.declared.job.Status.TheVariants.{Whole, Errors, Fatal, ReadFault, WriteFault, NoMemory}
 use Rattle.gregorio.specs.Outcome.{input_name}
-use Rattle.gregorio.specs.Streams.{Streams, after_bytes, last_text, texts_after, count_after}
+use Rattle.gregorio.specs.Streams.{Streams, after_bytes, ended_with, last_text, texts_after, count_after}
 use Rattle.gregorio.specs.declared.source_ending.SourceEnding.{SourceEnding}
 use Rattle.gregorio.specs.declared.source_ending.SourceEnding.TheVariants.{Broken}
 use Rattle.gregorio.specs.witness.Engine.{EngineState, ceased_ending, fault_of_ending, streams_left}
@@ -92,3 +92,29 @@ EndsByInput Fatal = Unit {0}
 EndsByInput ReadFault = Unit {0}
 EndsByInput WriteFault = ⊥
 EndsByInput NoMemory = ⊥
+
+-- ---- the end
+
+-- The run is over, and ended with this status: so it stays, whatever comes. What waits is the last.
+-- Over already, it is as it was.
+pub record IsEnded (old : EngineState) (ending : SourceEnding) (status : Status) (new : EngineState) : Type 0 where
+  pub law : streams_left old ending [] ≡ with_waiting new (ended_with status (fault_of new))
+  pub last : (bytes : List ℕ) (later : SourceEnding) → streams_left new later bytes ≡ ended_with status (fault_of new)
+  pub over : is_running new ≡ false
+  pub job : StillRuns old new
+  pub again : is_running old ≡ false → new ≡ old
+  pub hasher : new.heads.hasher ≡ old.heads.hasher
+
+-- All that was to be written of these bytes, the rest of an input that ends so, was put, and
+-- nothing waits. The run is over, and stays as it ended.
+pub record IsRunOver {Out Messages : Type 0} (put : Out → List ℕ → Out) (tell : Messages → List ℕ → Messages) (old : EngineState) (ending : SourceEnding) (bytes : List ℕ)
+    (out_old out_new : Out) (messages_old messages_new : Messages) (status : Status) (new : EngineState) : Type 0 where
+  pub out : out_new ≡ put out_old (streams_left old ending bytes).output
+  pub messages : messages_new ≡ tell messages_old (streams_left old ending bytes).messages
+  pub ends : status ≡ (streams_left old ending bytes).status
+  pub fault : fault_of new ≡ (streams_left old ending bytes).fault
+  pub job : StillRuns old new
+  pub waits : NothingWaits new
+  pub over : is_running new ≡ false
+  pub last : (more : List ℕ) (later : SourceEnding) → streams_left new later more ≡ ended_with status (fault_of new)
+  pub hasher : new.heads.hasher ≡ old.heads.hasher

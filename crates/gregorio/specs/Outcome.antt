@@ -62,7 +62,7 @@ abbrev pub text_in : Format → Bool → List (List ℕ × List ℕ) → List Pl
 text_in Gabc whole book syllables = score_text book syllables
 text_in Dump whole book syllables = dump_text whole book syllables
 
--- nothing, where the headers are not whole
+-- nothing, if the headers are not whole
 abbrev pub output_by : Format → Bool → Option (List (List ℕ × List ℕ)) → List PlacedSyllable → List ℕ
 output_by format whole None syllables = []
 output_by format whole (Some book) syllables = text_in format whole book syllables
@@ -78,7 +78,7 @@ abbrev pub is_error : Severity → Bool
 is_error Error = true
 is_error kind = false
 
--- a finding is written: warnings only where all are wanted
+-- a finding is written: warnings only if all are wanted
 abbrev pub is_shown : Bool → Finding → Bool
 is_shown all_warnings finding = all_warnings || not (is_warning (severity_of finding.code))
 
@@ -94,8 +94,7 @@ abbrev pub input_name : Input → List ℕ
 input_name Stdin = codes "<stdin>"
 input_name (File name) = name
 
--- the lines of what a score found, and last that of its fatal fault, where messages call the input
--- so
+-- the lines of what a score found, and last that of its fatal fault, if messages call the input so
 abbrev pub lines_of : List ℕ → Bool → Score → List ℕ
 lines_of name all_warnings score = flat_map (shown_line name all_warnings) score.findings ++ fault_line name score.fault
 

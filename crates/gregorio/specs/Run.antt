@@ -1,5 +1,5 @@
 -- What a run does to its source and its sinks.
-use Rattle.std.specs.Prelude.{◌≡◌, ℕ, ◌<◌, ◌≤◌, ◌+◌, List, ◌++◌, length, take, Option, ◌⊎◌, true, false}
+use Rattle.std.specs.Prelude.{◌≡◌, ◌≢◌, ℕ, ◌<◌, ◌≤◌, ◌+◌, List, ◌++◌, length, take, Option, ◌⊎◌, true, false}
 use Rattle.std.specs.Io.KnownBytes.{Appends, Consumes, IsAtEnd, Keeps}
 use Rattle.gabc_places.specs.Calls.{Calls, NoneLate, GoesOn, FailsOnce}
 use Rattle.gabc_places.specs.declared.limits.Limits.{Limits}
@@ -7,7 +7,7 @@ use Rattle.gregorio.specs.declared.source_ending.SourceEnding.{SourceEnding}
 use Rattle.gregorio.specs.declared.source_ending.SourceEnding.TheVariants.{Whole, Broken}
 use Rattle.gregorio_jobs.specs.declared.job.Job.{Job}
 use Rattle.gregorio_jobs.specs.declared.job.Status.{Status}
-use Rattle.gregorio_jobs.specs.declared.job.Status.TheVariants.{NoMemory, WriteFault}
+use Rattle.gregorio_jobs.specs.declared.job.Status.TheVariants.{NoMemory, ReadFault, WriteFault}
 use Rattle.gregorio.specs.Engine.{IsPrompt}
 use Rattle.gregorio.specs.Outcome.{outcome_of, output_of, messages_of, status_of}
 use Rattle.gregorio.specs.SourceBytes.{ReadsSource}
@@ -100,3 +100,12 @@ abbrev pub Compiles : Job → Limits → Use → Use → Use → Status → Type
 Compiles job limits source out messages NoMemory = IsUntouched source × (IsUntouched out × IsUntouched messages)
 Compiles job limits source out messages WriteFault = SinkCut job limits source out messages
 Compiles job limits source out messages status = Done job limits source out messages status
+
+-- A whole run, which called no end too late. It says that the source failed only if that failed,
+-- and that a sink failed exactly if one did.
+pub record IsRun (job : Job) (limits : Limits) (source out messages : Use) (status : Status) : Type 0 where
+  pub compiles : Compiles job limits source out messages status
+  pub in_time : InTime source out messages
+  pub read_fault : status ≡ ReadFault → source.calls_old.failures < source.calls_new.failures
+  pub write_fault : status ≡ WriteFault → (out.calls_old.failures < out.calls_new.failures) ⊎ (messages.calls_old.failures < messages.calls_new.failures)
+  pub steady : status ≢ WriteFault → (out.calls_new.failures ≡ out.calls_old.failures) × (messages.calls_new.failures ≡ messages.calls_old.failures)

@@ -22,13 +22,12 @@ abbrev pub held_count : Option UnplacedSyllable → ℕ
 held_count None = 0
 held_count (Some m) = 1
 
--- the canonical text of the syllable that is held after these: the first one begins a word
+-- the canonical text of the held syllable, after these: the first one begins a word
 abbrev pub held_text : Preceding → Option UnplacedSyllable → List ℕ
 held_text p None = []
 held_text p (Some m) = canonical ((p.syllables == 0) || m.text.word_start) m
 
--- what a stage over a score reports in the body, where this is in force before the syllable that is
--- held
+-- what a stage over a score reports in the body, if this is in force before the held syllable
 abbrev pub score_fields : InForce → ScoreStageState → ScoreFields
 score_fields force s =
     let text = held_text s.before (held_of s) in

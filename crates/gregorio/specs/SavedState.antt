@@ -23,7 +23,7 @@ pub record ReportsLimits (s : StateFields) (limits : Limits) : Type 0 where
 
 -- ---- the held text
 
--- What stands before the syllable that is held: the state counts that syllable, and its text is the
+-- What stands before the held syllable: the state counts that syllable, and its text is the
 -- last of the canonical file.
 abbrev pub before_held : ScoreFields → Before
 before_held f = record {

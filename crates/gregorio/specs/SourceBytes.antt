@@ -6,8 +6,8 @@ use Rattle.gregorio.specs.declared.source_ending.SourceEnding.{SourceEnding}
 use Rattle.gregorio.specs.declared.source_ending.SourceEnding.TheVariants.{Whole, Broken}
 
 -- The source gave these bytes, at most one more than the limit, in at most one read more than there
--- are bytes, and stopped so: where it ended no read of it failed, and it is stopped if the limit is
--- not passed. `old` and `new` are the bytes that it has before and after, where they are known, and
+-- are bytes, and stopped so: if it ended, no read of it failed, and it is stopped if the limit is
+-- not passed. `old` and `new` are the bytes that it has before and after, if they are known, and
 -- `calls_old` and `calls_new` how its reads went.
 pub record ReadsSource (old new : Option (List ℕ)) (calls_old calls_new : Calls) (limit : ℕ) (bytes : List ℕ) (ending : SourceEnding) : Type 0 where
   pub consumed : Consumes old new bytes

@@ -9,7 +9,7 @@ ghost use Rattle.gabc_places.specs.declared.limits.Limits.{Limits};
 ghost use Rattle.gregorio_jobs.specs.declared.job.Job.{Job};
 ghost use Rattle.gregorio_jobs.specs.declared.job.Status.TheVariants.{ReadFault};
 ghost use Rattle.gregorio.specs.Outcome.{outcome_of};
-ghost use Rattle.gregorio.specs.Engine.{IsPrompt, NothingWaits, RunsJob, StillRuns, TakesFront, fault_of, is_running, with_waiting};
+ghost use Rattle.gregorio.specs.Engine.{IsEnded, IsPrompt, NothingWaits, RunsJob, StillRuns, TakesFront, fault_of, is_running};
 ghost use Rattle.gregorio.specs.witness.Engine.{streams_left};
 ghost use Rattle.gregorio.specs.Streams.{streams_of_outcome, ended_with};
 ghost use Rattle.gregorio.specs.machine.Engine.{LeavesRoom, MayRead, ReadsItems, event_of_item};
@@ -31,7 +31,7 @@ use std::marker::Model;
 
 /// Compiles a score that comes in pieces. What is known of it is written before the next byte is
 /// read, and waits until it is taken. It asks for no memory once made. `fill` goes on while there
-/// is room for what it writes; `feed` stops where something waits.
+/// is room for what it writes; `feed` stops when something waits.
 ///
 /// ```
 /// let mut engine = Engine::new(alloc, &job, Limits::DEFAULT)?;
@@ -161,9 +161,8 @@ impl Engine {
     /// over them, and ends with the status and the fault of this run. It runs, and nothing waits.
     /// No call changes its job or its limits.
     ///
-    /// Names of headers are hashed with fixed keys. Where strangers choose the names, they can
-    /// choose them so that the headers are read slowly (see docs/BENCHMARKS.md): take `with_hasher`
-    /// there.
+    /// Names of headers are hashed with fixed keys. If strangers choose the names, they can choose
+    /// them so that the headers are read slowly (see docs/BENCHMARKS.md): take `with_hasher` there.
     pub fn new(alloc: Global, job: &Job, limits: Limits) -> Result<Engine, AllocError>
         ensures all { IfOk result (λ engine. (bytes : List ℕ) (ending : EndOfSource) →
             streams_left engine ending bytes
@@ -272,7 +271,7 @@ impl Engine {
     /// at least one, unless it is empty. Nothing may wait before. What waits then, and what is
     /// still to be written after it, is what was to be written before: how the input is cut changes
     /// nothing. What waits became known with the last byte that it took, and so did a fatal fault.
-    /// All that is known waits, but for the syllable that is held: a run that breaks off then has
+    /// All that is known waits, but for the held syllable: a run that breaks off then has
     /// no message left to write, and of the output at most this syllable and the last text. After a
     /// fatal fault or the end it takes the whole piece and changes nothing.
     pub fn feed(&mut self, piece: &[u8]) -> usize
@@ -320,7 +319,7 @@ impl Engine {
         self.writer.messages()
     }
 
-    /// Forgets what waits, which was taken. What is still to be written stays.
+    /// Drops what waits, which was taken. What is still to be written stays.
     pub fn taken(&mut self)
         ensures forgets { self.new ≡ record self.old { output = []; messages = [] } }
         ensures left { (bytes : List ℕ) (ending : EndOfSource) →
@@ -334,14 +333,7 @@ impl Engine {
     /// status.
     pub fn end(&mut self) -> Status
         requires waits { NothingWaits self.old }
-        ensures law { streams_left self.old Whole []
-            ≡ with_waiting self.new (ended_with result (fault_of self.new)) }
-        ensures last { (bytes : List ℕ) (ending : EndOfSource) →
-            streams_left self.new ending bytes ≡ ended_with result (fault_of self.new) }
-        ensures over { is_running self.new ≡ false }
-        ensures job { StillRuns self.old self.new }
-        ensures again { is_running self.old ≡ false → self.new ≡ self.old }
-        ensures hasher { self.new.heads.hasher ≡ self.old.heads.hasher }
+        ensures { IsEnded self.old Whole result self.new }
     {
         if let Some(ended) = self.writer.ended() {
             return ended.status();
@@ -364,14 +356,7 @@ impl Engine {
     /// nothing and returns the same status.
     pub fn broken(&mut self) -> Status
         requires waits { NothingWaits self.old }
-        ensures law { streams_left self.old Broken []
-            ≡ with_waiting self.new (ended_with result (fault_of self.new)) }
-        ensures last { (bytes : List ℕ) (ending : EndOfSource) →
-            streams_left self.new ending bytes ≡ ended_with result (fault_of self.new) }
-        ensures over { is_running self.new ≡ false }
-        ensures job { StillRuns self.old self.new }
-        ensures again { is_running self.old ≡ false → self.new ≡ self.old }
-        ensures hasher { self.new.heads.hasher ≡ self.old.heads.hasher }
+        ensures { IsEnded self.old Broken result self.new }
     {
         if let Some(ended) = self.writer.ended() {
             return ended.status();

@@ -13,9 +13,6 @@ use crate::engine_laws;
 use crate::rooms::most_waiting;
 use gabc_places::valid_front;
 
-/// How many bytes of a piece are looked at together for whether they are UTF-8.
-const MOST_LOOKED_AT: usize = 65_536;
-
 impl Engine {
     /// Takes bytes of `piece` until it is used up or what waits leaves no room for what one byte
     /// more may bring, and returns how many: at least one of a piece with bytes, if nothing waits
@@ -34,7 +31,8 @@ impl Engine {
             return piece.len();
         }
         while count < piece.len() && self.has_room() {
-            let most = MOST_LOOKED_AT.min(piece.len() - count);
+            // As many bytes as may wait are looked at together for whether they are UTF-8.
+            let most = most_waiting(self.score().limits()).min(piece.len() - count);
             count += self.fill_part(&piece[count..count + most]);
         }
         engine_laws::nothing_is_kept_back(self);

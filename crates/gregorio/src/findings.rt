@@ -9,7 +9,7 @@ use gabc_score::Score;
 use gabc_write::message_line;
 use gregorio_jobs::{Input, Status};
 
-/// What messages call the input.
+/// Returns what messages call the input.
 pub(crate) fn input_name(input: &Input) -> &str
     ensures { result.now ≡ name_of_input input.now }
 {
@@ -43,7 +43,7 @@ pub(crate) fn is_error(finding: Finding) -> bool
     finding.code.severity() == Severity::Error
 }
 
-/// Whether one of the findings is an error.
+/// Returns whether one of the findings is an error.
 fn has_errors(findings: &[Finding]) -> bool
     ensures { result ≡ list_any is_error_finding findings.now }
 {
@@ -52,7 +52,7 @@ fn has_errors(findings: &[Finding]) -> bool
         .any(|f| f.code.severity() == Severity::Error)
 }
 
-/// How a run ends whose score is this one, if it was cut short or not.
+/// Returns the status of a run with this score, by whether it was cut short.
 pub(crate) fn status_by(score: &Score, broken: bool) -> Status
     ensures { result ≡ status_with_findings score.now broken }
 {

@@ -16,7 +16,7 @@ use gabc_places::{Char, Place, Room, Stage};
 /// What a text of headers gives beside the stage that holds it.
 #[derive(Clone, Copy, PartialEq, Eq)]
 pub(crate) struct HeldHeaders {
-    /// Where the character after it stands.
+    /// The place of the character after it.
     pub(crate) place: Place,
     /// Whether an error is found in it.
     pub(crate) has_error: bool,

@@ -3,8 +3,8 @@
 ghost use Rattle.std.specs.Prelude.{◌≡◌, List, [], ◌++◌, ℕ, false};
 ghost use Rattle.gregorio.specs.declared.source_ending.SourceEnding.{SourceEnding as EndOfSource};
 ghost use Rattle.gregorio.specs.declared.source_ending.SourceEnding.TheVariants.{Broken, Whole};
-ghost use Rattle.gregorio.specs.Engine.{IsPrompt, NothingWaits, StillRuns, fault_of, is_running};
-ghost use Rattle.gregorio.specs.Streams.{TakeTheSame, ended_with};
+ghost use Rattle.gregorio.specs.Engine.{IsPrompt, IsRunOver, NothingWaits, StillRuns, is_running};
+ghost use Rattle.gregorio.specs.Streams.{TakeTheSame};
 ghost use Rattle.gregorio.specs.witness.Engine.{streams_left};
 
 use crate::engine::Engine;
@@ -32,17 +32,8 @@ pub(crate) fn end_by<O: Put, M: Put>(
     messages: &mut M,
 ) -> Status
     requires waits { NothingWaits engine.old }
-    ensures out { out.new ≡ O.taken out.old (streams_left engine.old ending []).output }
-    ensures messages { messages.new
-        ≡ M.taken messages.old (streams_left engine.old ending []).messages }
-    ensures status { result ≡ (streams_left engine.old ending []).status }
-    ensures fault { fault_of engine.new ≡ (streams_left engine.old ending []).fault }
-    ensures job { StillRuns engine.old engine.new }
-    ensures waits { NothingWaits engine.new }
-    ensures over { is_running engine.new ≡ false }
-    ensures last { (bytes : List ℕ) (later : EndOfSource) →
-        streams_left engine.new later bytes ≡ ended_with result (fault_of engine.new) }
-    ensures hasher { engine.new.heads.hasher ≡ engine.old.heads.hasher }
+    ensures { IsRunOver O.taken M.taken engine.old ending [] out.old out.new
+        messages.old messages.new result engine.new }
 {
     let status = match ending {
         SourceEnding::Whole => engine.end(),
@@ -89,18 +80,8 @@ impl Engine {
         messages: &mut M,
     ) -> Status
         requires waits { NothingWaits self.old }
-        ensures out { out.new
-            ≡ O.taken out.old (streams_left self.old Whole input.now).output }
-        ensures messages { messages.new
-            ≡ M.taken messages.old (streams_left self.old Whole input.now).messages }
-        ensures status { result ≡ (streams_left self.old Whole input.now).status }
-        ensures fault { fault_of self.new ≡ (streams_left self.old Whole input.now).fault }
-        ensures job { StillRuns self.old self.new }
-        ensures waits { NothingWaits self.new }
-        ensures over { is_running self.new ≡ false }
-        ensures last { (bytes : List ℕ) (ending : EndOfSource) →
-            streams_left self.new ending bytes ≡ ended_with result (fault_of self.new) }
-        ensures hasher { self.new.heads.hasher ≡ self.old.heads.hasher }
+        ensures { IsRunOver O.taken M.taken self.old Whole input.now out.old out.new
+            messages.old messages.new result self.new }
     {
         self.feed_all(input, out, messages);
         end_by(self, SourceEnding::Whole, out, messages)

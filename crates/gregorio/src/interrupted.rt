@@ -72,10 +72,10 @@ fn feed_pieces<O: Put, M: Put>(
     Ok(())
 }
 
-/// A run that is saved and restored after each of `pieces`, however its input is cut into them and
-/// however it ends, writes the output and the messages and ends with the status of a run without a
-/// break: they are put into `out` and `messages`. That it saves and restores stands in its body,
-/// and in no clause: the promise stands on `restored_laws::a_restored_run_goes_on` and
+/// Runs over `pieces`, saved and restored after each: however the input is cut into them and
+/// however it ends, such a run writes the output and the messages and ends with the status of a run
+/// without a break. They are put into `out` and `messages`. That it saves and restores stands in
+/// its body, and in no clause: the promise stands on `restored_laws::a_restored_run_goes_on` and
 /// `restored_laws::what_is_saved_stands`. `buf` is for its states. The error is that of too little
 /// memory.
 pub fn a_run_may_be_interrupted<O: Put, M: Put>(

@@ -29,16 +29,13 @@ fn limits_for(limits: Limits, text: &str) -> Limits
 }
 
 /// Returns limits that are no larger than `limits`, under which the texts of `fields` are read as
-/// under those: a syllable may have what both of them keep.
+/// under those: a syllable may have as many bytes as the longer of them.
 fn limits_of_texts(limits: Limits, fields: &ScoreFields<'_>) -> Limits
     ensures { IsEnoughFor (score_of fields.now) limits result }
 {
     let held = u32::try_from(fields.held.len()).unwrap_or(u32::MAX);
     let kept = u32::try_from(fields.kept.len()).unwrap_or(u32::MAX);
-    let most = held
-        .saturating_mul(5)
-        .saturating_add(kept)
-        .saturating_add(64);
+    let most = held.max(kept).max(64);
     let syllable = limits.syllable.min(most);
     Limits::new(limits.header, syllable, limits.input).unwrap_or(limits)
 }

@@ -79,7 +79,7 @@ pub fn a_stopped_run_writes_what_its_prefix_writes()
     gabc_score::laws::a_stopped_score_is_that_of_its_prefix();
 }
 
-/// Law: larger limits change nothing where neither the headers nor a syllable were too long: what
+/// Law: larger limits change nothing if neither the headers nor a syllable were too long: what
 /// is read, or is stopped for another reason, is read so under limits that are no less, if the
 /// input may be as long.
 pub fn larger_limits_change_nothing()

@@ -20,7 +20,7 @@ pub struct Outcome {
     pub broken: bool,
 }
 
-/// How a text ended: at the fault that stopped it, or else as the source did.
+/// Returns how a text ended: at the fault that stopped it, or else as the source did.
 fn ending_of(ending: SourceEnding, fault: Option<Fault>) -> gabc_score::InputEnding
     ensures { result ≡ ending_by ending fault }
 {
@@ -31,7 +31,7 @@ fn ending_of(ending: SourceEnding, fault: Option<Fault>) -> gabc_score::InputEnd
     }
 }
 
-/// Whether the source failed, and no fault stops the run.
+/// Returns whether the source failed, and no fault stops the run.
 fn is_cut_short(ending: SourceEnding, fault: Option<Fault>) -> bool
     ensures { result ≡ cut_short ending fault }
 {
@@ -44,7 +44,7 @@ fn is_cut_short(ending: SourceEnding, fault: Option<Fault>) -> bool
 impl Outcome {
     /// Reads the score of `bytes` under `limits`. The bytes are a whole input, or those that came
     /// before its source failed, as `ending` says. It fails only for want of memory. The names of
-    /// headers are hashed with a fixed key: where strangers write the bytes and `limits.header` is
+    /// headers are hashed with a fixed key: if strangers write the bytes and `limits.header` is
     /// large, take `of_with_hasher`.
     pub fn of(
         alloc: Global,

@@ -48,7 +48,7 @@ pub fn what_is_saved_stands(engine: &Engine, job: &Job, limits: Limits, bytes: &
 
 /// Law: a run that is saved and restored goes on as the saved one: the engine that is restored for
 /// the same job, under the same limits, from what `engine` saves into `buf` writes the same of
-/// whatever follows, and ends alike. Only for want of memory none is restored.
+/// whatever follows, and ends alike. Restoring fails only for want of memory.
 pub fn a_restored_run_goes_on(
     alloc: Global,
     engine: &Engine,

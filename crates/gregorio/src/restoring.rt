@@ -70,8 +70,8 @@ pub(crate) fn fresh_heads(
 }
 
 /// Returns a stage of headers that holds `text`, the text of the headers of `state`. The error is
-/// `K1` where the text does not end there, or gives another place or other errors, and `K0` where
-/// there is no memory.
+/// `K1` if the text does not end there, or gives another place or other errors, and `K0` if there
+/// is no memory.
 fn heads_holding(
     memory: &Memory,
     state: &StateFields<'_>,
@@ -194,7 +194,7 @@ fn decoder_of(state: &StateFields<'_>) -> Decoder
     decoder
 }
 
-/// Returns the writer of scores that goes on with `score` where `state` reports, a state of `job`.
+/// Returns the writer of scores that goes on with `score` as `state` reports, a state of `job`.
 fn score_writer_of(
     memory: &Memory,
     job: &Job,
@@ -224,7 +224,7 @@ fn score_writer_of(
     }
 }
 
-/// Returns the engine of `job` under `limits` that goes on with `heads` and `score` where `state`
+/// Returns the engine of `job` under `limits` that goes on with `heads` and `score` as `state`
 /// reports, a state of `job`.
 fn engine_with(
     memory: &Memory,
@@ -288,8 +288,8 @@ fn engine_in_headers(
     }
 }
 
-/// Returns an engine that goes on in the score where `fields` of `state` say, a state of `job`
-/// under `limits`. Its errors are those of `restore`.
+/// Returns an engine that goes on in the score as `fields` of `state` say, a state of `job` under
+/// `limits`. Its errors are those of `restore`.
 fn engine_in_score(
     memory: &Memory,
     job: &Job,
@@ -321,9 +321,9 @@ impl Engine {
     /// whether it wants warnings, and `limits` have to be those of that run. The name of the input
     /// is that of `job`: it stands in no state.
     ///
-    /// The error is K0 for want of memory, wherever it is met; else K1 exactly where `bytes` are no
+    /// The error is K0 for want of memory, whenever that is met; else K1 exactly if `bytes` are no
     /// saved state; else K2: the state is one of another format, of other limits, or of a run that
-    /// wants warnings where `job` does not, or the other way round. The texts of a state of another
+    /// wants warnings while `job` does not, or the other way round. The texts of a state of another
     /// run are read in memory of their own, which is no larger than they need, though no clause
     /// counts it: only for one of `job` under `limits` is that of an engine asked for. Names of
     /// headers are hashed as in `new`.

@@ -1,13 +1,12 @@
 //! A run from its source to its sinks.
 
-ghost use Rattle.std.specs.Prelude.{◌≡◌, ◌≢◌, ◌<◌, ◌⊎◌, ◌++◌, ℕ, List, [], IfOk, OnOk, OnErr};
-ghost use Rattle.gregorio_jobs.specs.declared.job.Status.TheVariants.{ReadFault, WriteFault};
+ghost use Rattle.std.specs.Prelude.{◌≡◌, ◌++◌, ℕ, List, [], IfOk, OnOk, OnErr};
 ghost use Rattle.gregorio.specs.declared.source_ending.SourceEnding.{SourceEnding as EndOfSource};
 ghost use Rattle.gregorio.specs.Engine.{NothingWaits, fault_of, with_waiting};
 ghost use Rattle.gregorio.specs.Streams.{ended_with};
 ghost use Rattle.gregorio.specs.witness.Engine.{streams_left};
-ghost use Rattle.gregorio.specs.Run.{Compiles, InTime, used};
-ghost use Rattle.gregorio.specs.machine.Compile.{AreCut, AreSent, IsFed, IsFedAll, IsFedInPart, IsRun, NoneOrAll, SaysOutcomes, StreamsAreCut};
+ghost use Rattle.gregorio.specs.Run.{IsRun, used};
+ghost use Rattle.gregorio.specs.machine.Compile.{AreCut, AreSent, IsFed, IsFedAll, IsFedInPart, NoneOrAll, SaysOutcomes, StreamsAreCut};
 
 use crate::engine::Engine;
 use crate::engine_laws;
@@ -181,22 +180,10 @@ pub fn compile<S: Source, O: Sink, M: Sink>(
     out: &mut O,
     messages: &mut M,
 ) -> Status
-    ensures runs { Compiles job.now limits
+    ensures { IsRun job.now limits
         (used S.remaining S.calls source.old source.new)
         (used O.written O.calls out.old out.new)
         (used M.written M.calls messages.old messages.new) result }
-    ensures in_time { InTime
-        (used S.remaining S.calls source.old source.new)
-        (used O.written O.calls out.old out.new)
-        (used M.written M.calls messages.old messages.new) }
-    ensures read_fault { result ≡ ReadFault →
-        (S.calls source.old).failures < (S.calls source.new).failures }
-    ensures write_fault { result ≡ WriteFault →
-        ((O.calls out.old).failures < (O.calls out.new).failures)
-        ⊎ ((M.calls messages.old).failures < (M.calls messages.new).failures) }
-    ensures steady { result ≢ WriteFault →
-        ((O.calls out.new).failures ≡ (O.calls out.old).failures) ×
-        ((M.calls messages.new).failures ≡ (M.calls messages.old).failures) }
 {
     let hasher = DefaultHasher::new();
     compile_with_hasher(alloc, job, limits, hasher, source, out, messages)
@@ -213,22 +200,10 @@ pub fn compile_with_hasher<S: Source, O: Sink, M: Sink>(
     out: &mut O,
     messages: &mut M,
 ) -> Status
-    ensures runs { Compiles job.now limits
+    ensures { IsRun job.now limits
         (used S.remaining S.calls source.old source.new)
         (used O.written O.calls out.old out.new)
         (used M.written M.calls messages.old messages.new) result }
-    ensures in_time { InTime
-        (used S.remaining S.calls source.old source.new)
-        (used O.written O.calls out.old out.new)
-        (used M.written M.calls messages.old messages.new) }
-    ensures read_fault { result ≡ ReadFault →
-        (S.calls source.old).failures < (S.calls source.new).failures }
-    ensures write_fault { result ≡ WriteFault →
-        ((O.calls out.old).failures < (O.calls out.new).failures)
-        ⊎ ((M.calls messages.old).failures < (M.calls messages.new).failures) }
-    ensures steady { result ≢ WriteFault →
-        ((O.calls out.new).failures ≡ (O.calls out.old).failures) ×
-        ((M.calls messages.new).failures ≡ (M.calls messages.old).failures) }
 {
     match Engine::with_hasher(alloc, job, limits, hasher) {
         Ok(mut engine) => {

@@ -106,7 +106,7 @@ impl RunWriter {
         })
     }
 
-    /// Forgets what was written and what waits, as a new writer has written nothing. The memory
+    /// Drops what was written and what waits, as a new writer has written nothing. The memory
     /// stays reserved.
     pub(crate) fn restart(&mut self)
         ensures { self.new ≡ record self.old {
@@ -398,7 +398,7 @@ impl RunWriter {
         self.messages.slice()
     }
 
-    /// Forgets the bytes that wait.
+    /// Drops the bytes that wait.
     pub(crate) fn clear(&mut self)
         ensures { self.new ≡ record self.old {
           out = record self.old.out { items = [] };
@@ -414,11 +414,9 @@ impl RunWriter {
 /// one of which it is not known where its translation begins.
 impl Give for RunWriter {
     ghost use Rattle.gregorio.specs.machine.OutputsOfARun.{past_both, past_none};
-    ghost use Rattle.gregorio.specs.machine.RunWriter.{TakesJoinedText, TakesText, past_syllables};
+    ghost use Rattle.gregorio.specs.machine.RunWriter.{TakesJoinedText, past_syllables};
 
     ghost given = { past_syllables };
-
-    ghost Takes = { TakesText };
 
     ghost TakesJoined = { TakesJoinedText };
 
@@ -426,12 +424,12 @@ impl Give for RunWriter {
 
     ghost given_both = { past_both };
 
-    fn takes(&self, len: usize) -> bool {
-        self.has_room(len)
-    }
-
-    fn give(&mut self, lent: LentSyllable<'_>) {
+    fn give(&mut self, lent: LentSyllable<'_>, most: usize) -> bool {
+        if !self.has_room(most) {
+            return false;
+        }
         self.syllable(lent);
+        true
     }
 
     fn give_spelled(&mut self, syllable: SpelledSyllable<'_>) -> bool {

@@ -15,7 +15,7 @@ use gabc_write::saved_alike::{
     what_goes_on_alike_is_written_alike, what_is_saved_alike_goes_on_alike,
 };
 
-/// An engine that runs may run so.
+/// Law: an engine that runs shows a state in which an engine may run.
 pub fn an_engine_may_run(engine: &Engine)
     requires { is_running engine.now ≡ true }
     ensures { CanRun engine.now }
@@ -24,9 +24,9 @@ pub fn an_engine_may_run(engine: &Engine)
     gabc_score::stage_laws::a_stage_is_reachable(engine.writer.score());
 }
 
-/// Two engines that run, call their inputs the same and save the same write the same of whatever
-/// follows, and end alike: all by which a run goes on stands in its state. It speaks of what
-/// engines show, since one of the two may be gone; each that runs may run so.
+/// Law: two engines that run, call their inputs the same and save the same write the same of
+/// whatever follows, and end alike: all by which a run goes on stands in its state. It speaks of
+/// what engines show, since one of the two may be gone; each that runs may run so.
 pub fn engines_that_save_the_same_agree()
     ensures { (one other : EngineState) → CanRun one → CanRun other →
         one.written.name ≡ other.written.name → state_of one ≡ state_of other →

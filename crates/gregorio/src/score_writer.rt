@@ -147,7 +147,7 @@ impl ScoreWriter {
         }
     }
 
-    /// Takes `event` of `heads`, and writes what follows from it: first the headers, where it says
+    /// Takes `event` of `heads`, and writes what follows from it: first the headers, if it says
     /// that they are whole.
     pub(crate) fn push(&mut self, event: HeadEvent, heads: &HeaderStage)
         requires room { FitsEvents self.old false (event ∷ []) }
@@ -177,7 +177,7 @@ impl ScoreWriter {
         write_events(&mut self.writer, &self.score, self.events.slice());
     }
 
-    /// Says, if the headers are written, that the body begins after `item`, their last character.
+    /// Begins the body after `item`, the last character of the headers, if these are written.
     pub(crate) fn begin_body(&mut self, item: Result<Char, Fault>)
         requires front { self.old.writer.written.headed ≡ true → IsInFront self.old.score }
         ensures { BeginsBody item self.old self.new }
@@ -211,8 +211,8 @@ impl ScoreWriter {
             .take_run(at, text, &mut self.events, &mut self.writer)
     }
 
-    /// Ends what comes, and returns how the run ended. Where neither a stop nor the end has come,
-    /// the source has failed.
+    /// Ends the inputs, and returns how the run ended. If neither a stop nor the end has come, the
+    /// source has failed.
     pub(crate) fn finish(&mut self) -> RunEnding
         requires room { FitsEvents self.old true [] }
         ensures writes { WritesLast self.old self.new result }
@@ -271,7 +271,7 @@ impl ScoreWriter {
         self.writer.messages()
     }
 
-    /// Forgets the bytes that wait.
+    /// Drops the bytes that wait.
     pub(crate) fn clear(&mut self)
         ensures { self.new ≡ emptied self.old }
     {

@@ -9,7 +9,7 @@ ghost use Rattle.gregorio_state.specs.Fields.{InScore, fields_of, score_of};
 ghost use Rattle.gregorio.specs.Saved.{held_text};
 ghost use Rattle.gregorio.specs.SavedState.{IsHeldRead, IsKeptRead, IsScoreRead, before_held};
 ghost use Rattle.gregorio.specs.machine.Restoring.{AreFieldsIn, IsSetDown};
-ghost use Rattle.gregorio.specs.machine.SettingDown.{HasRead, HoldsHeld, IsResumed, ReadsOn, openers_told};
+ghost use Rattle.gregorio.specs.machine.SettingDown.{HasRead, HoldsHeld, IsResumed, ReadsOn, openers_reported};
 
 use crate::comparison::Comparison;
 use crate::saving::HeldSyllable;
@@ -18,7 +18,7 @@ use gabc_places::{Memory, Room};
 use gabc_score::{Before, Openers, ScoreEvent, ScoreStage, Spans};
 use gregorio_state::{PutText, ScoreFields, StateFields};
 
-/// Returns what stands before the syllable of which `fields` have the text.
+/// Returns what stands before the held syllable of `fields`.
 fn before_held(fields: &ScoreFields<'_>) -> Before
     requires { length fields.now.held.now ≤ fields.now.canonical }
     ensures { result ≡ before_held (score_of fields.now) }
@@ -38,7 +38,7 @@ fn before_held(fields: &ScoreFields<'_>) -> Before
 
 /// Returns the places of what is open.
 fn openers(fields: &ScoreFields<'_>) -> Openers
-    ensures { result ≡ openers_told (score_of fields.now) }
+    ensures { result ≡ openers_reported (score_of fields.now) }
 {
     Openers {
         notes: fields.notes_opener,
@@ -57,8 +57,8 @@ fn event_room(memory: &Memory) -> Result<Room<ScoreEvent>, StateFault>
     }
 }
 
-/// Returns a stage in `memory` under the limits of `state` that stands after what stands before the
-/// syllable of which `fields` have the text.
+/// Returns a stage in `memory` under the limits of `state`, after the syllables before the held one
+/// of `fields`.
 fn stage_after(
     memory: &Memory,
     state: &StateFields<'_>,
@@ -163,8 +163,8 @@ fn read_texts(
 }
 
 /// Returns a stage over a score in `memory` that reports what `fields` say, the fields of the score
-/// of `state`. The error is `K1` where a text of them is not read as they say, under the limits of
-/// the state, and `K0` where there is no memory.
+/// of `state`. The error is `K1` if a text of them is not read as they say, under the limits of the
+/// state, and `K0` if there is no memory.
 pub(crate) fn set_down(
     memory: &Memory,
     state: &StateFields<'_>,

@@ -1,10 +1,7 @@
-pub mod LinesAreRead
-pub mod MessagesAreCounted
+pub mod FoundByParts
 pub mod MessagesAreFilled
-pub mod MessagesOfLines
 pub mod NoBufferIsHandedOut
 pub mod NoStepIsRefused
-pub mod NumbersAreRead
 pub mod NumbersAskOnce
 pub mod PiecesAreGathered
 pub mod PiecesArePut

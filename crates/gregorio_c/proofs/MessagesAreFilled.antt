@@ -1,10 +1,13 @@
--- A buffer that is filled message by message, as the lines that report them end.
-use Rattle.std.proofs.Common.{◌≡◌, ℕ, ◌-◌, ◌<◌, List, [], ◌∷◌, ◌++◌, length, take, set, Option, None, Some, sym, ap, ap₂, ◌∙◌, arith}
-use Rattle.std.proofs.lemmas.List.{take-append-drop, take-set, drop-set, take_all}
-use Rattle.gabc_places.specs.Filling.{filled, filled_len, filled_both, filled_len_both}
-use Rattle.gregorio_c.specs.declared.line_reader.LineReader.{LineReader}
+-- A buffer that is filled message by message, and what is left to fill it with.
+use Rattle.std.proofs.Common.{◌≡◌, ℕ, ◌+◌, ◌-◌, ◌<◌, Bool, true, false, List, [], ◌∷◌, ◌++◌, Option, length, take, drop, get_or, set, subst, sym, ap₂, ◌∙◌, arith}
+use Rattle.std.proofs.lemmas.List.{take-append-drop, take-set, drop-set, take_all, at_drop_more}
+use Rattle.std.specs.List.{flat_map}
+use Rattle.gabc_places.specs.declared.code.Fault.{Fault}
+use Rattle.gabc_places.specs.declared.code.Finding.{Finding}
+use Rattle.gabc_places.specs.Filling.{filled, filled_len, filled_both}
+use Rattle.gregorio.specs.Outcome.{is_shown}
+use Rattle.gregorio_c.specs.Messages.{fault_message, message_at, shown_message}
 use Rattle.gregorio_c.specs.declared.message.Message.{Message}
-use Rattle.gregorio_c.specs.machine.LineReader.{past_byte, ended_by, with_message, counted_by, counted_after, messages_in}
 
 -- an item that is set fills its place
 pub set_fills : {X : Type 0} (buf : List X) (at : ℕ) (x : X) → at < length buf → set buf at x ≡ filled buf at (x ∷ [])
@@ -12,25 +15,22 @@ set_fills buf at x lt =
     let all : take (length buf - at) (x ∷ []) ≡ x ∷ [] = take_all (length buf - at) (x ∷ []) (omega (arith, lt)) in
     rw all (sym (take-append-drop at (set buf at x)) ∙ ap₂ (λ a b. a ++ b) (take-set buf at x) (drop-set buf at x lt))
 
--- the count, the buffer and how far it is filled after a message, if there is one
-pub record IsTakenWith (count : ℕ) (buf : List Message) (at : ℕ) (message : Option Message) (next : ℕ) (new : List Message) (len : ℕ) : Type 0 where
-  pub counts : (rest : List Message) → counted_after next rest ≡ counted_after count (with_message message rest)
-  pub fills : (rest : List Message) → filled new len rest ≡ filled buf at (with_message message rest)
-  pub goes_on : (rest : List Message) → filled_len new len rest ≡ filled_len buf at (with_message message rest)
+-- what follows an item that was put goes on after it
+pub goes_on_after : {X : Type 0} (buf new : List X) (at len : ℕ) (x : X) (rest : List X) → new ≡ filled buf at (x ∷ []) → len ≡ filled_len buf at (x ∷ []) → filled new len rest ≡ filled buf at (x ∷ rest)
+goes_on_after buf new at len x rest is goes = rw (is, goes) (filled_both buf at (x ∷ []) rest)
 
-module _ (count : ℕ) (buf : List Message) (at next : ℕ) (new : List Message) (len : ℕ) where
-  pub taken_with_none : next ≡ count → new ≡ buf → len ≡ at → IsTakenWith count buf at None next new len
-  taken_with_none c b n = grind arith
+module _ (all : Bool) (fault : Option Fault) where
+  -- the messages of findings, and last that of the fault
+  abbrev pub messages_left : List Finding → List Message
+  messages_left fs = flat_map (shown_message all) fs ++ fault_message fault
 
-  pub taken_with_some : (message : Message) → next ≡ counted_by count message → new ≡ filled buf at (message ∷ []) → len ≡ filled_len buf at (message ∷ [])
-      → IsTakenWith count buf at (Some message) next new len
-  taken_with_some message c b n = record {
-    counts = λ rest. ap (λ i. counted_after i rest) c;
-    fills = λ rest. ap₂ (λ l i. filled l i rest) b n ∙ filled_both buf at (message ∷ []) rest;
-    goes_on = λ rest. ap₂ (λ l i. filled_len l i rest) b n ∙ filled_len_both buf at (message ∷ []) rest;
-  }
+  -- before a finding that is shown its message comes first, and one that is hidden has none
+  module _ (found fs : List Finding) (same : found ≡ fs) (i : ℕ) (d : Finding) (lt : i < length found) where
+    next_left : messages_left (drop i fs) ≡ messages_left (get_or found i d ∷ drop (i + 1) fs)
+    next_left = subst (λ (gs : List Finding). messages_left (drop i gs) ≡ messages_left (get_or found i d ∷ drop (i + 1) gs)) same (at_drop_more messages_left found i d lt)
 
--- the messages of the rest, one byte on
-pub messages_on : (reader next : LineReader) (byte : ℕ) (rest : List ℕ) (message : Option Message) → next ≡ past_byte reader byte → message ≡ ended_by reader byte
-    → with_message message (messages_in next rest) ≡ messages_in reader (byte ∷ rest)
-messages_on reader next byte rest message next_is message_is = ap₂ (λ m r. with_message m (messages_in r rest)) message_is next_is
+    pub shown_is_first : (m : Message) → is_shown all (get_or found i d) ≡ true → m ≡ message_at (get_or found i d).place (get_or found i d).code → messages_left (drop i fs) ≡ m ∷ messages_left (drop (i + 1) fs)
+    shown_is_first m shown is = grind (arith, next_left)
+
+    pub hidden_is_none : is_shown all (get_or found i d) ≡ false → messages_left (drop i fs) ≡ messages_left (drop (i + 1) fs)
+    hidden_is_none hidden = grind (arith, next_left)

@@ -1,4 +1,4 @@
--- What is handed out where a caller gives no buffer for a text.
+-- What is handed out if a caller gives no buffer for a text.
 use Rattle.std.proofs.Common.{◌≡◌, ℕ, ◌≤◌, List, [], ◌∷◌, ◌++◌, length, drop, refl, arith}
 use Rattle.gregorio_c.specs.StepAnswers.{Buffer, IsHandedOut, used}
 use Rattle.gregorio_c.specs.Steps.{Made}

@@ -35,7 +35,7 @@ joined_both (p ∷ one) more = ap (λ (bytes : List ℕ). p.now ++ bytes) (joine
 joined_after : (pieces : List (Bor (List ℕ))) (piece : Bor (List ℕ)) → joined (pieces ++ (piece ∷ [])) ≡ joined pieces ++ piece.now
 joined_after pieces piece = joined_both pieces (piece ∷ []) ∙ ap (λ (bytes : List ℕ). joined pieces ++ bytes) (append-nil piece.now)
 
--- the heads of the buffers, where all that was made stands in them
+-- the heads of the buffers, if all that was made stands in them
 record Took (made : Made) (state output messages : Buffer) (number : ℕ) : Type 0 where
   state_is : take (length made.state) state.new ≡ made.state
   output_is : take (length made.output) output.new ≡ made.output
@@ -48,7 +48,7 @@ head text new old is = ap (λ (bytes : List ℕ). take (length text) bytes) is �
 took : (made : Made) (state output messages : Buffer) (number : ℕ) → IsHandedOut made state output messages number → (number ≡ 7 → ⊥) → Took made state output messages number
 took made state output messages number h not_short = grind (arith, head)
 
--- where nothing is written of what was made, a buffer is too small
+-- if nothing is written of what was made, a buffer is too small
 fails : (made : Made) (state output messages : Buffer) (number : ℕ) → (WritesNothing made.number → ⊥) → IsHandedOut made state output messages number → WritesNothing number → MayFail number
 fails made state output messages number writes h nothing = grind arith
 

@@ -1,4 +1,4 @@
--- A run under small limits, or under the usual ones, writes what one under the usual ones does.
+-- A run under small limits, or under the default ones, writes what one under the default ones does.
 use Rattle.std.proofs.Common.{◌≡◌, ℕ, List, Result, Ok, Err, IfOk, sym, ap, ◌∙◌}
 use Rattle.gabc_places.specs.declared.limits.Limits.{Limits}
 use Rattle.gabc_places.specs.Limits.{AreUsual}
@@ -12,7 +12,7 @@ use Rattle.gregorio_c.specs.machine.Runs.{IsAsUsual}
 use Rattle.gregorio_c.specs.machine.Streams.{streams_of_score}
 
 module _ (request : Request) (usual : Limits) (is_usual : AreUsual usual.header usual.syllable usual.input) (score : List ℕ) where
-  -- what is made under the usual limits
+  -- what is made under the default limits
   pub made_as_usual : {X E : Type 0} (limits_of : X → Limits) (made : Result X E) → IfOk made (λ x. limits_of x ≡ usual) → IfOk made (λ x. IsAsUsual request (limits_of x) score)
   made_as_usual limits_of (Ok x) is = record { usual = usual; is_usual = is_usual; same = ap (λ (l : Limits). streams_of_score request l score) is }
   made_as_usual limits_of (Err e) is = tt

@@ -13,13 +13,13 @@ pub record HasLimits (o : Options) (limits : Limits) : Type 0 where
   pub input : limits.input ≡ o.input
   pub reserved : o.reserved ≡ 0
 
--- without options they are the usual ones, and more than one are none
+-- without options they are the default ones, and more than one are none
 abbrev pub AreLimitsOf : List Options → Limits → Type 0
 AreLimitsOf [] limits = AreUsual limits.header limits.syllable limits.input
 AreLimitsOf (o ∷ []) limits = HasLimits o limits
 AreLimitsOf (o ∷ p ∷ more) limits = ⊥
 
--- a format, whether all warnings are wanted, and limits, where all numbers are known and in range
+-- a format, whether all warnings are wanted, and limits, if all numbers are known and in range
 pub record AsksFor (format flags : ℕ) (options : List Options) (request : Request) (limits : Limits) : Type 0 where
   pub request_is : request_by format flags ≡ Some request
   pub limits_are : AreLimitsOf options limits

@@ -16,6 +16,6 @@ abbrev pub both : Option Format → Option Bool → Option Request
 both (Some format) (Some all) = Some (record { format = format; all_warnings = all })
 both _ _ = None
 
--- no request, where one of the numbers is not known
+-- no request, if one of the numbers is not known
 abbrev pub request_by : ℕ → ℕ → Option Request
 request_by format flags = both (format_by format) (warnings_by flags)

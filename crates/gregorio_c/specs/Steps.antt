@@ -28,8 +28,8 @@ Writes = SourceEnding → List ℕ → Streams
 abbrev pub run_of : Job → Limits → Writes
 run_of job limits ending bytes = streams_of_outcome job (outcome_of limits ending bytes)
 
--- What a step makes: bytes of the output and of the messages, the state after it, which is empty
--- where the run is over, and the number that it answers.
+-- What a step makes: bytes of the output and of the messages, the state after it, which is empty if
+-- the run is over, and the number that it answers.
 pub record Made : Type 0 where
   pub output : List ℕ
   pub lines : List ℕ
@@ -60,7 +60,7 @@ pub record Begins (job : Job) (limits : Limits) (made : Made) : Type 0 where
   pub stands : StandsFor job limits made.state (run_of job limits)
 
 -- Of what was left, these bytes were written at a piece. What was known is written, but for the
--- syllable that is held, and the state stands for the rest.
+-- held syllable, and the state stands for the rest.
 pub record GoesOn (job : Job) (limits : Limits) (left : Writes) (piece : List ℕ) (made : Made) : Type 0 where
   pub rest : Writes
   pub stands : StandsFor job limits made.state rest

@@ -2,9 +2,9 @@
 use Rattle.std.specs.Prelude.{◌≡◌, ℕ, List, length, map}
 use Rattle.gabc_places.specs.declared.limits.Limits.{Limits}
 use Rattle.gabc_places.specs.Limits.{AreUsual}
-use Rattle.gabc_tree.specs.Kind.{number_of}
+use Rattle.gabc_nodes.specs.Kind.{number_of}
+use Rattle.gabc_nodes.specs.declared.node.Node.{Node}
 use Rattle.gabc_tree.specs.Tree.{tree_nodes}
-use Rattle.gabc_tree.specs.declared.node.Node.{Node}
 use Rattle.gregorio_c.specs.Answers.{IsPut}
 use Rattle.gregorio_c.specs.declared.tree_node.TreeNode.{TreeNode}
 

@@ -23,8 +23,8 @@ pub(crate) fn is_written<T: Copy>(buf: &[T], len: usize) -> bool
     0 < len && len <= buf.len()
 }
 
-/// Returns from where on `len` items are to fill `buf`: from its head, or where nothing of them is
-/// written, from its end.
+/// Returns the index from which on `len` items are to fill `buf`: its head, or, if nothing of them
+/// is written, its end.
 pub(crate) fn start_of<T: Copy>(buf: &[T], len: usize) -> usize
     ensures { (items : List T) → length items ≡ len →
         IsPut items buf.now (filled buf.now result items) }

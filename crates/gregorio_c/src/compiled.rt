@@ -1,5 +1,5 @@
 //! A score that is compiled by runs of an engine over it: one that counts what it writes and keeps
-//! the first bytes, and where they are not all, another one that writes what fits.
+//! the first bytes, and, if they are not all, another one that writes what fits.
 
 ghost use Rattle.std.specs.Prelude.{◌≡◌, ◌++◌, ◌<◌, ◌-◌, ◌^◌, ℕ, List, true, false, IfOk, OnOk, OnErr, codes};
 ghost use Rattle.gabc_places.specs.declared.limits.Limits.{Limits};
@@ -20,14 +20,14 @@ use gabc_places::{BufferFiller, Fault, Limits};
 use gregorio::{Engine, Status};
 use std::alloc::{AllocError, Global};
 
-/// The most bytes of the output that the first run keeps. Where there are more, a second run writes
+/// The most bytes of the output that the first run keeps. If there are more, a second run writes
 /// them.
 const KEPT_OUTPUT: usize = 16_777_216;
 
 /// How many bytes of the messages the first run keeps.
 const KEPT_MESSAGES: usize = 8192;
 
-/// Returns how many bytes of the output the first run over `score` keeps, where there is room for
+/// Returns how many bytes of the output the first run over `score` keeps, if there is room for
 /// `room` bytes: 32 for each byte of the score, which is more than most dumps have, and no more
 /// than there is room for, nor than `KEPT_OUTPUT`.
 fn kept_output(score: &[u8], room: usize) -> usize {
@@ -59,8 +59,7 @@ impl Run {
 }
 
 /// Runs over `score` under `limits`, and returns what it writes; of the output it keeps no more
-/// than `room` bytes. It fails only for want of memory, and where it writes more than can be
-/// counted.
+/// than `room` bytes. It fails only for want of memory, and if it writes more than can be counted.
 fn run_under(
     alloc: Global,
     request: Request,
@@ -92,8 +91,8 @@ fn run_under(
     })
 }
 
-/// Runs over `score`, and returns what it writes: under small limits, or where these have stopped
-/// it, under the default ones. It keeps and fails as `run_under` does.
+/// Runs over `score`, and returns what it writes: under small limits, or, if these have stopped it,
+/// under the default ones. It keeps and fails as `run_under` does.
 fn run_over(
     alloc: Global,
     request: Request,

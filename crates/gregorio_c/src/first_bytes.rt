@@ -29,8 +29,8 @@ impl FirstBytes {
         })
     }
 
-    /// Returns the number of bytes of the text, or the last value of a `usize` where there are as
-    /// many or more.
+    /// Returns the number of bytes of the text, or the last value of a `usize` if there are as many
+    /// or more.
     pub(crate) fn count(&self) -> usize
         ensures { result ≡ self.now.counter }
     {
@@ -51,8 +51,8 @@ impl FirstBytes {
         }
     }
 
-    /// Returns what to put into `buf` for the text: nothing, where `buf` takes nothing of it, or
-    /// else the text, if all of it is kept.
+    /// Returns what to put into `buf` for the text: nothing, if `buf` takes nothing of it, or else
+    /// the text, if all of it is kept.
     pub(crate) fn to_put(&self, buf: &[u8]) -> Option<&[u8]>
         ensures text { IfSome result (λ bytes. (text new : List ℕ) → Keeps self.now text →
             self.now.counter < 2 ^ 64 - 1 → IsPut bytes.now buf.now new → IsPut text buf.now new) }

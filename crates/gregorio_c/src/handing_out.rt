@@ -7,7 +7,7 @@ ghost use Rattle.gregorio_c.specs.machine.Steps.{number_of};
 use crate::buffers::put;
 use crate::steps::{Made, Refusal};
 
-/// What is answered where a buffer is too small.
+/// The answer if a buffer is too small.
 const SHORT: u32 = 7;
 
 /// Returns whether each of these takes what is made for it.
@@ -35,7 +35,7 @@ pub(crate) fn hand_out(made: &Made, state: &mut [u8], output: &mut [u8], message
     made.number()
 }
 
-/// Returns the number that is answered where no step is made.
+/// Returns the number that is answered if no step is made.
 pub(crate) fn number_of_refusal(refusal: Refusal) -> u32
     ensures { result ≡ number_of refusal }
 {

@@ -33,7 +33,7 @@ pub struct Numbers<'a> {
     pub options: &'a [Options],
 }
 
-/// Where a run stands after a piece.
+/// The state of a run after a piece.
 enum Fed {
     /// It goes on, and its state has this number of bytes.
     On(usize),
@@ -49,7 +49,7 @@ fn writes_nothing(number: u32) -> bool
     number == 3 || number == 5 || number >= 7
 }
 
-/// Returns where a run stands that answered `number`, and whose state has `len` bytes then.
+/// Returns the state of a run that answered `number`, and whose saved state has `len` bytes then.
 fn fed_by(number: u32, len: usize) -> Fed
     ensures { result ≡ fed_as number len }
 {
@@ -211,11 +211,11 @@ fn end_one<O: Put, M: Put>(
     Ok(number)
 }
 
-/// A run that is fed in `pieces`, each by a call of its own that is given nothing but the bytes of
-/// the state before, writes the output and the messages and answers the status of a run over the
-/// pieces joined, however its input is cut: they are put into `out` and `lines`. `state`, `output`
-/// and `messages` are the buffers of the calls. The error is 3 where the numbers ask for nothing,
-/// else 5, where there is too little memory, or 7, where a buffer is too small. That it makes a
+/// Feeds a run in `pieces`, each by a call of its own that is given nothing but the bytes of the
+/// state before: however its input is cut, the run writes the output and the messages and answers
+/// the status of a run over the pieces joined. They are put into `out` and `lines`. `state`,
+/// `output` and `messages` are the buffers of the calls. The error is 3 if the numbers ask for
+/// nothing, else 5, if there is too little memory, or 7, if a buffer is too small. That it makes a
 /// call for each piece stands in its body, and in no clause.
 pub fn a_run_may_be_fed_in_pieces<O: Put, M: Put>(
     alloc: Global,

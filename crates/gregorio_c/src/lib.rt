@@ -8,15 +8,14 @@
 
 mod buffers;
 mod compiled;
+mod dropped;
 mod engines;
 mod first_bytes;
 mod handing_out;
 pub mod in_pieces;
 mod lengths;
-mod line_reader;
 mod message;
 mod message_bytes;
-mod message_ends;
 mod messages;
 mod options;
 mod picture;
@@ -53,24 +52,24 @@ pub use step::Step;
 use tree::tell_tree;
 pub use tree_node::TreeNode;
 
-/// What is answered where a number of the format, of the flags or of options is not known.
+/// The answer if a number of the format, of the flags or of options is not known.
 const REFUSED: u32 = 3;
 
-/// What is answered where a tree or a picture is made.
+/// The answer if a tree or a picture is made.
 const MADE: u32 = 0;
 
-/// What is answered where there is no memory.
+/// The answer if there is no memory.
 const NO_MEMORY: u32 = 5;
 
 /// Compiles `score`: puts its output into `output`, the lines of its messages into `messages`, and
 /// their exact lengths in bytes into `lengths`. A text that is longer than its buffer is left out
 /// whole, and the buffer stays as it was. `format` is 0 for canonical GABC and 1 for the dump, and
 /// `flags` is 1 for all warnings, else 0. `key` has the words of a key for the names of headers:
-/// two random ones where strangers write the score, else none. No answer depends on it. The limits
+/// two random ones if strangers write the score, else none. No answer depends on it. The limits
 /// are the default ones.
 ///
 /// Returns the exit status that the program would have: 0, 1 or 2. It returns 3 for another format
-/// or flag, and 5 where there is no memory; buffers and lengths stay as they were then.
+/// or flag, and 5 if there is no memory; buffers and lengths stay as they were then.
 #[unsafe(no_mangle)]
 pub extern "C" fn gregorio_compile(
     alloc: Global,
@@ -95,7 +94,7 @@ pub extern "C" fn gregorio_compile(
 }
 
 /// Reads `score`, puts its messages into `messages`, those of the findings and last that of a fatal
-/// fault, and their number into `count`. Where there are more of them than `messages` takes, that
+/// fault, and their number into `count`. If there are more of them than `messages` takes, that
 /// stays as it was. `flags` is 1 for all warnings, else 0, and `key` as for `gregorio_compile`.
 ///
 /// Returns what `gregorio_compile` does.
@@ -122,7 +121,7 @@ pub extern "C" fn gregorio_messages(
 /// Puts the byte of `score` at which each of `messages` stands, from 0, into `bytes`, if there is
 /// room for all; else `bytes` stays as it was. It is the byte of the first character that is shown
 /// and does not stand before the message's line and column, or the end of what is read of the
-/// score. Does not allocate.
+/// score. Asks for no memory.
 #[unsafe(no_mangle)]
 pub extern "C" fn gregorio_message_bytes(score: &[u8], messages: &[Message], bytes: &mut [u32])
     ensures { BytesAnswer score.now messages.now bytes.old bytes.new }
@@ -131,11 +130,11 @@ pub extern "C" fn gregorio_message_bytes(score: &[u8], messages: &[Message], byt
 }
 
 /// Reads `score`, puts the nodes of its tree into `nodes`, in the order of the score and each
-/// before those that lie in it, and their number into `count`. Where there are more of them than
+/// before those that lie in it, and their number into `count`. If there are more of them than
 /// `nodes` takes, that stays as it was. `key` as for `gregorio_compile`.
 ///
 /// Returns 0, whatever was found in the score: what was left out or not read are nodes. Returns 5
-/// where there is no memory; `nodes` and `count` stay as they were then.
+/// if there is no memory; `nodes` and `count` stay as they were then.
 #[unsafe(no_mangle)]
 pub extern "C" fn gregorio_tree(
     alloc: Global,

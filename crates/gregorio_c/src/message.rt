@@ -1,5 +1,11 @@
 //! A message as a record.
 
+ghost use Rattle.std.specs.Prelude.{◌≡◌};
+ghost use Rattle.gregorio_c.specs.Messages.{message_at, severity_number};
+
+use gabc_places::{Code, Place, Severity};
+use gabc_tree::number_of_code;
+
 /// A message: the line and the column in characters, both from 1, how grave it is (0 a warning, 1
 /// an error, 2 a fatal fault), and its code: E1 to E6 are 101 to 106, W1 to W12 are 201 to 212, F1
 /// to F7 are 301 to 307.
@@ -17,11 +23,26 @@ pub struct Message {
 }
 
 impl Message {
-    /// No message: what stands where none is read or filled in.
-    pub(crate) const NONE: Message = Message {
-        line: 0,
-        column: 0,
-        severity: 0,
-        code: 0,
-    };
+    /// Returns the message of `code` at `place`.
+    pub(crate) fn at(place: Place, code: Code) -> Message
+        ensures { result ≡ message_at place code }
+    {
+        Message {
+            line: place.line,
+            column: place.column,
+            severity: number_of(code.severity()),
+            code: u32::from(number_of_code(code)),
+        }
+    }
+}
+
+/// Returns the number of a severity.
+fn number_of(severity: Severity) -> u32
+    ensures { result ≡ severity_number severity }
+{
+    match severity {
+        Severity::Warning => 0,
+        Severity::Error => 1,
+        Severity::Fatal => 2,
+    }
 }

@@ -1,183 +1,118 @@
-//! The messages of a score as records: a run of an engine that counts them and keeps the first, and
-//! one that writes them where they are many.
+//! The messages of a score as records.
 
-ghost use Rattle.std.specs.Prelude.{◌≡◌, ◌≤◌, ℕ, List, take, IfOk, OnErr, length, false};
-ghost use Rattle.gabc_places.specs.declared.limits.Limits.{Limits};
+ghost use Rattle.std.specs.Prelude.{◌≡◌, ◌-◌, ◌^◌, [], ◌∷◌, length, min, IfOk, OnErr};
+ghost use Rattle.gabc_places.specs.Filling.{filled, filled_len};
 ghost use Rattle.gregorio.specs.declared.source_ending.SourceEnding.TheVariants.{Whole};
-ghost use Rattle.gregorio.specs.Engine.{NothingWaits};
-ghost use Rattle.gregorio.specs.witness.Engine.{streams_left};
-ghost use Rattle.gregorio_c.specs.declared.request.Request.{Request};
-ghost use Rattle.gregorio_c.specs.Answers.{IsPut, MessagesAnswer};
-ghost use Rattle.gregorio_c.specs.machine.LineReader.{AreCounted, AreFirst, before_line, messages_in};
-ghost use Rattle.gregorio_c.specs.machine.Runs.{AreToldBy, IsAsUsual};
-ghost use Rattle.gregorio_c.specs.machine.Streams.{streams_of_score};
+ghost use Rattle.gregorio.specs.Outcome.{ending_by, outcome_of};
+ghost use Rattle.gregorio_c.specs.Answers.{MessagesAnswer};
+ghost use Rattle.gregorio_c.specs.Messages.{messages_by};
+ghost use Rattle.gregorio_c.specs.machine.Found.{IsFound, outcome_with, without_syllables};
 
-use crate::buffers::{is_written, put, start_of};
-use crate::engines::{engine_of, is_too_long, small_limits};
-use crate::line_reader::LineReader;
+use crate::buffers::start_of;
+use crate::dropped::Dropped;
+use crate::engines::{hasher_of, is_too_long, small_limits};
 use crate::message::Message;
-use crate::message_ends::MessageFiller;
-use crate::request::Request;
-use gabc_places::{ByteCounter, Fault, Limits};
-use gregorio::{Engine, Format, Status};
+use gabc_places::{Fault, Limits, text_of};
+use gabc_score::{InputEnding, Score, ScoreRest, Syllables, score_given};
+use gregorio::{Outcome, is_shown};
 use std::alloc::{AllocError, Global};
 
-/// How many messages the first run keeps. Where a score has more, a second one writes them.
-const KEPT: usize = 64;
-
-/// How many messages a run under `limits` has, and how it ended.
-#[derive(Drop)]
-struct Counted {
-    limits: Limits,
-    count: usize,
-    status: Status,
-    fault: Option<Fault>,
-}
-
-/// Runs `engine`, which has these `limits`, over `score`, writes the first of its messages into
-/// `first`, and returns how many it has and how it ended. Where they are more than can be counted,
-/// or a place is larger than a record can hold, it fails as for want of memory.
-fn count_by(
-    engine: &mut Engine,
-    limits: Limits,
-    score: &[u8],
-    first: &mut [Message],
-) -> Result<Counted, AllocError>
-    requires { NothingWaits engine.old }
-    ensures first { AreFirst
-        (messages_in before_line (streams_left engine.old Whole score.now).messages) first.new }
-    ensures count { IfOk result (λ counted.
-        AreCounted counted.count (streams_left engine.old Whole score.now).messages) }
-    ensures status { IfOk result (λ counted.
-        counted.status ≡ (streams_left engine.old Whole score.now).status) }
-    ensures fault { IfOk result (λ counted.
-        counted.fault ≡ (streams_left engine.old Whole score.now).fault) }
-    ensures limits { IfOk result (λ counted. counted.limits ≡ limits) }
+/// Returns how the text of an input ended that has this `fault`.
+fn ending_of(fault: Option<Fault>) -> InputEnding
+    ensures { result ≡ ending_by Whole fault }
 {
-    let mut messages = MessageFiller {
-        buf: first,
-        len: 0,
-        count: 0,
-        reader: LineReader::new(),
-    };
-    let status = engine.run_over(score, &mut ByteCounter::new(), &mut messages);
-    let fault = engine.fault();
-    let count = messages.count();
-    if count == usize::MAX {
-        return Err(AllocError);
+    match fault {
+        Some(fault) => InputEnding::At(fault),
+        None => InputEnding::Whole,
     }
-    Ok(Counted {
-        limits,
-        count,
-        status,
-        fault,
-    })
 }
 
-/// Runs over `score` under `limits`, writes the first of its messages into `first`, and returns how
-/// many it has and how it ended. It fails only for want of memory, and as `count_by` does.
-fn count_under(
-    alloc: Global,
-    request: Request,
-    limits: Limits,
-    key: &[u64],
-    score: &[u8],
-    first: &mut [Message],
-) -> Result<Counted, AllocError>
-    ensures told { IfOk result (λ counted.
-        AreToldBy counted first.new (streams_of_score request limits score.now)) }
-    ensures limits { IfOk result (λ counted. counted.limits ≡ limits) }
+/// Returns the outcome of a whole score without its syllables, by what else it says.
+fn outcome_by(alloc: Global, rest: ScoreRest) -> Outcome
+    ensures { result ≡ outcome_with rest }
 {
-    let mut engine = engine_of(alloc, request, limits, key)?;
-    let counted = count_by(&mut engine, limits, score, first);
-    // A proof follows a call faster than all that lies inside an engine.
-    drop(engine);
-    counted
+    let ScoreRest {
+        book,
+        findings,
+        fault,
+    } = rest;
+    Outcome {
+        score: Score {
+            book,
+            syllables: Syllables::new(alloc),
+            findings,
+            fault,
+        },
+        broken: false,
+    }
 }
 
-/// Runs over `score`, writes the first of its messages into `first`, and returns how many it has
-/// and how it ended: under small limits, or where it was stopped by these, under the default ones.
-/// It fails as `count_under` does.
-fn count_messages(
-    alloc: Global,
-    request: Request,
-    key: &[u64],
-    score: &[u8],
-    first: &mut [Message],
-) -> Result<Counted, AllocError>
-    ensures told { IfOk result (λ counted. AreToldBy counted first.new
-        (streams_of_score request counted.limits score.now)) }
-    ensures usual { IfOk result (λ counted. IsAsUsual request counted.limits score.now) }
+/// Reads `score` under `limits`, and returns its outcome without the syllables. It fails only for
+/// want of memory.
+fn found_in(alloc: Global, key: &[u64], score: &[u8], limits: Limits) -> Result<Outcome, AllocError>
+    ensures { IfOk result (λ outcome.
+        outcome ≡ without_syllables (outcome_of limits Whole score.now)) }
+{
+    let decoded = text_of(alloc, score, true, limits)?;
+    let ending = ending_of(decoded.fault);
+    let hasher = hasher_of(key);
+    let rest = score_given(alloc, &decoded.text, ending, limits, hasher, &mut Dropped)?;
+    Ok(outcome_by(alloc, rest))
+}
+
+/// Reads `score` under the default limits, and returns its outcome without the syllables. It fails
+/// only for want of memory. Small limits are tried first, under which less memory is asked for.
+fn found(alloc: Global, key: &[u64], score: &[u8]) -> Result<Outcome, AllocError>
+    ensures { IfOk result (λ outcome. IsFound score.now outcome) }
 {
     gregorio::laws::larger_limits_change_nothing();
     let usual = Limits::default();
-    let small = small_limits(usual, score);
-    let counted = count_under(alloc, request, small, key, score, first)?;
-    if is_too_long(counted.fault) {
-        return count_under(alloc, request, usual, key, score, first);
+    let outcome = found_in(alloc, key, score, small_limits(usual, score))?;
+    if is_too_long(outcome.score.fault) {
+        return found_in(alloc, key, score, usual);
     }
-    Ok(counted)
+    Ok(outcome)
 }
 
-/// Runs `engine` over `score`, and writes its messages into `messages`, if there is room for all
-/// `count` of them.
-fn write_by(engine: &mut Engine, score: &[u8], count: usize, messages: &mut [Message])
-    requires waits { NothingWaits engine.old }
-    requires count { count ≡ length (messages_in before_line
-        (streams_left engine.old Whole score.now).messages) }
-    ensures { IsPut (messages_in before_line (streams_left engine.old Whole score.now).messages)
-        messages.old messages.new }
+/// Writes `message` into `buf` at `at`, if there is room for it, and returns how many are written
+/// then.
+fn put_at(buf: &mut [Message], at: usize, message: Message) -> usize
+    ensures buf { buf.new ≡ filled buf.old at (message ∷ []) }
+    ensures len { result ≡ filled_len buf.old at (message ∷ []) }
 {
-    let start = start_of(messages, count);
-    let _ = engine.run_over(
-        score,
-        &mut ByteCounter::new(),
-        &mut MessageFiller {
-            buf: messages,
-            len: start,
-            count: 0,
-            reader: LineReader::new(),
-        },
-    );
+    if at < buf.len() {
+        buf[at] = message;
+        at + 1
+    } else {
+        at
+    }
 }
 
-/// Writes the messages of `score` into `messages`, if there is room for all `count` of them; where
-/// `first` has as many, these are they. It fails only for want of memory, and `messages` stays as
-/// it was then.
-fn write_messages(
-    alloc: Global,
-    request: Request,
-    limits: Limits,
-    key: &[u64],
-    score: &[u8],
-    count: usize,
-    first: &[Message],
-    messages: &mut [Message],
-) -> Result<(), AllocError>
-    requires count { count ≡ length (messages_in before_line
-        (streams_of_score request limits score.now).messages) }
-    requires first { count ≤ length first.now → take count first.now ≡ messages_in before_line
-        (streams_of_score request limits score.now).messages }
-    ensures messages { IfOk result (λ _. IsPut (messages_in before_line
-        (streams_of_score request limits score.now).messages) messages.old messages.new) }
-    ensures unchanged { OnErr result (messages.new ≡ messages.old) }
+/// Writes the messages of what `score` found into `buf` from `at` on, as many as there is room for:
+/// warnings only if `all_warnings` are wanted, and last the message of its fault. Returns how many
+/// messages it has, or the last value of a `usize` if it has as many or more.
+fn fill(all_warnings: bool, score: &Score, buf: &mut [Message], at: usize) -> usize
+    ensures buf { buf.new ≡ filled buf.old at (messages_by all_warnings score.now) }
+    ensures count { result ≡ min (length (messages_by all_warnings score.now)) (2 ^ 64 - 1) }
 {
-    if count <= first.len() {
-        put(&first[..count], messages);
-        return Ok(());
+    let mut len = at;
+    let mut count: usize = 0;
+    for finding in score.findings.as_slice() {
+        if is_shown(all_warnings, *finding) {
+            len = put_at(buf, len, Message::at(finding.place, finding.code));
+            count = count.saturating_add(1);
+        }
     }
-    if !is_written(messages, count) {
-        return Ok(());
+    if let Some(fault) = score.fault {
+        let _ = put_at(buf, len, Message::at(fault.place, fault.code));
+        count = count.saturating_add(1);
     }
-    let mut engine = engine_of(alloc, request, limits, key)?;
-    write_by(&mut engine, score, count, messages);
-    drop(engine);
-    Ok(())
+    count
 }
 
 /// Puts the messages of `score` into `messages`, if there is room for all, and their number into
 /// `count`: warnings only if `all_warnings` are wanted. Returns the exit status. It fails only for
-/// want of memory, and nothing is written then.
+/// want of memory, or if there are more messages than can be counted, and nothing is written then.
 pub(crate) fn tell_messages(
     alloc: Global,
     all_warnings: bool,
@@ -191,22 +126,13 @@ pub(crate) fn tell_messages(
     ensures unchanged { OnErr result (messages.new ≡ messages.old) }
     ensures count_unchanged { OnErr result (count.new ≡ count.old) }
 {
-    let request = Request {
-        format: Format::Gabc,
-        all_warnings,
-    };
-    let mut first = [Message::NONE; KEPT];
-    let counted = count_messages(alloc, request, key, score, &mut first)?;
-    write_messages(
-        alloc,
-        request,
-        counted.limits,
-        key,
-        score,
-        counted.count,
-        &first,
-        messages,
-    )?;
-    *count = counted.count;
-    Ok(u32::from(counted.status.code()))
+    let outcome = found(alloc, key, score)?;
+    let len = fill(all_warnings, &outcome.score, &mut [], 0);
+    if len == usize::MAX {
+        return Err(AllocError);
+    }
+    let start = start_of(messages, len);
+    let _ = fill(all_warnings, &outcome.score, messages, start);
+    *count = len;
+    Ok(u32::from(outcome.status().code()))
 }

@@ -9,7 +9,7 @@ use crate::request::{Request, request_of};
 use gabc_places::Limits;
 use std::hash::DefaultHasher;
 
-/// Limits other than the usual ones, in bytes, and a key for the table in which the names of
+/// Limits other than the default ones, in bytes, and a key for the table in which the names of
 /// headers are found.
 #[repr(C)]
 #[derive(Clone, Copy, Debug)]
@@ -22,7 +22,7 @@ pub struct Options {
     pub input: u32,
     /// 0.
     pub reserved: u32,
-    /// The words of the key: two random ones where strangers write the scores. No answer depends on
+    /// The words of the key: two random ones if strangers write the scores. No answer depends on
     /// them.
     pub key: [u64; 2],
 }
@@ -34,7 +34,7 @@ pub(crate) struct Asked {
     pub limits: Limits,
 }
 
-/// Returns the limits of `options`: the usual ones where there are none. More than one, or numbers
+/// Returns the limits of `options`: the default ones if there are none. More than one, or numbers
 /// out of range, give `None`.
 pub(crate) fn limits_of(options: &[Options]) -> Option<Limits>
     ensures limits { IfSome result (λ limits. AreLimitsOf options.now limits) }

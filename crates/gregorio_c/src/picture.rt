@@ -9,13 +9,11 @@ ghost use Rattle.gregorio_c.specs.Picture.{PictureAnswer};
 use crate::buffers::start_of;
 use crate::engines::hasher_of;
 use crate::picture_options::Wanted;
-use gabc_body::InputEnding;
 use gabc_draw::{Mark, Options, picture_of};
 use gabc_marks::{Distance, Picture};
-use gabc_places::{BufferFiller, ByteCounter, Decoded, Limits, text_of};
-use gabc_score::score_whole_with_hasher;
+use gabc_places::{BufferFiller, ByteCounter, Limits};
 use gabc_svg::put_picture;
-use gabc_tree::{PlaceReader, tree_of_with_hasher};
+use gabc_tree::{PlaceReader, ScoreRead, read_score};
 use gregorio::is_shown;
 use std::alloc::{AllocError, Global};
 
@@ -27,19 +25,15 @@ fn width_of(width: u32) -> Distance {
     Distance(i32::try_from(width).unwrap_or(i32::MAX))
 }
 
-/// Reads `score` for its messages, those of errors and faults, and if they are wanted those of
-/// `warnings`, and returns them as marks. It fails only for want of memory.
+/// Returns the messages of `score`, which is read as `read`, as marks: those of errors and faults,
+/// and if they are wanted those of `warnings`. It fails only for want of memory.
 fn marks_of(
     alloc: Global,
-    key: &[u64],
     score: &[u8],
+    read: &ScoreRead,
     warnings: bool,
 ) -> Result<Vec<Mark>, AllocError> {
-    let limits = Limits::default();
-    let Decoded { text, fault } = text_of(alloc, score, true, limits)?;
-    let ending = fault.map_or(InputEnding::Whole, InputEnding::At);
-    let read = score_whole_with_hasher(alloc, &text, ending, limits, hasher_of(key))?;
-    let mut reader = PlaceReader::new(score, limits);
+    let mut reader = PlaceReader::new(score, Limits::default());
     let mut marks = Vec::new(alloc);
     for finding in read.findings.as_slice() {
         if is_shown(warnings, *finding) {
@@ -58,15 +52,16 @@ fn marks_of(
     Ok(marks)
 }
 
-/// Returns the marks that are wanted in a picture of `score`. It fails only for want of memory.
+/// Returns the marks that are wanted in a picture of `score`, which is read as `read`. It fails
+/// only for want of memory.
 fn wanted_marks(
     alloc: Global,
-    key: &[u64],
     score: &[u8],
+    read: &ScoreRead,
     wanted: Wanted,
 ) -> Result<Vec<Mark>, AllocError> {
     match wanted.warnings {
-        Some(warnings) => marks_of(alloc, key, score, warnings),
+        Some(warnings) => marks_of(alloc, score, read, warnings),
         None => Ok(Vec::new(alloc)),
     }
 }
@@ -108,13 +103,13 @@ pub(crate) fn tell_picture(
     ensures unchanged { OnErr result (buf.new ≡ buf.old) }
     ensures count_unchanged { OnErr result (count.new ≡ count.old) }
 {
-    let tree = tree_of_with_hasher(alloc, score, Limits::default(), hasher_of(key))?;
-    let marks = wanted_marks(alloc, key, score, wanted)?;
+    let read = read_score(alloc, score, Limits::default(), hasher_of(key))?;
+    let marks = wanted_marks(alloc, score, &read, wanted)?;
     let options = Options {
         width: width_of(wanted.width),
         marks: marks.as_slice(),
     };
-    let picture = picture_of(alloc, tree.nodes(), score, options)?;
+    let picture = picture_of(alloc, read.tree.nodes(), score, options)?;
     let len = length_of(&picture)?;
     put_text(&picture, len, buf);
     *count = len;

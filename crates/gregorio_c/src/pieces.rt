@@ -19,7 +19,7 @@ use crate::{NO_MEMORY, REFUSED};
 use gregorio::SourceEnding;
 use std::alloc::Global;
 
-/// Returns the first `len` bytes of `bytes`, or all where it has fewer.
+/// Returns the first `len` bytes of `bytes`, or all if it has fewer.
 pub(crate) fn front(bytes: &[u8], len: usize) -> &[u8]
     ensures { result.now ≡ take len bytes.now }
 {
@@ -27,7 +27,7 @@ pub(crate) fn front(bytes: &[u8], len: usize) -> &[u8]
 }
 
 /// Returns how many bytes the state of a run under the limits of `options` has at most: 128, and
-/// the limit of the headers or twice that of a syllable, whichever is more. It returns 0 where
+/// the limit of the headers or twice that of a syllable, whichever is more. It returns 0 if
 /// `options` are out of range.
 #[unsafe(no_mangle)]
 pub extern "C" fn gregorio_state_bound(options: &[Options]) -> usize
@@ -44,9 +44,8 @@ pub extern "C" fn gregorio_state_bound(options: &[Options]) -> usize
 /// Begins a run: writes its first state to the front of `state`. `format` and `flags` are those of
 /// `gregorio_compile`. `options` are limits and a key, one or none. `step` gives the lengths.
 ///
-/// Returns 6: the run goes on. It returns 7 where `state` is too small, and stays as it was then; 3
-/// where a number is not known or out of range, and 5 where there is no memory: nothing is written
-/// then.
+/// Returns 6: the run goes on. It returns 7 if `state` is too small, and stays as it was then; 3 if
+/// a number is not known or out of range, and 5 if there is no memory: nothing is written then.
 ///
 /// The state stands for the whole run, over whatever follows and however that ends.
 #[unsafe(no_mangle)]
@@ -81,15 +80,15 @@ pub extern "C" fn gregorio_begin(
 /// became known into `output` and `messages`, and the state after it in the place of that before.
 /// The other parameters are those of `gregorio_begin`, and have to be those of that run.
 ///
-/// Returns 6: the run goes on. Where a fatal fault stopped it, it returns 2: what is written is the
-/// last, and there is no state. It returns 7 where a buffer is too small: all stay as they were,
-/// and `step` gives the lengths that are wanted. With 3 and 5, as `gregorio_begin` returns them,
-/// with 8, where the bytes are no state, and 9, where they are one of another format, of other
-/// flags or limits, nothing is written.
+/// Returns 6: the run goes on. If a fatal fault stopped it, it returns 2: what is written is the
+/// last, and there is no state. It returns 7 if a buffer is too small: all stay as they were, and
+/// `step` gives the lengths that are wanted. With 3 and 5, as `gregorio_begin` returns them, with
+/// 8, if the bytes are no state, and 9, if they are one of another format, of other flags or
+/// limits, nothing is written.
 ///
 /// Of whatever the state before stands for, what is written are the first bytes: all that is known,
-/// but for the syllable that is held. The state after it stands for the rest. A state is accepted
-/// exactly where `Engine::restore` accepts it.
+/// but for the held syllable. The state after it stands for the rest. A state is accepted exactly
+/// if `Engine::restore` accepts it.
 #[unsafe(no_mangle)]
 pub extern "C" fn gregorio_feed(
     alloc: Global,
@@ -195,8 +194,8 @@ pub extern "C" fn gregorio_end(
     )
 }
 
-/// Ends a run as `gregorio_end` does, of an input whose source has failed. Returns 4 where that is
-/// how the run ended.
+/// Ends a run as `gregorio_end` does, of an input whose source has failed. Returns 4 if that is how
+/// the run ended.
 #[unsafe(no_mangle)]
 pub extern "C" fn gregorio_broken(
     alloc: Global,

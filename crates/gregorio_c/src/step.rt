@@ -4,7 +4,7 @@
 #[repr(C)]
 #[derive(Clone, Copy, Debug, PartialEq, Eq)]
 pub struct Step {
-    /// The bytes of the state; 0 where the run is over.
+    /// The number of bytes of the state; 0 if the run is over.
     pub state: usize,
     /// The bytes of the output.
     pub output: usize,

@@ -21,7 +21,7 @@ use std::alloc::{AllocError, Global};
 use std::hash::DefaultHasher;
 use std::marker::Model;
 
-/// What is answered where a run goes on.
+/// The answer if a run goes on.
 pub(crate) const GOES_ON: u32 = 6;
 
 /// Why a step is not made.
@@ -42,7 +42,7 @@ struct Texts {
     messages: Vec<u8>,
 }
 
-/// What a step has made. The state is empty where the run is over.
+/// What a step has made. The state is empty if the run is over.
 #[derive(Drop)]
 pub(crate) struct Made {
     texts: Texts,
@@ -125,7 +125,7 @@ fn no_texts(alloc: Global) -> Texts
     }
 }
 
-/// Adds what waits to `texts`, and forgets it.
+/// Adds what waits to `texts`, and drops it.
 fn gather(engine: &mut Engine, texts: &mut Texts) -> Result<(), AllocError>
     ensures output { OnOk result (texts.new.output.items
         ≡ texts.old.output.items ++ engine.old.output) }
@@ -214,7 +214,7 @@ pub(crate) fn begin(alloc: Global, asked: Asked, hasher: DefaultHasher) -> Resul
     }
 }
 
-/// Returns the engine of `job` that goes on where the run stood whose state is `before`.
+/// Returns the engine of `job` that goes on from the state `before`.
 fn restored(
     alloc: Global,
     job: &Job,

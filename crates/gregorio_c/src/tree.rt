@@ -6,8 +6,9 @@ ghost use Rattle.gregorio_c.specs.Tree.{TreeAnswer, record_of};
 
 use crate::engines::hasher_of;
 use crate::tree_node::TreeNode;
+use gabc_nodes::Node;
 use gabc_places::Limits;
-use gabc_tree::{Node, tree_of_with_hasher};
+use gabc_tree::tree_of_with_hasher;
 use std::alloc::{AllocError, Global};
 
 /// Copies the records of `nodes` to the head of `to`, if there is room for all of them. Else `to`

@@ -3,7 +3,7 @@
 ghost use Rattle.std.specs.Prelude.{◌≡◌};
 ghost use Rattle.gregorio_c.specs.Tree.{record_of};
 
-use gabc_tree::Node;
+use gabc_nodes::Node;
 
 /// A node of a tree: its bytes, how many nodes lie in it, the number of its kind, and three numbers
 /// that its kind says.

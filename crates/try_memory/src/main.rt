@@ -9,6 +9,7 @@ mod digest;
 mod laws;
 mod lists;
 mod makers;
+mod positions;
 mod restored;
 mod runs;
 mod texts;

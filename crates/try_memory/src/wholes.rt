@@ -1,13 +1,14 @@
 //! Whole forms, over the file of a score.
 
 use crate::digest::digest_of;
+use crate::positions::Positions;
 use crate::trial::{Trial, try_call};
 use gabc_body::Syllables;
 use gabc_draw::{Mark, Options, draw};
 use gabc_headers::{headers_whole, headers_whole_with_hasher};
 use gabc_places::{ByteCounter, Code, Limits, Memory, Text, text_of};
-use gabc_score::{InputEnding, score_whole, score_whole_with_hasher};
-use gabc_tree::{tree_of, tree_of_with_hasher};
+use gabc_score::{InputEnding, score_given, score_whole, score_whole_with_hasher};
+use gabc_tree::{read_score, tree_of, tree_of_with_hasher};
 use gregorio::{Outcome, SourceEnding};
 use std::alloc::{AllocError, Global};
 use std::hash::DefaultHasher;
@@ -21,7 +22,9 @@ enum Whole {
     HashedHeaders,
     Score,
     HashedScore,
+    Given,
     Syllables,
+    Read,
     Tree,
     HashedTree,
     Drawing,
@@ -37,7 +40,9 @@ fn named(name: &str) -> Option<Whole> {
         "gabc_headers::headers_whole_with_hasher" => Whole::HashedHeaders,
         "gabc_score::score_whole" => Whole::Score,
         "gabc_score::score_whole_with_hasher" => Whole::HashedScore,
+        "gabc_score::score_given" => Whole::Given,
         "gabc_body::Syllable::copy" | "gabc_body::Syllables::push" => Whole::Syllables,
+        "gabc_tree::read_score" => Whole::Read,
         "gabc_tree::tree_of" => Whole::Tree,
         "gabc_tree::tree_of_with_hasher" => Whole::HashedTree,
         "gabc_draw::draw" | "gabc_draw::picture_of" => Whole::Drawing,
@@ -84,6 +89,25 @@ fn hashed_score(alloc: Global, text: &Text) -> Result<u64, AllocError> {
     Ok(digest)
 }
 
+/// Returns a digest of the places in their words that a taker took of a text's syllables, and of
+/// the rest of its score.
+fn given(alloc: Global, text: &Text) -> Result<u64, AllocError> {
+    let hasher = DefaultHasher::new();
+    let mut taken = Positions::new(alloc);
+    let rest = score_given(
+        alloc,
+        text,
+        InputEnding::Whole,
+        Limits::DEFAULT,
+        hasher,
+        &mut taken,
+    )?;
+    let digest = digest_of(&(digest_of(&rest), digest_of(&taken)));
+    drop(rest);
+    drop(taken);
+    Ok(digest)
+}
+
 /// Returns a digest of the syllables of a text, each of which was copied and added to a list.
 fn syllables(alloc: Global, text: &Text) -> Result<u64, AllocError> {
     let score = score_whole(alloc, text, InputEnding::Whole, Limits::DEFAULT)?;
@@ -109,6 +133,12 @@ fn hashed_tree(alloc: Global, bytes: &[u8]) -> Result<u64, AllocError> {
     let hasher = DefaultHasher::new();
     let tree = tree_of_with_hasher(alloc, bytes, Limits::DEFAULT, hasher)?;
     Ok(digest_of(&tree))
+}
+
+/// Returns a digest of the tree of `bytes`, and of what was found in them.
+fn read(alloc: Global, bytes: &[u8]) -> Result<u64, AllocError> {
+    let hasher = DefaultHasher::new();
+    Ok(digest_of(&read_score(alloc, bytes, Limits::DEFAULT, hasher)?))
 }
 
 /// The messages in a picture: one before all syllables, and one of a syllable.
@@ -178,7 +208,9 @@ impl Trial for OfScore {
             Whole::HashedHeaders => hashed_headers(alloc, &self.text),
             Whole::Score => score(alloc, &self.text),
             Whole::HashedScore => hashed_score(alloc, &self.text),
+            Whole::Given => given(alloc, &self.text),
             Whole::Syllables => syllables(alloc, &self.text),
+            Whole::Read => read(alloc, bytes),
             Whole::Tree => tree(alloc, bytes),
             Whole::HashedTree => hashed_tree(alloc, bytes),
             Whole::Drawing => drawing(alloc, bytes),

@@ -71,10 +71,10 @@ def drawn(
     score: str | bytes | bytearray | memoryview,
     width: float,
     messages: ShownMessages = ShownMessages.NONE,
-) -> str:
-    """Reads `score` as `compile` does, and returns its picture, `width` pixels wide: SVG that names
-    outlines which it does not hold. Raises `TypeError`, `ValueError` for a width out of range, and
-    `MemoryError`."""
+) -> memoryview:
+    """Reads `score` as `compile` does, and returns its picture, `width` pixels wide, as UTF-8: SVG
+    that names outlines which it does not hold. Raises `TypeError`, `ValueError` for a width out of
+    range, and `MemoryError`."""
     if not LEAST_WIDTH <= width <= MOST_WIDTH:
         raise ValueError(
             f"a picture is from {LEAST_WIDTH:.0f} to {MOST_WIDTH:.0f} pixels wide, not {width}"
@@ -83,6 +83,6 @@ def drawn(
     with Borrowed(bytes_of(score)) as data:
         room = Room.lend(_TIMES * data.length + _LEAST)
         try:
-            return room.text(_call(data, options, room))
+            return room.lasting(_call(data, options, room))
         finally:
             room.give_back()

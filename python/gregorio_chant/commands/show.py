@@ -106,7 +106,7 @@ def run(words: argparse.Namespace) -> int:
         tell(f"cannot read {printable(words.font)}: {reason_of(error)}")
         return CANNOT_READ_OR_WRITE
     if not words.watch:
-        return showing.show(_options(words, face))
+        return showing.show(_options(words, face)).status
     need("show --watch", "watchdog")
     from gregorio_chant.show.watching import watch
 

@@ -19,7 +19,7 @@ from gregorio_chant.export.losses import (
     TRANSLATIONS,
     VIRGULAE,
 )
-from gregorio_chant.objects.items import Bar, Note
+from gregorio_chant.objects.items import Note
 from gregorio_chant.objects.syllables import Syllable
 
 # The letters from the f below the staff on. The one at `_UT` is that of step 0, the c in which a
@@ -78,16 +78,13 @@ def _parts(syllables: Iterable[Syllable]) -> Iterator[tuple[str, str]]:
         hyphens = "---" if syllable.begins_word else "--"
         if syllable.begins_word:
             altered.begin_word()
-        of_glyphs = {note: at for at, glyph in enumerate(syllable.glyphs) for note in glyph.notes}
-        last = None
-        for item in syllable.items:
-            if isinstance(item, Bar) and item.name in _BARS:
+        for item in syllable.notes_and_bars:
+            if isinstance(item, Note):
+                yield hyphens if item.begins_neume else "", _note(item, altered)
+                hyphens = "-"
+            elif item.name in _BARS:
                 yield "---", _BARS[item.name]
-                hyphens, last = "---", None
-            elif isinstance(item, Note):
-                glyph = of_glyphs.get(item)
-                yield ("" if glyph is not None and glyph == last else hyphens), _note(item, altered)
-                hyphens, last = "-", glyph
+                hyphens = "---"
 
 
 def volpiano_of(syllables: Iterable[Syllable]) -> str:

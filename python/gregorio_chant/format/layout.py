@@ -31,10 +31,10 @@ class _Word:
         return "".join(self.parts)
 
 
-def _is_laid_out(score: Compiled) -> bool:
-    """Returns whether a score is its canonical text but that LF and blank are alike after the
-    headers, and but for empty lines between others: then it stays as it is."""
-    canonical, data = score.canonical.encode("utf-8"), score.data
+def _is_laid_out(data: bytes, text: str) -> bool:
+    """Returns whether a score whose lines end with LF is its canonical text but that LF and blank
+    are alike after the headers, and but for empty lines between others: then it stays as it is."""
+    canonical = text.encode("utf-8")
     begin = canonical.find(b"%%\n") + 3
     if data.endswith(b"\n\n") or b"\n\n\n" in data or not data.startswith(canonical[:begin]):
         return False
@@ -45,18 +45,17 @@ def _is_laid_out(score: Compiled) -> bool:
 def laid_out(score: Compiled, width: int | None = None) -> bytes:
     """Returns a score that no fatal fault stops as it is laid out. With a `width` a line longer
     than this many characters is broken where words begin."""
-    if width is None and _is_laid_out(score):
-        return score.data
-    line_end = "\n"
-    if b"\r" in score.data:
-        found = _LINE_END.search(score.data)
-        line_end = found[0].decode() if found else "\n"
-        score = Compiled(score.data.replace(b"\r\n", b"\n").replace(b"\r", b"\n"))
-    words = _words(score)
+    data, found = score.data, _LINE_END.search(score.data)
+    line_end = found[0] if found else b"\n"
+    if b"\r" in data:
+        data = data.replace(b"\r\n", b"\n").replace(b"\r", b"\n")
+    if width is None and _is_laid_out(data, score.canonical):
+        return data.replace(b"\n", line_end)
+    words = _words(score if data is score.data else Compiled(data))
     if width is not None:
         words = _wrapped(words, width)
-    data = "".join([f"{it.lead}{it.text}" for it in words])
-    return data.replace("\n", line_end).encode("utf-8")
+    text = "".join([f"{it.lead}{it.text}" for it in words])
+    return text.encode("utf-8").replace(b"\n", line_end)
 
 
 def _words(score: Compiled) -> Iterator[_Word]:

@@ -7,6 +7,7 @@ import unicodedata
 from collections.abc import Callable
 from typing import Optional
 
+from gregorio_chant._native.node_kinds import NodeKind
 from gregorio_chant.linting.guesses import Bracket
 from gregorio_chant.linting.slips import (
     NOTES,
@@ -19,18 +20,17 @@ from gregorio_chant.linting.slips import (
     opening_bracket,
     readings,
     struck_for_mark,
-    unread_score_line,
 )
 from gregorio_chant.text.nearest import nearest
 from gregorio_chant.text.vocabulary import HTML_TAGS, NABC_CODES, TAGS
 
 Fact = Callable[[Subject, int], Optional[str]]
 
-_TAG = re.compile(r"<(/?)([^>]*)>")
-_NAME = re.compile(r"/?([A-Za-z]+)")
+_NAME = re.compile(r"</?([A-Za-z]+)")
 _PAGE = re.compile(r"\s*<(?:!doctype|html|head|body|\?xml)\b", re.IGNORECASE)
 _PART = re.compile(r"<(v|sp|alt)>|.?", re.DOTALL)
-_RAW = ("v", "sp", "alt")
+_RAW_ENDS = ("</v>", "</sp>", "</alt>")
+_UNFINISHED = 106
 _CLOSERS = {"(": ")", "[": "]", "<": ">"}
 _LONGEST = 40
 
@@ -116,8 +116,17 @@ def _double_bar(subject: Subject, at: int) -> str | None:
 
 
 def _end(subject: Subject, at: int) -> str | None:
-    before = re.search(r"[^\s(|]*$", subject.text[:at])
-    return None if before is None else named(before[0])
+    """Returns what was left out before the place, since it is unfinished, with what stands before
+    it up to a blank. In what is not read it goes up to the place."""
+    it = subject.syllable_at(at)
+    if it is None:
+        return None
+    end = 0
+    for node in subject.nodes_in(it.notes, at, NodeKind.LEFT_OUT):
+        if node.a == _UNFINISHED or node.begin == end and not node.source.isspace():
+            end = node.end
+    past = subject.tree.places.counted(end) if end else at
+    return named(re.split(r"[\s(|]", subject.text[it.notes : past])[-1])
 
 
 def _pair(subject: Subject, at: int) -> str:
@@ -142,12 +151,12 @@ def _web_page(subject: Subject, at: int) -> str | None:
 
 
 def _blank_score_line(subject: Subject, at: int) -> str | None:
-    unread = unread_score_line(subject)
+    unread = subject.score_line
     return None if unread is None else str(subject.lines.place(unread.begin).line)
 
 
 def _header_line(subject: Subject, at: int) -> str:
-    return subject.text[at:].partition("\n")[0].strip(" \t")
+    return subject.line_from(at).strip(" \t")
 
 
 def _without_colon(subject: Subject, at: int) -> str | None:
@@ -209,29 +218,27 @@ def _line_meant(subject: Subject, at: int) -> str:
 
 
 def _tag(subject: Subject, at: int) -> str | None:
-    tag = _TAG.match(subject.text, at)
-    return None if tag is None else tag[0]
+    return subject.tag_at(at) or None
 
 
 def _tag_closing(subject: Subject, at: int) -> str | None:
-    tag = _TAG.match(subject.text, at)
-    return f"</{tag[2]}>" if tag and not tag[1] else None
+    tag = subject.tag_at(at)
+    return f"</{tag[1:]}" if tag and tag[1] != "/" else None
 
 
 def _tag_opening(subject: Subject, at: int) -> str | None:
-    tag = _TAG.match(subject.text, at)
-    return f"<{tag[2]}>" if tag and tag[1] else None
+    tag = subject.tag_at(at)
+    return f"<{tag[2:]}" if tag and tag[1] == "/" else None
 
 
 def _long_tag(subject: Subject, at: int) -> str | None:
-    tag = _tag(subject, at)
-    return tag if tag and ("(" in tag or "\n" in tag) else None
+    tag = subject.tag_at(at)
+    return tag if "(" in tag or "\n" in tag else None
 
 
 def _word_of(subject: Subject, at: int) -> str | None:
     """Returns the word that the tag at this offset begins with, in small letters."""
-    tag = _TAG.match(subject.text, at)
-    name = tag and _NAME.match(tag[2])
+    name = _NAME.match(subject.tag_at(at))
     return name[1].lower() if name else None
 
 
@@ -240,23 +247,28 @@ def _long_tag_word(subject: Subject, at: int) -> str | None:
 
 
 def _raw_end(subject: Subject, at: int) -> str | None:
-    tag = _TAG.match(subject.text, at)
-    return tag[0] if tag and tag[1] and tag[2] in _RAW else None
+    tag = subject.tag_at(at)
+    return tag if tag in _RAW_ENDS else None
 
 
 def _html_tag(subject: Subject, at: int) -> str | None:
-    return named(_tag(subject, at) or "") if _word_of(subject, at) in HTML_TAGS else None
+    return named(subject.tag_at(at)) if _word_of(subject, at) in HTML_TAGS else None
 
 
 def _html_tag_meant(subject: Subject, at: int) -> str | None:
-    tag, like = _TAG.match(subject.text, at), HTML_TAGS.get(_word_of(subject, at) or "")
-    return f"<{tag[1]}{like}>" if tag and like else None
+    like = HTML_TAGS.get(_word_of(subject, at) or "")
+    return f"<{_slash(subject, at)}{like}>" if like else None
+
+
+def _slash(subject: Subject, at: int) -> str:
+    """Returns the slash of the tag at this offset, if it closes."""
+    return "/" if _tag_opening(subject, at) else ""
 
 
 def _tag_meant(subject: Subject, at: int) -> str | None:
-    tag = _TAG.match(subject.text, at)
-    near = nearest(tag[2], TAGS) if tag else None
-    return f"<{tag[1]}{near}>" if tag and near and near != tag[2] else None
+    tag = subject.tag_at(at)[1:-1].removeprefix("/")
+    near = nearest(tag, TAGS)
+    return f"<{_slash(subject, at)}{near}>" if near and near != tag else None
 
 
 def _open_styles(subject: Subject, at: int) -> list[str]:

@@ -8,8 +8,11 @@ import unicodedata
 from collections import Counter
 from collections.abc import Iterator
 from dataclasses import dataclass
-from functools import lru_cache
 from math import log
+
+from gregorio_chant._native.node_kinds import NodeKind
+from gregorio_chant._native.nodes import Tree
+from gregorio_chant.objects.item import PITCHES
 
 # The most characters between a bracket and the one that may be lost.
 _LONGEST = 80
@@ -97,9 +100,7 @@ _ONSETS = {
     "cl": 4,
 }
 # How often each pitch is written.
-_PITCHES = dict(
-    zip("abcdefghijklmnp", (2, 3, 20, 70, 100, 150, 190, 200, 110, 80, 40, 20, 8, 0.3, 0.2))
-)
+_PITCHES = dict(zip(PITCHES, (2, 3, 20, 70, 100, 150, 190, 200, 110, 80, 40, 20, 8, 0.3, 0.2)))
 _RARE, _SIGN, _ONE_MORE, _DIPHTHONG = (
     log(0.0005),
     log(0.12),
@@ -118,7 +119,26 @@ class Bracket:
     new: str
 
 
-def lost_opener(text: str, closer: int) -> Bracket | None:
+class Weights:
+    """How often each pitch is written in a score."""
+
+    def __init__(self, tree: Tree) -> None:
+        heights = Counter(tree.narrow[10 * it + 7] & 15 for it in tree.numbers_of(NodeKind.NOTE))
+        total = heights.total() + 100
+        self._of = {
+            it: log((heights[height] + usual / 10) / total)
+            for height, (it, usual) in enumerate(_PITCHES.items())
+        }
+
+    def notes(self, notes: str) -> float:
+        """Returns the weight of notes."""
+        bare = _RAW_OR_BAR.sub("", notes)
+        return sum(self._of.get(it.lower(), _SIGN) + _ONE_MORE for it in bare) - _ONE_MORE * (
+            not bare
+        )
+
+
+def lost_opener(text: str, closer: int, weigh: Weights) -> Bracket | None:
     """Returns where the `(` may have stood that belongs to the `)` at the offset `closer`."""
     begin = closer
     while begin > max(0, closer - _LONGEST) and text[begin - 1] not in _ENDS_WORD:
@@ -126,7 +146,6 @@ def lost_opener(text: str, closer: int) -> Bracket | None:
     head = text[begin:closer]
     if not head or text.startswith("(", closer + 1):
         return None
-    weigh = _weights_of(text)
     found: list[tuple[float, Bracket]] = []
     for cut in range(len(head)):
         notes = head[cut:]
@@ -149,11 +168,10 @@ def _openers(head: str, cut: int, begin: int, after: str) -> Iterator[tuple[floa
         yield syllable, Bracket(begin + cut, "", "(")
 
 
-def lost_closer(text: str, opener: int, inner: int) -> Bracket | None:
+def lost_closer(text: str, opener: int, inner: int, weigh: Weights) -> Bracket | None:
     """Returns where the `)` may have stood that belongs to the `(` at the offset `opener`, before
     the next one at `inner`."""
     inside = text[opener + 1 : min(inner, opener + 1 + _LONGEST)]
-    weigh = _weights_of(text)
     found: list[tuple[float, Bracket]] = []
     for cut in range(1, len(inside) + 1):
         is_nabc = _NABC.fullmatch(inside, 0, cut) is not None and inside[cut : cut + 1].isspace()
@@ -216,29 +234,3 @@ def _bare(text: str) -> str:
     return "".join(
         it for it in unicodedata.normalize("NFD", text) if not unicodedata.combining(it)
     ).lower()
-
-
-class _Weights:
-    """How often each pitch is written in a score."""
-
-    def __init__(self, text: str) -> None:
-        counts = Counter(
-            it.lower()
-            for notes in re.findall(r"\(([^()|\[%]*)\)", text)
-            for it in notes
-            if it.lower() in _PITCHES
-        )
-        total = sum(counts.values()) + 100
-        self._of = {it: log((counts[it] + usual / 10) / total) for it, usual in _PITCHES.items()}
-
-    def notes(self, notes: str) -> float:
-        """Returns the weight of notes."""
-        bare = _RAW_OR_BAR.sub("", notes)
-        return sum(self._of.get(it.lower(), _SIGN) + _ONE_MORE for it in bare) - _ONE_MORE * (
-            not bare
-        )
-
-
-@lru_cache(maxsize=4)
-def _weights_of(text: str) -> _Weights:
-    return _Weights(text)

@@ -1,11 +1,13 @@
 """Finds what a repair writes for a message: a small function for each repair."""
 from __future__ import annotations
 
+import bisect
 import html
 import re
 from collections.abc import Callable
-from dataclasses import dataclass
+from dataclasses import dataclass, replace
 
+from gregorio_chant._native.node_kinds import NodeKind
 from gregorio_chant.linting.slips import (
     APOSTROPHES,
     ENTITY,
@@ -19,7 +21,6 @@ from gregorio_chant.linting.slips import (
     open_styles,
     opening_bracket,
     struck_for_mark,
-    unread_score_line,
 )
 from gregorio_chant.text.nearest import nearest
 from gregorio_chant.text.vocabulary import HEADERS, HTML_TAGS, TAGS
@@ -27,16 +28,14 @@ from gregorio_chant.text.vocabulary import HEADERS, HTML_TAGS, TAGS
 # A style over more syllables than this is left to the editor.
 _MOST_SYLLABLES = 200
 _NAMES = "|".join(sorted(TAGS, key=len, reverse=True))
-# A tag's name, which may be whole, at the end of a text; and one that lacks its `>`.
+# A tag's name, which may be whole, at the end of letters; and in a tag that is not known one that
+# lacks its `>`.
 _NAME_AT_END = re.compile(rf"(/?)({_NAMES})$")
 _NAME = re.compile(rf"</?(?:{_NAMES})(?=[^>]*[(\n<])")
-# A `<` that begins no word, and takes notes or a line end for its tag.
+# A `<` that begins no word, and takes notes or a line end for its tag, which is not known.
 _SWALLOWS = re.compile(r"<(?![A-Za-z/])[^>]*[(\n]")
-_ATTRIBUTES = re.compile(r"(?:\[[^\]\n]*\])+$")
-# A note that belongs to no clef.
-_HAS_NOTE = re.compile(r"\((?![cf]b?[1-5])[^)|]*[a-npA-NP]")
-_BARRED = re.compile(r"<sp>([ARV][^/<]?)</sp>")
 _TAG = re.compile(r"<(/?)([A-Za-z]+)[^>\n(]*>")
+_BARRED = re.compile(r"<sp>([ARV].?)</sp>")
 _RAW_ENDS = ("</v>", "</sp>", "</alt>")
 
 
@@ -62,29 +61,31 @@ Edits = tuple[Edit, ...]
 def _escape(subject: Subject, at: int) -> Edits:
     """Writes `$` before a `>`, but not before one that may end a tag whose `<` is lost, or stand in
     notes whose `(` is lost. A `)` and a `]` are never made text: their `(` or `[` is lost."""
-    if (
-        not subject.text.startswith(">", at)
-        or _may_end_tag(subject, at)
-        or _may_be_note(subject, at)
-    ):
+    if _in(NodeKind.LEFT_OUT, subject, at) != ">":
         return ()
-    return (Edit(at, "", "$"),)
-
-
-def _may_be_note(subject: Subject, at: int) -> bool:
-    """Returns whether the next bracket after this sign is a `)`, which closes nothing."""
-    closer = subject.text.find(")", at)
-    return closer >= 0 and subject.text.find("(", at, closer) < 0
-
-
-def _may_end_tag(subject: Subject, at: int) -> bool:
-    """Returns whether the name of a tag stands before this `>`, and its end or its begin in the
-    same text."""
-    name = _NAME_AT_END.search(subject.text, max(0, at - 10), at)
-    if name is None or name[1]:
-        return name is not None
     it = subject.syllable_at(at)
-    return it is not None and subject.text.find(f"</{name[2]}>", at, it.notes) >= 0
+    end = len(subject.text) if it is None else it.notes
+    closer = bisect.bisect_left(subject.closers, at)
+    may_be_note = closer < len(subject.closers) and subject.closers[closer] < end
+    return () if may_be_note or _may_end_tag(subject, at, end) else (Edit(at, "", "$"),)
+
+
+def _may_end_tag(subject: Subject, at: int, end: int) -> bool:
+    """Returns whether the name of a tag stands before this `>`, and its begin with it or its end
+    in the same text, which goes up to `end`."""
+    name = _NAME_AT_END.search(subject.text, max(0, at - 10), at)
+    if name is None or subject.kind_at(at - 1) != NodeKind.CHARACTERS:
+        return False
+    if name[1]:
+        return True
+    tags = subject.nodes_in(at, end, NodeKind.STYLE_TAG, NodeKind.SPAN_MARK, NodeKind.TAG)
+    return any(it.kept == f"</{name[2]}>" for it in tags)
+
+
+def _in(kind: NodeKind, subject: Subject, at: int) -> str:
+    """Returns the text of the node that holds this offset, if it is of this kind; else nothing."""
+    node = subject.node_at(at)
+    return node.text if node is not None and node.kind == kind else ""
 
 
 def _style_in_each_syllable(subject: Subject, at: int) -> Edits:
@@ -116,18 +117,18 @@ def _style_in_each_syllable(subject: Subject, at: int) -> Edits:
 
 
 def _escape_less(subject: Subject, at: int) -> Edits:
-    return (Edit(at, "", "$"),) if _SWALLOWS.match(subject.text, at) else ()
+    return (Edit(at, "", "$"),) if _SWALLOWS.match(subject.tag_at(at)) else ()
 
 
 def _close_tag(subject: Subject, at: int) -> Edits:
-    found = _NAME.match(subject.text, at)
-    return (Edit(found.end(), "", ">"),) if found else ()
+    found = _NAME.match(subject.tag_at(at))
+    return (Edit(at + found.end(), "", ">"),) if found else ()
 
 
 def _html_tag(subject: Subject, at: int) -> Edits:
     """Removes a tag of HTML, or writes the one of GABC that is like it. Removes the end of a raw
     part that none begins."""
-    found = _TAG.match(subject.text, at)
+    found = _TAG.match(subject.tag_at(at))
     if found is None or found[0] not in _RAW_ENDS and found[2].lower() not in HTML_TAGS:
         return ()
     like = HTML_TAGS.get(found[2].lower())
@@ -135,8 +136,8 @@ def _html_tag(subject: Subject, at: int) -> Edits:
 
 
 def _special(subject: Subject, at: int) -> Edits:
-    found = _BARRED.match(subject.text, at)
-    return (Edit(found.start(1), found[1], found[1][0] + "/"),) if found else ()
+    found = _BARRED.match(_in(NodeKind.RAW, subject, at))
+    return (Edit(at + found.start(1), found[1], found[1][0] + "/"),) if found else ()
 
 
 def _character(subject: Subject, at: int) -> Edits:
@@ -196,11 +197,11 @@ def _apostrophe(subject: Subject, at: int) -> Edits:
 
 
 def _sign_before_attribute(subject: Subject, at: int) -> Edits:
-    found = _ATTRIBUTES.search(subject.text, max(0, at - 200), at)
-    it = subject.text[at : at + 1]
-    return (
-        () if found is None or not it else (Edit(at - len(found[0]), found[0] + it, it + found[0]),)
-    )
+    begin = at
+    while _in(NodeKind.ATTRIBUTE, subject, begin - 1):
+        begin -= len(_in(NodeKind.ATTRIBUTE, subject, begin - 1))
+    attributes, it = subject.text[begin:at], subject.text[at : at + 1]
+    return (Edit(begin, attributes + it, it + attributes),) if attributes and it else ()
 
 
 def _nabc_header(subject: Subject, at: int) -> Edits:
@@ -212,12 +213,12 @@ def _nabc_header(subject: Subject, at: int) -> Edits:
         or any(it.name == "nabc-lines" for it in subject.parts.headers)
     ):
         return ()
-    notes = [subject.text[it.notes : it.end] for it in subject.parts.syllables]
-    with_notes = sum(_HAS_NOTE.search(it) is not None for it in notes)
+    with_notes = with_bars = 0
+    for it in subject.tree.of_kind(NodeKind.SYLLABLE):
+        with_notes += any(node.kind == NodeKind.NOTE for node in it)
+        with_bars += any(node.kind == NodeKind.LEFT_OUT and node.source == b"|" for node in it)
     return (
-        (Edit(subject.parts.score, "", "nabc-lines: 1;\n"),)
-        if 3 * sum("|" in it for it in notes) >= with_notes
-        else ()
+        (Edit(subject.parts.score, "", "nabc-lines: 1;\n"),) if 3 * with_bars >= with_notes else ()
     )
 
 
@@ -232,37 +233,43 @@ def _leave_out_of_nabc(subject: Subject, at: int) -> Edits:
 def _end_header(subject: Subject, at: int) -> Edits:
     """Writes the `;` of a value: not at the end of a line that holds notes, and in place of a `,`
     or a `:` at its end."""
-    line = subject.text[at:].partition("\n")[0].partition("%")[0].rstrip(" \t")
-    if ":" not in line or NOTES.search(line) or unread_score_line(subject) is not None:
+    line = subject.line_from(at).partition("%")[0].rstrip(" \t")
+    if ":" not in line or NOTES.search(line) or subject.score_line is not None:
         return ()
     struck = struck_for_mark(line)
     return (Edit(at + len(line) - len(struck), struck, ";"),)
 
 
 def _score_line(subject: Subject, at: int) -> Edits:
-    found = unread_score_line(subject)
+    found = subject.score_line
     return (
         () if found is None else (Edit(found.begin, subject.text[found.begin : found.end - 2], ""),)
     )
 
 
 def _header_colon(subject: Subject, at: int) -> Edits:
-    line = subject.text[at:].partition("\n")[0].rstrip(" \t")
+    line = subject.line_from(at).rstrip(" \t")
     meant = meant_header(line)
     return (Edit(at, line, meant),) if meant is not None else ()
 
 
 def _header_name(subject: Subject, at: int) -> Edits:
-    header = subject.header_at(at)
-    meant = nearest(header.name or "", HEADERS) if header else None
-    begin = subject.text.find(header.name or "", at) if header else -1
-    return (Edit(begin, header.name or "", meant),) if header and meant and begin >= 0 else ()
+    name = _part_of_header(NodeKind.HEADER_NAME, subject, at)
+    meant = nearest(name.old, HEADERS) if name else None
+    return (replace(name, new=meant),) if name and meant else ()
 
 
 def _mode(subject: Subject, at: int) -> Edits:
-    found = re.compile(r"[^:\n]*:[ \t]*([IVivx]+)[ \t]*;").match(subject.text, at)
-    number = MODES.get(found[1].upper()) if found else None
-    return (Edit(found.start(1), found[1], number),) if found and number else ()
+    value = _part_of_header(NodeKind.HEADER_VALUE, subject, at)
+    number = MODES.get(value.old.upper()) if value else None
+    return (replace(value, new=number),) if value and number else ()
+
+
+def _part_of_header(kind: NodeKind, subject: Subject, at: int) -> Edit | None:
+    """Returns an edit of the name or the value of the header at this offset, which removes it."""
+    header = subject.header_at(at)
+    nodes = subject.nodes_in(header.begin, header.end, kind) if header else ()
+    return next((Edit(subject.begin(it), it.kept, "") for it in nodes), None)
 
 
 # What each repair writes for a message at an offset.

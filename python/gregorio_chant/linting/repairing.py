@@ -37,6 +37,8 @@ from gregorio_chant.text.source import raw_offsets
 # with rules a byte takes so many times longer.
 _MOST_COMPILED = 6_000_000
 _RULES_TAKE = 12
+# How many bytes of scores that were tried are kept.
+_MOST_KEPT = 200_000
 _NO_LETTERS = re.compile(r"[\W_]+")
 _LINE_END = re.compile("\r\n|\n|\r")
 # What a repair may take away if a fault stops the score: blanks and the mark in place of a `;`.
@@ -164,18 +166,38 @@ def _sung(syllable: Syllable) -> str:
     return _NO_LETTERS.sub("", syllable.plain)
 
 
-class _Draft:
-    """A score that is to be repaired, with all that its judge has to know of it."""
+class _Tried:
+    """The scores that were tried last: none of them is compiled again."""
 
-    def __init__(self, score: Compiled, found: Iterable[Message], with_rules: bool) -> None:
-        self.score, self.with_rules = score, with_rules
+    def __init__(self) -> None:
+        self._by_data: dict[bytes, Compiled] = {}
+
+    def compiled(self, data: bytes) -> Compiled:
+        """Returns a score, as it was tried if it is known."""
+        if data not in self._by_data:
+            if sum(map(len, self._by_data)) + len(data) > _MOST_KEPT:
+                self._by_data.clear()
+            self._by_data[data] = Compiled(data)
+        return self._by_data[data]
+
+
+class _Draft:
+    """A score that is to be repaired, with all that its judge has to know of it, and the scores
+    that were `tried` for it."""
+
+    def __init__(
+        self,
+        score: Compiled,
+        found: Iterable[Message],
+        with_rules: bool,
+        tried: _Tried | None = None,
+    ) -> None:
+        self.score, self.with_rules, self._tried = score, with_rules, tried or _Tried()
         self._found = tuple(found)
         self._raw = score.data.decode("utf-8")
         self._offsets = raw_offsets(self._raw)
         line_end = _LINE_END.search(self._raw)
         self._line_end = line_end[0] if line_end else "\n"
-        # The score with the edits that were judged last.
-        self._judged: Compiled | None = None
 
     def changes(self, edits: Iterable[Edit]) -> Iterator[Change]:
         """Yields what these edits change in the score as it is written, with its own line ends."""
@@ -196,11 +218,8 @@ class _Draft:
         return "".join([*parts, self._raw[at:]]).encode("utf-8")
 
     def made(self, proposals: Sequence[Proposal]) -> Compiled:
-        """Returns the score with these repairs: as it was judged, if it was judged last."""
-        data = self.with_edits(edit for it in proposals for edit in it.edits)
-        if self._judged is None or self._judged.data != data:
-            self._judged = Compiled(data)
-        return self._judged
+        """Returns the score with these repairs."""
+        return self._tried.compiled(self.with_edits(edit for it in proposals for edit in it.edits))
 
     def takes(self, proposals: Sequence[Proposal]) -> bool:
         """Returns whether these repairs may be made together."""
@@ -361,7 +380,7 @@ class _Repairing:
 
     def __init__(self, how: How, pause: Pause) -> None:
         self._how, self._pause = how, pause
-        self._judge = _Judge()
+        self._judge, self._tried = _Judge(), _Tried()
         self.guesses: list[Guess] = []
         # What was found in the score that was looked at last.
         self.found: tuple[Message, ...] = ()
@@ -372,7 +391,7 @@ class _Repairing:
         told = self._how.selection.of(found) if old.fault is None else (old.fault,)
         subject = Subject(old)
         waiting = list(_proposals(subject, told, lambda it: it.is_safe == is_safe))
-        draft = _Draft(old, found, self._how.with_rules)
+        draft = _Draft(old, found, self._how.with_rules, self._tried)
         while waiting:
             batch, waiting = _apart(waiting)
             made = self._taken(draft, batch)

@@ -10,7 +10,6 @@ from gregorio_chant._native.node_kinds import NodeKind
 from gregorio_chant._native.nodes import Node, Tree
 from gregorio_chant.objects.item import Item
 from gregorio_chant.objects.score import Score
-from gregorio_chant.objects.texts import all_letters
 
 _SNIPPET = int(NodeKind.SNIPPET)
 
@@ -52,11 +51,6 @@ class Subject:
     def line(self) -> Node:
         """The line `%%`."""
         return next(self.tree.of_kind(NodeKind.SCORE_LINE))
-
-    @cached_property
-    def plains(self) -> list[str]:
-        """The text of each syllable, without markup."""
-        return all_letters(self.tree)
 
     @cached_property
     def comments(self) -> list[Node]:

@@ -93,13 +93,20 @@ def asterisk_without_bar(subject: Subject) -> Iterator[Found]:
     if b"*" not in subject.source:
         return
     syllables = subject.score.syllables
-    for number, plain in enumerate(subject.plains):
+    for number, plain in enumerate(subject.score.plains):
         if "*" not in plain or _has_bar(syllables[number]):
             continue
         after = syllables[number + 1 :]
         if after and not _begins_with_bar(after[0]) and _bar_after_word(after):
-            byte = subject.source.find(b"*", syllables[number].begin)
+            byte = _asterisk_in(syllables[number])
             yield Found(byte, "no bar follows this asterisk, but one follows the next word")
+
+
+def _asterisk_in(syllable: Syllable) -> int:
+    """Returns the byte of the first asterisk that is sung in the text of a syllable."""
+    nodes = syllable.node.children(NodeKind.CHARACTERS, NodeKind.ESCAPE, NodeKind.RAW)
+    sung = (it for it in nodes if it.kind != NodeKind.RAW or it.b == _SPECIAL)
+    return next(it.begin + it.source.index(b"*") for it in sung if b"*" in it.source)
 
 
 def _has_bar(syllable: Syllable) -> bool:
@@ -162,14 +169,14 @@ def misspelled_header(subject: Subject) -> Iterator[Found]:
 
 
 def late_punctuation(subject: Subject) -> Iterator[Found]:
-    for it, plain in zip(subject.score.syllables, subject.plains):
+    for it, plain in zip(subject.score.syllables, subject.score.plains):
         if plain.startswith(_PUNCTUATION) and not it.begins_word:
             told = f"'{plain[0]}' follows the notes of its word: write it before their ("
             yield subject.found(it, told)
 
 
 def missing_blank(subject: Subject) -> Iterator[Found]:
-    syllables, plains = subject.score.syllables, subject.plains
+    syllables, plains = subject.score.syllables, subject.score.plains
     for before, after, ended, begun in zip(syllables, syllables[1:], plains, plains[1:]):
         is_near = ended.endswith(_PUNCTUATION) and begun[:1].isalpha() and not after.begins_word
         if is_near and before.notes and _ENDS_SENTENCE.match(ended):
@@ -193,7 +200,7 @@ def bar_as_text(subject: Subject) -> Iterator[Found]:
 
 
 def typed_hyphen(subject: Subject) -> Iterator[Found]:
-    syllables, plains = subject.score.syllables, subject.plains
+    syllables, plains = subject.score.syllables, subject.score.plains
     for it, after, plain, begun in zip(syllables, syllables[1:], plains, plains[1:]):
         is_typed = plain.endswith(("-", "\u2013")) and len(plain.strip()) > 1
         if is_typed and begun[:1].isalpha() and not after.begins_word:
@@ -218,7 +225,7 @@ def syllable_without_notes(subject: Subject) -> Iterator[Found]:
     kinds, syllables = subject.tree.kinds, subject.score.syllables
     if _EMPTY.search(kinds) is None:
         return
-    for it, text, plain in zip(syllables, subject.texts, subject.plains):
+    for it, text, plain in zip(syllables, subject.texts, subject.score.plains):
         if _ITEMS.search(kinds, text.number, text.past) is None:
             is_within = it.position in ("beginning", "middle")
             if is_within and any(map(str.isalpha, plain)):

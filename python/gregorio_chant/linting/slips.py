@@ -3,14 +3,14 @@ from __future__ import annotations
 
 import bisect
 import re
-from collections.abc import Iterable
+from collections.abc import Iterable, Iterator
 from dataclasses import dataclass
 from functools import cached_property
 
 from gregorio_chant._native.node_kinds import NodeKind
-from gregorio_chant._native.nodes import Node, Tree
+from gregorio_chant._native.nodes import Node, Tree, kinds_pattern
 from gregorio_chant._native.results import Message
-from gregorio_chant.linting.guesses import Bracket, lost_closer, lost_opener
+from gregorio_chant.linting.guesses import Bracket, Weights, lost_closer, lost_opener
 from gregorio_chant.objects.compiled import Compiled
 from gregorio_chant.text.nearest import nearest
 from gregorio_chant.text.parts import HeaderSpan, Parts, Span, SyllableSpan
@@ -36,6 +36,10 @@ _CLEF = re.compile(
 )
 _BARS = re.compile(r"[ \t]*\|(?:[ \t]*\|)*[ \t]*")
 _UNREAD_SCORE_LINE = re.compile(r"^[ \t]+%%", re.MULTILINE)
+_UNREAD_TAG = re.compile(r"<[^>]*>")
+_NOT_READ = (NodeKind.HEADER_COMMENT, NodeKind.UNREAD)
+# What a bracket that is lost never stood in.
+_WHOLE = (NodeKind.RAW, NodeKind.TAG, NodeKind.STYLE_TAG, NodeKind.SPAN_MARK, NodeKind.TRANSLATION)
 _WITHOUT_COLON = re.compile(r"([\w-]+)(?:[ \t]*[-=.,;\u2013][ \t]*|[ \t]+)(\S[^;]*?)[;,. \t]*")
 
 
@@ -60,11 +64,46 @@ class Subject:
         return frozenset(self.offset(it) for it in messages if it.code in LEFT_OUT)
 
     @cached_property
+    def closers(self) -> list[int]:
+        """Where each `)` stands that was left out, in order."""
+        return sorted(it for it in self.left_out if self.text[it] == ")")
+
+    @cached_property
     def parts(self) -> Parts:
         """Its headers, syllables and comments."""
         fault = self._compiled.fault
         at = None if fault is None else self.offset(fault)
         return Parts(self.tree, at if at is not None and self.text[at : at + 1] == "(" else None)
+
+    @cached_property
+    def weights(self) -> Weights:
+        """How likely each pitch is in the score."""
+        return Weights(self.tree)
+
+    @cached_property
+    def uncommented(self) -> str:
+        """The text with a blank in place of each character of a comment."""
+        pieces, at = [], 0
+        for it in self.parts.comments:
+            pieces += [self.text[at : it.begin], " " * (it.end - it.begin)]
+            at = it.end
+        return "".join([*pieces, self.text[at:]])
+
+    @cached_property
+    def score_line(self) -> Span | None:
+        """Where a line ` %%` stands in the headers: the blanks before it make it a comment. In a
+        value it is part of that."""
+        for it in _UNREAD_SCORE_LINE.finditer(self.text, 0, self.parts.score):
+            if self.kind_at(it.end() - 1) in _NOT_READ:
+                return Span(*it.span())
+        return None
+
+    def nodes_in(self, begin: int, end: int, *kinds: NodeKind) -> Iterator[Node]:
+        """Yields the nodes of these kinds that begin from the character `begin` up to `end`."""
+        begins = self.tree.wide[::5]
+        first, past = (bisect.bisect_left(begins, self.tree.places.byte(it)) for it in (begin, end))
+        found = kinds_pattern(*kinds).finditer(self.tree.kinds, first, past)
+        return (self.tree[it.start()] for it in found)
 
     def node_at(self, offset: int) -> Node | None:
         """Returns the innermost node that holds the character at this offset, if there is one."""
@@ -76,6 +115,20 @@ class Subject:
         node = self.node_at(offset)
         return None if node is None else node.kind
 
+    def tag_at(self, offset: int) -> str:
+        """Returns the tag at this offset, if it is one of a style or not known; in what was not
+        read, what looks like one. Else it is empty."""
+        node = self.node_at(offset)
+        if node is not None and node.kind == NodeKind.UNREAD:
+            found = _UNREAD_TAG.match(self.text, offset)
+            return found[0] if found else ""
+        is_tag = node is not None and node.kind in (NodeKind.TAG, NodeKind.STYLE_TAG)
+        return node.kept if node is not None and is_tag else ""
+
+    def begin(self, node: Node) -> int:
+        """Returns where a node begins."""
+        return self.tree.places.counted(node.begin)
+
     def offset(self, message: Message) -> int:
         return self.lines.offset(message.line, message.column)
 
@@ -83,6 +136,11 @@ class Subject:
         """Returns a place as messages write it: line and column."""
         place = self.lines.place(offset)
         return f"{place.line}:{place.column}"
+
+    def line_from(self, offset: int) -> str:
+        """Returns what stands from this offset up to the end of its line."""
+        end = self.text.find("\n", offset)
+        return self.text[offset : len(self.text) if end < 0 else end]
 
     def syllable_at(self, offset: int) -> SyllableSpan | None:
         number = self.parts.number_at(offset)
@@ -139,7 +197,11 @@ def opening_bracket(subject: Subject, at: int) -> Bracket | None:
     text = subject.text
     if not text.startswith(")", at) or at and text[at - 1] == ")":
         return None
-    return lost_opener(text, at)
+    found = lost_opener(text, at, subject.weights)
+    node = None if found is None else subject.node_at(found.offset)
+    if found is None or node is None or node.kind not in _WHOLE:
+        return found
+    return found if subject.begin(node) == found.offset else None
 
 
 def closing_bracket(subject: Subject, at: int) -> Bracket | None:
@@ -150,7 +212,7 @@ def closing_bracket(subject: Subject, at: int) -> Bracket | None:
     return (
         None
         if it is None or inner is None or inner == it.notes + 1
-        else lost_closer(subject.text, it.notes, inner)
+        else lost_closer(subject.uncommented, it.notes, inner, subject.weights)
     )
 
 
@@ -171,7 +233,9 @@ def clef_for(subject: Subject, at: int) -> Meant | None:
     """Returns the notes at this offset if they look like a clef that is written wrongly: they have
     no text, and are a letter and a digit."""
     it = subject.syllable_at(at)
-    if it is None or at < it.notes or any(c.isalpha() for c in subject.text[it.begin : it.notes]):
+    if it is None or at < it.notes:
+        return None
+    if any(map(str.isalpha, subject.uncommented[it.begin : it.notes])):
         return None
     notes = subject.text[it.notes + 1 : it.end].removesuffix(")")
     found = _CLEF.fullmatch(notes)
@@ -198,14 +262,6 @@ def bars_for(subject: Subject, at: int) -> Meant | None:
 
 
 # ---- headers
-
-
-def unread_score_line(subject: Subject) -> Span | None:
-    """Returns where a line ` %%` stands in the headers: the blanks before it make it a comment."""
-    found = _UNREAD_SCORE_LINE.search(subject.text)
-    return (
-        Span(*found.span()) if found is not None and found.start() < subject.parts.score else None
-    )
 
 
 def struck_for_mark(line: str) -> str:

@@ -2,7 +2,7 @@
 from __future__ import annotations
 
 from collections.abc import Iterator
-from functools import cached_property
+from functools import cached_property, lru_cache
 from typing import TYPE_CHECKING
 
 from gregorio_chant._native import library
@@ -42,6 +42,12 @@ def _under(data: bytes, limits: Limits, format: Format) -> Result:
     steps = list(Run(format, limits=limits).steps([data]))
     output, messages = "".join(it.output for it in steps), "".join(it.messages_text for it in steps)
     return Result(output, steps[-1].status or Status.WHOLE, messages, format)
+
+
+@lru_cache(maxsize=1)
+def _written(canonical: str) -> Tree:
+    """Returns the tree of a canonical text: that of a score that is laid out anew is the same."""
+    return tree(canonical)
 
 
 class TooLong(GregorioError, ValueError):
@@ -135,7 +141,7 @@ class Compiled:
     @cached_property
     def written(self) -> Tree:
         """The tree of its canonical text."""
-        return tree(self.canonical)
+        return _written(self.canonical)
 
     @cached_property
     def lines(self) -> Lines:

@@ -156,8 +156,8 @@ class Note(Item):
     def step(self) -> int | None:
         """The number of degrees above the ut an octave below that of a c clef: 7 on the line of a c
         clef, 3 on that of an f clef. `None` before any clef."""
-        clef = self.clef
-        return None if clef is None else clef.step(self.height)
+        base = self._score.base_before(self._number)
+        return None if base is None else base + self.height
 
     @property
     def semitones(self) -> int | None:
@@ -170,6 +170,11 @@ class Note(Item):
         """All signs that it has, as the properties below."""
         at = 10 * self._number + 7
         return signs_of(*self._score.tree.narrow[at : at + 3])
+
+    @property
+    def begins_neume(self) -> bool:
+        """Whether it is the first note of its neume, whose node comes directly before its own."""
+        return self._score.tree.kinds[self._number - 1] == NodeKind.GLYPH
 
     @property
     def times(self) -> int:

@@ -20,7 +20,7 @@ def text_of_syllables(syllables: Sequence[Syllable]) -> str:
 
 
 def _has_letters(text: str) -> bool:
-    return any(it.isalnum() for it in text)
+    return any(map(str.isalnum, text))
 
 
 @dataclass(frozen=True, slots=True)

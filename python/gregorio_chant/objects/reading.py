@@ -12,13 +12,15 @@ from gregorio_chant.errors import GregorioError
 from gregorio_chant.objects.compiled import Compiled
 from gregorio_chant.objects.headers import Header
 from gregorio_chant.objects.item import Item
-from gregorio_chant.objects.items import Clef, Note
+from gregorio_chant.objects.items import Bar, Clef, Note
 from gregorio_chant.objects.passages import Word, word_of
 from gregorio_chant.objects.syllables import Glyph, Syllable, item_of
+from gregorio_chant.objects.texts import all_letters
 from gregorio_chant.objects.written import Written, begin_of_notes
 from gregorio_chant.text.source import Source
 
 _NOTES = kinds_pattern(NodeKind.NOTE)
+_NOTES_AND_BARS = kinds_pattern(NodeKind.NOTE, NodeKind.BAR)
 _GLYPHS = kinds_pattern(NodeKind.GLYPH)
 _SNIPPETS = kinds_pattern(NodeKind.SNIPPET)
 
@@ -114,12 +116,30 @@ class Reading:
 
     @cached_property
     def syllables(self) -> tuple[Syllable, ...]:
-        return tuple(Syllable(self, it, at) for at, it in enumerate(self._syllables, 1))
+        return tuple(self.each_syllable())
+
+    def each_syllable(self) -> Iterator[Syllable]:
+        """Yields the syllables, which are made one by one, for who wants but the first ones."""
+        return (Syllable(self, it, at) for at, it in enumerate(self._syllables, 1))
+
+    @cached_property
+    def plains(self) -> list[str]:
+        """What is sung of the text of each syllable."""
+        return all_letters(self.tree)
 
     @property
     def past(self) -> int:
         """The number of the node after the last syllable."""
         return self.tree[self._syllables[-1]].past if self._syllables else 0
+
+    @cached_property
+    def note_numbers(self) -> list[int]:
+        """The numbers of the nodes of all notes."""
+        return [it.start() for it in _NOTES.finditer(self.tree.kinds, 0, self.past)]
+
+    def note(self, at: int) -> Note:
+        """Returns the note `at`, from 0; a negative one counts from the end."""
+        return Note(self, self.note_numbers[at])
 
     @cached_property
     def _clefs(self) -> list[int]:
@@ -129,6 +149,15 @@ class Reading:
         """Returns the last clef before a node."""
         at = bisect.bisect_left(self._clefs, number)
         return Clef(self, self._clefs[at - 1]) if at else None
+
+    def base_before(self, number: int) -> int | None:
+        """Returns the step of a note at the height 0 before a node; `None` before any clef."""
+        return self._bases[bisect.bisect_left(self._clefs, number)]
+
+    @cached_property
+    def _bases(self) -> list[int | None]:
+        """The steps of the height 0, before any clef and under each one."""
+        return [None, *(Clef(self, it).step(0) for it in self._clefs)]
 
     def syllable_of(self, number: int) -> Syllable:
         """Returns the syllable in which a node lies."""
@@ -156,6 +185,13 @@ class Reading:
     def notes_in(self, first: int, past: int) -> Iterator[Note]:
         """Yields the notes among these nodes."""
         return (Note(self, it.start()) for it in _NOTES.finditer(self.tree.kinds, first, past))
+
+    def notes_and_bars_in(self, first: int, past: int) -> Iterator[Note | Bar]:
+        """Yields the notes and the bars among these nodes."""
+        kinds = self.tree.kinds
+        for it in _NOTES_AND_BARS.finditer(kinds, first, past):
+            number = it.start()
+            yield Note(self, number) if kinds[number] == NodeKind.NOTE else Bar(self, number)
 
     def glyphs_in(self, first: int, past: int) -> Iterator[Glyph]:
         """Yields the neumes of notes among these nodes."""

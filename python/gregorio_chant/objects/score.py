@@ -11,25 +11,27 @@ from __future__ import annotations
 
 import bisect
 from array import array
-from functools import cached_property
+from functools import cached_property, lru_cache
 
 from gregorio_chant._native.memory import bytes_of
-from gregorio_chant._native.node_kinds import NodeKind
-from gregorio_chant._native.nodes import kinds_pattern
 from gregorio_chant._native.results import Message
 from gregorio_chant._native.runs import Limits
 from gregorio_chant.objects.compiled import Compiled
 from gregorio_chant.objects.edits import Edited
 from gregorio_chant.objects.heights import Range
-from gregorio_chant.objects.items import Clef, Note, semitones_of
+from gregorio_chant.objects.items import Note, semitones_of
 from gregorio_chant.objects.left_out import LeftOut, left_out_of
 from gregorio_chant.objects.passages import FINALIS, Phrase, Word, phrases_of, words_of
 from gregorio_chant.objects.reading import Reading
 
 # What stands in the arrays for a note before any clef.
 NO_STEP = -128
-_NOTES = kinds_pattern(NodeKind.NOTE)
-_SUNG = kinds_pattern(NodeKind.NOTE, NodeKind.CLEF)
+
+
+@lru_cache(maxsize=None)
+def _semitones_of(step: int, sign: int) -> int:
+    """Returns the semitones of a note at this step, if it is one."""
+    return NO_STEP if step == NO_STEP else semitones_of(step, sign)
 
 
 def rises_of(heights: array[int]) -> array[int]:
@@ -101,7 +103,7 @@ class Score(Reading):
 
     @cached_property
     def notes(self) -> tuple[Note, ...]:
-        return tuple(self.notes_in(0, self.past))
+        return tuple([Note(self, it) for it in self.note_numbers])
 
     @cached_property
     def words(self) -> tuple[Word, ...]:
@@ -129,15 +131,13 @@ class Score(Reading):
         sounding = [it for it in heights if it != NO_STEP]
         if not sounding:
             return None
-        notes = self.notes
         low, high = heights.index(min(sounding)), heights.index(max(sounding))
-        return Range(notes[low], notes[high])
+        return Range(self.note(low), self.note(high))
 
     @property
     def final(self) -> Note | None:
         """The last note."""
-        notes = self.notes
-        return notes[-1] if notes else None
+        return self.note(-1) if self.note_numbers else None
 
     def edited(self) -> Edited:
         """Returns an empty collection of changes of this score. Raises `EditError` if the score has
@@ -150,40 +150,29 @@ class Score(Reading):
     def pitches(self) -> array[int]:
         """The height of each note: 0 for `a`, a step for each letter."""
         narrow = self.tree.narrow
-        found = _NOTES.finditer(self.tree.kinds, 0, self.past)
-        return array("b", [narrow[10 * it.start() + 7] & 15 for it in found])
+        return array("b", [narrow[10 * it + 7] & 15 for it in self.note_numbers])
 
-    @property
+    @cached_property
     def steps(self) -> array[int]:
         """The step of each note; `NO_STEP` before any clef."""
-        return self._heights[0]
+        steps = array("b")
+        ends = [bisect.bisect_left(self.note_numbers, it) for it in self._clefs]
+        begin = 0
+        for base, end in zip(self._bases, [*ends, len(self.note_numbers)]):
+            heights = self.pitches[begin:end]
+            steps.extend([NO_STEP if base is None else base + it for it in heights])
+            begin = end
+        return steps
 
-    @property
+    @cached_property
     def semitones(self) -> array[int]:
         """The semitones of each note, with its alteration; `NO_STEP` before any clef."""
-        return self._heights[1]
+        narrow = self.tree.narrow
+        signs = [narrow[10 * it + 9] >> 3 & 3 for it in self.note_numbers]
+        return array("b", map(_semitones_of, self.steps, signs))
 
     @property
     def intervals(self) -> array[int]:
         """The steps from each note to the next one; `NO_STEP` if one of both comes before any
         clef."""
         return rises_of(self.steps)
-
-    @cached_property
-    def _heights(self) -> tuple[array[int], array[int]]:
-        """The steps and the semitones."""
-        steps, semitones = array("b"), array("b")
-        clef: Clef | None = None
-        narrow = self.tree.narrow
-        base = 0
-        for found in _SUNG.finditer(self.tree.kinds, 0, self.past):
-            number = found.start()
-            if self.tree.kinds[number] == NodeKind.CLEF:
-                clef = Clef(self, number)
-                base = clef.step(0)
-            else:
-                step = (narrow[10 * number + 7] & 15) + base
-                sign = narrow[10 * number + 9] >> 3 & 3
-                steps.append(NO_STEP if clef is None else step)
-                semitones.append(NO_STEP if clef is None else semitones_of(step, sign))
-        return steps, semitones

@@ -19,7 +19,7 @@ from gregorio_chant.objects.items import (
     Space,
 )
 from gregorio_chant.objects.nabc import Descriptor
-from gregorio_chant.objects.texts import Piece, letters_of, pieces_of, written_text
+from gregorio_chant.objects.texts import Piece, pieces_of, written_text
 from gregorio_chant.objects.written import notes_of, text_of
 from gregorio_chant.text.source import Place, Source
 
@@ -239,7 +239,7 @@ class Syllable(Item):
     def plain(self) -> str:
         """Its text without tags, braces and escapes, special characters as they look, and nothing
         of raw TeX."""
-        return letters_of(self._score.tree, self._number)
+        return self._score.plains[self.number - 1]
 
     @property
     def translation(self) -> str | None:
@@ -264,6 +264,11 @@ class Syllable(Item):
     @property
     def notes(self) -> tuple[Note, ...]:
         return tuple(self._score.notes_in(self._number, self.node.past))
+
+    @property
+    def notes_and_bars(self) -> Iterator[Note | Bar]:
+        """Its notes and its bars, in order."""
+        return self._score.notes_and_bars_in(self._number, self.node.past)
 
     @property
     def glyphs(self) -> tuple[Glyph, ...]:

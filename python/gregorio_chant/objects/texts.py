@@ -39,7 +39,10 @@ _TEXTS = (
     NodeKind.SPAN_MARK,
     NodeKind.BRACE,
 )
-_OF_TEXT, _OF_ALL_TEXTS = kinds_pattern(*_TEXTS), kinds_pattern(NodeKind.SYLLABLE, *_TEXTS)
+_OF_TEXT = kinds_pattern(*_TEXTS)
+# Of these the ones of which something is sung.
+_SUNG = (NodeKind.CHARACTERS, NodeKind.ESCAPE, NodeKind.TEXT_BLANK, NodeKind.RAW)
+_OF_SUNG = kinds_pattern(NodeKind.SYLLABLE, *_SUNG)
 _SYLLABLE = int(NodeKind.SYLLABLE)
 _CHARACTERS, _ESCAPE, _RAW = map(int, (NodeKind.CHARACTERS, NodeKind.ESCAPE, NodeKind.RAW))
 _TEXT_BLANK, _BRACE, _SNIPPET = map(int, (NodeKind.TEXT_BLANK, NodeKind.BRACE, NodeKind.SNIPPET))
@@ -110,42 +113,41 @@ def _piece_of(tree: Tree, number: int) -> Piece | None:
     return Piece(kept[1:] if kind == _ESCAPE else "", kept, *styled)
 
 
-def _numbers(tree: Tree, syllable: int) -> Iterator[int]:
-    """Yields the numbers of the nodes of the text of a syllable."""
+def _text_end(tree: Tree, syllable: int) -> int:
+    """Returns the number of the node after those of the text of a syllable."""
     past = syllable + 1 + tree.wide[5 * syllable + 2]
     end = tree.kinds.find(_SNIPPET, syllable, past)
-    found = _OF_TEXT.finditer(tree.kinds, syllable, past if end < 0 else end)
-    return (it.start() for it in found)
+    return past if end < 0 else end
 
 
 def pieces_of(tree: Tree, syllable: int) -> Iterator[Piece]:
     """Yields the pieces of the text of the syllable with this number."""
-    return filter(None, (_piece_of(tree, it) for it in _numbers(tree, syllable)))
+    found = _OF_TEXT.finditer(tree.kinds, syllable, _text_end(tree, syllable))
+    return filter(None, (_piece_of(tree, it.start()) for it in found))
 
 
-def letters_of(tree: Tree, syllable: int) -> str:
-    """Returns what is sung of the text of the syllable with this number."""
-    letters = []
-    for number in _numbers(tree, syllable):
-        if tree.kinds[number] == _CHARACTERS:
-            letters.append(tree.kept(number))
-        elif (piece := _piece_of(tree, number)) is not None:
-            letters.append(piece.letters)
-    return "".join(letters)
+def _letters_at(tree: Tree, number: int) -> str:
+    """Returns what is sung of a node of `_SUNG`."""
+    kind = tree.kinds[number]
+    if kind == _CHARACTERS:
+        return tree.kept(number)
+    value = tree.narrow[10 * number + 8]
+    if kind == _TEXT_BLANK:
+        return " " if value else ""
+    if kind == _ESCAPE:
+        return tree.kept(number)[1:]
+    return special_character(tree.kept(number)[len("<sp>") : -len("</sp>")]) if value == _SP else ""
 
 
 def all_letters(tree: Tree) -> list[str]:
     """Returns what is sung of the text of each syllable of a score."""
     letters: list[str] = []
-    for found in _OF_ALL_TEXTS.finditer(tree.kinds):
+    for found in _OF_SUNG.finditer(tree.kinds):
         number = found.start()
-        kind = tree.kinds[number]
-        if kind == _SYLLABLE:
+        if tree.kinds[number] == _SYLLABLE:
             letters.append("")
-        elif kind == _CHARACTERS:
-            letters[-1] += tree.kept(number)
-        elif (piece := _piece_of(tree, number)) is not None:
-            letters[-1] += piece.letters
+        else:
+            letters[-1] += _letters_at(tree, number)
     return letters
 
 

@@ -48,9 +48,15 @@ _CLOSE = 2
 _ROW = '<g class="row"'
 
 
-def _anchored(over: str, width: int) -> str:
-    """Returns what stands over the rows, with each text that ends at the margin or stands in the
-    middle held there: it stays there in another face too, in programs that do not set lengths."""
+def with_bars(row: str) -> str:
+    """Returns what stands in a row in letters that faces have: barred ones are barred by paths."""
+    return _BARRED.sub(_letter_with_bar, row)
+
+
+def anchored(over: str, width: int) -> str:
+    """Returns what stands over the rows, in a picture `width` units wide, with each text that ends
+    at the margin or stands in the middle held there: it stays there in another face too, in
+    programs that do not set lengths."""
 
     def anchor(found: re.Match[str]) -> str:
         x, length = int(found[1]), int(found[2])
@@ -70,8 +76,8 @@ def drawn_picture(
 ) -> str:
     """Returns the picture of the library, in letters that faces have, and with the texts over its
     rows in their places in each face. Raises what `drawn` does."""
-    over, row, rest = drawn(score, width, messages).partition(_ROW)
-    return _anchored(over, round(UNITS * width)) + row + _BARRED.sub(_letter_with_bar, rest)
+    over, row, rest = str(drawn(score, width, messages), "utf-8").partition(_ROW)
+    return anchored(over, round(UNITS * width)) + row + with_bars(rest)
 
 
 def pixels(units: int) -> str:

@@ -5,12 +5,12 @@ from collections.abc import Iterator, Sequence
 from dataclasses import dataclass
 from html import escape
 
-from gregorio_chant._native.drawings import LEAST_WIDTH, MOST_WIDTH
+from gregorio_chant._native.drawings import LEAST_WIDTH, MOST_WIDTH, drawn
 from gregorio_chant._native.node_kinds import NodeKind
 from gregorio_chant._native.results import Message
 from gregorio_chant.objects.compiled import Compiled
 from gregorio_chant.objects.score import Score
-from gregorio_chant.pictures.alone import MARGIN, USE, beginning, drawn_picture, pixels
+from gregorio_chant.pictures.alone import MARGIN, USE, beginning, pixels
 from gregorio_chant.pictures.codes import CODE_ROW
 from gregorio_chant.pictures.languages import language_of
 from gregorio_chant.pictures.left_out import not_drawn
@@ -79,7 +79,7 @@ class _Drawing:
         self._has_own = look.has_initial or score is None
         source = compiled.data if self._has_own or score is None else _without_initial(score)
         width = min(max(look.width, LEAST_WIDTH), MOST_WIDTH)
-        self._sheet = sheet_of(drawn_picture(source, width))
+        self._sheet = sheet_of(drawn(source, width))
         self._marks = places_of(score, messages)
         language = language_of((score and score.header("language")) or "")
         is_text = look.hand == TEXT
@@ -95,17 +95,18 @@ class _Drawing:
         y, before = self._lines(self._marks.before, MARGIN)
         down = y - MARGIN
         over = self._sheet.over
+        used: set[str] = set()
         body = [*before, f'<g transform="translate(0,{down})">{over}</g>\n' if down else over]
+        body = [self._with_outlines(it, used) for it in body]
         for row, down in self._rows(down):
-            body.append(row)
+            body.append(self._with_outlines(row, used))
         y, after = self._lines(self._marks.after, self._sheet.height - MARGIN + down)
         note = self._note()
         if note:
             y += _NOTE_SIZE + _OVER_NOTE
             after.append(_text(note, y))
-        used: set[str] = set()
-        drawn_body = [self._with_outlines(it, used) for it in (*body, *after)]
-        return [self._head(y + MARGIN, used), *drawn_body, "</svg>\n"]
+        body += [self._with_outlines(it, used) for it in after]
+        return [self._head(y + MARGIN, used), *body, "</svg>\n"]
 
     def _rows(self, down: int) -> Iterator[tuple[str, int]]:
         """Yields each row, and how much lower all after it stands than in the picture of the

@@ -9,7 +9,7 @@ from dataclasses import dataclass
 from typing import NamedTuple
 
 from gregorio_chant._native.drawings import UNITS
-from gregorio_chant.pictures.alone import ROOT
+from gregorio_chant.pictures.alone import ROOT, anchored, with_bars
 from gregorio_chant.pictures.glyphs import SIGNS, fall_of, joined_of
 from gregorio_chant.pictures.outlines import Face, Outlines
 
@@ -18,7 +18,7 @@ STEP = 500
 # The size of the type of a score's text, and what a capital has of the size of its type.
 TEXT_SIZE = 1600
 _CAPITAL = 0.75
-_ROW = re.compile(r'<g class="row" transform="translate\((-?\d+),(-?\d+)\)">')
+_ROW = re.compile(rb'<g class="row" transform="translate\((-?\d+),(-?\d+)\)">')
 _GROUP = re.compile(
     r'<g class="syllable" data-begin="(\d+)" data-end="(\d+)" transform="translate\((-?\d+),0\)">'
 )
@@ -83,24 +83,39 @@ class Row:
 
 @dataclass(frozen=True)
 class Sheet:
-    """A picture: its sizes, what stands over its rows, and its rows."""
+    """A picture: its sizes, what stands over its rows, and its rows, which are made when they are
+    taken, and can be taken once."""
 
     width: int
     height: int
     over: str
-    rows: tuple[Row, ...]
+    rows: Iterator[Row]
 
 
-def sheet_of(svg: str) -> Sheet:
-    """Returns the parts of a picture of the library. No text in it holds a `<`."""
-    root = ROOT.match(svg)
+def sheet_of(svg: bytes | memoryview) -> Sheet:
+    """Returns the parts of a picture of the library, in letters that faces have. No text in it
+    holds a `<`."""
+    begins = _ROW.finditer(svg)
+    first = next(begins, None)
+    end = len(svg) - len("</svg>")
+    head = str(svg[: end if first is None else first.start()], "utf-8")
+    root = ROOT.match(head)
     if root is None:
         raise ValueError("no picture")
-    over, *pieces = _ROW.split(svg[root.end() :].removesuffix("</svg>"))
-    rows = zip(pieces[::3], pieces[1::3], pieces[2::3])
-    return Sheet(
-        int(root[2]), int(root[3]), over, tuple(_row(int(x), int(y), it) for x, y, it in rows)
-    )
+    width, height = int(root[2]), int(root[3])
+    rows = iter(()) if first is None else _rows(svg, first, begins, end)
+    return Sheet(width, height, anchored(head[root.end() :], width), rows)
+
+
+def _rows(
+    svg: bytes | memoryview, first: re.Match[bytes], others: Iterator[re.Match[bytes]], end: int
+) -> Iterator[Row]:
+    """Yields the rows of a picture, of which the last one ends at the byte `end`."""
+    begin = first
+    for after in (*others, None):
+        content = str(svg[begin.end() : end if after is None else after.start()], "utf-8")
+        yield _row(int(begin[1]), int(begin[2]), with_bars(content))
+        begin = after or begin
 
 
 def _row(x: int, y: int, content: str) -> Row:

@@ -12,8 +12,10 @@ from gregorio_chant.server.protocol import Json, Params
 from gregorio_chant.text.vocabulary import HEADERS, NABC_NAMES, SPECIALS, TAGS
 
 _PROPERTY, _KEYWORD, _CONSTANT, _VALUE = 10, 14, 21, 12
-_IN_SPECIAL = re.compile(r"<sp>([^<>(\n]*)$")
-_IN_TAG = re.compile(r"</?([a-z]*)$")
+# What may have been typed of a special character and of a tag, and what ends each: the name of no
+# known tag ends with an x.
+_SPECIAL, _SPECIAL_CLOSED = re.compile(r"<sp>([^<>(\n]*)"), "</sp>"
+_TAG, _TAG_CLOSED = re.compile(r"</?[a-z]*"), "x>"
 # What ends a comment, and then the notes.
 _CLOSED = "\n)"
 _CODE = re.compile(r"(?:^|[^a-z])(?:[a-z]{2})*([a-z]?)$")
@@ -33,7 +35,7 @@ def completion(document: Document, params: Params) -> Json:
     if _is_in_comment(made, len(before.encode("utf-8", "surrogatepass"))):
         return []
     if is_open and NodeKind.UNREAD not in made.kinds:
-        return _in_notes(document, made, before, offset)
+        return _in_notes(document, made, offset)
     return _in_text(document, before, offset)
 
 
@@ -60,18 +62,25 @@ def _headers(document: Document, before: str) -> Json:
     ]
 
 
+def _ends_with(text: str, kind: NodeKind) -> bool:
+    """Returns whether the last node of a score is of this kind, and ends with it."""
+    last = tree(text)[-1]
+    return last.kind == kind and last.end == len(last.tree.source)
+
+
 def _in_text(document: Document, before: str, end: int) -> Json:
-    special = _IN_SPECIAL.search(before)
-    if special is not None:
-        closing = "" if document.text.plain.startswith("</sp>", end) else "</sp>"
+    typed = before[max(before.rfind("<"), 0) :]
+    special = _SPECIAL.fullmatch(typed)
+    if special is not None and _ends_with(before + _SPECIAL_CLOSED, NodeKind.RAW):
+        closing = "" if document.text.plain.startswith(_SPECIAL_CLOSED, end) else _SPECIAL_CLOSED
+        begin = end - len(special[1])
         return [
-            _item(document, it, _CONSTANT, "special character", it + closing, special.start(1), end)
+            _item(document, it, _CONSTANT, "special character", it + closing, begin, end)
             for it in SPECIALS
         ]
-    tag = _IN_TAG.search(before)
-    if tag is None:
+    if not _TAG.fullmatch(typed) or not _ends_with(before + _TAG_CLOSED, NodeKind.TAG):
         return []
-    slash = "/" if before.startswith("</", tag.start()) else ""
+    slash = "/" if typed.startswith("</") else ""
     closing = "" if document.text.plain.startswith(">", end) else ">"
     return [
         _item(
@@ -80,17 +89,17 @@ def _in_text(document: Document, before: str, end: int) -> Json:
             _KEYWORD,
             meaning,
             f"<{slash}{it}{closing}",
-            tag.start(),
+            end - len(typed),
             end,
         )
         for it, meaning in TAGS.items()
     ]
 
 
-def _in_notes(document: Document, made: Tree, before: str, end: int) -> Json:
+def _in_notes(document: Document, made: Tree, end: int) -> Json:
     """Returns the codes of NABC where a line of it stands."""
-    snippet = list(made.of_kind(NodeKind.SNIPPET))[-1]
-    code = _CODE.search(before, max(map(before.rfind, "|(")))
+    snippet = made[made.kinds.rindex(NodeKind.SNIPPET)]
+    code = _CODE.search(snippet.text.removesuffix("\n"))
     if snippet.a == 0 or code is None:
         return []
     begin = end - len(code[1])

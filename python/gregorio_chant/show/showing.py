@@ -101,6 +101,11 @@ class _Scores(Scores):
     def summary(self) -> str:
         return summary_of(self.done, self.failed, self.kinds)
 
+    @property
+    def has_none(self) -> bool:
+        """Whether none of the scores could be read, so that nothing is written."""
+        return self.failed > 0 and self.done == 0
+
 
 def _put(path: Path, pieces: Iterable[str], below: Path | None = None) -> None:
     """Writes a file anew, which the user has named, or which stands below a folder that he has
@@ -143,9 +148,17 @@ def _identity(path: str | Path) -> tuple[int, int] | None:
     return state.st_dev, state.st_ino
 
 
-def show(options: Options) -> int:
-    """Writes what is wanted, and returns the worst status. Raises `WriteError`, `UsageError`,
-    and `MissingDependency` or `SettingsError` before any score is read."""
+@dataclass(frozen=True)
+class Done:
+    """The worst status of the scores that are shown, and whether something was written."""
+
+    status: int
+    is_written: bool
+
+
+def show(options: Options) -> Done:
+    """Writes what is wanted, but nothing if no score can be read. Raises `WriteError`,
+    `UsageError`, and `MissingDependency` or `SettingsError` before any score is read."""
     found = _Scores(options)
     if options.svg:
         _show_one(options, found)
@@ -153,7 +166,7 @@ def show(options: Options) -> int:
         _show_folder(options, found)
     else:
         _show_page(options, found)
-    return found.status
+    return Done(found.status, not found.has_none)
 
 
 def _show_one(options: Options, found: _Scores) -> None:
@@ -189,6 +202,8 @@ def _show_page(options: Options, found: _Scores) -> None:
                 left_out += 1
                 continue
         shown.append(found.shown(checked, compiled, f"p{len(shown) + 1}-"))
+    if found.has_none:
+        return
     note = (
         f"{counted(left_out, 'score')} more with messages: -o FOLDER/ writes a page for each."
         if left_out
@@ -246,5 +261,6 @@ def _show_folder(options: Options, found: _Scores) -> None:
         entries.append(
             Entry(shown.name, shown.picture.name, quote(os.fsencode(page)), kinds, codes)
         )
-    _put(folder / _INDEX, index_of(entries, found.failed), folder)
+    if not found.has_none:
+        _put(folder / _INDEX, index_of(entries, found.failed), folder)
     tell(found.summary())

@@ -107,8 +107,8 @@ def watch(options: Callable[[], Options]) -> int:
 
 
 def _write(options: Options) -> None:
-    show(options)
-    tell(f"wrote {options.output or ''}")
+    if show(options).is_written:
+        tell(f"wrote {options.output or ''}")
 
 
 def _again(options: Callable[[], Options], changed: threading.Event) -> NoReturn:

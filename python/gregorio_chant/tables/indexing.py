@@ -3,10 +3,11 @@ from __future__ import annotations
 
 from collections.abc import Iterator, Sequence
 from dataclasses import dataclass, field, fields
-from itertools import islice
+from itertools import chain, islice
 
 from gregorio_chant.errors import UsageError
 from gregorio_chant.export.volpiano import volpiano_of
+from gregorio_chant.objects.item import Item
 from gregorio_chant.objects.passages import Word, each_word
 from gregorio_chant.objects.reading import ScoreError
 from gregorio_chant.objects.score import Score
@@ -56,9 +57,10 @@ def _incipit(words: Sequence[Word]) -> str | None:
 
 def entry_of(score: Score, headers: Sequence[str] = ()) -> IndexEntry:
     """Returns what an index says of a score, with these headers."""
-    notes, reach = score.notes, score.range
-    first = notes[0] if notes else score.syllables[0] if score.syllables else None
-    words = list(islice(each_word(score.syllables), _WORDS))
+    reach, final = score.range, score.final
+    notes = [score.note(it) for it in range(min(_NOTES, len(score.note_numbers)))]
+    first = next(chain[Item](notes, score.each_syllable()), None)
+    words = list(islice(each_word(score.each_syllable()), _WORDS))
     fault = score.fault
     return IndexEntry(
         first.source.line if first else 1,
@@ -67,8 +69,8 @@ def entry_of(score: Score, headers: Sequence[str] = ()) -> IndexEntry:
         score.header("office-part"),
         score.header("mode"),
         " ".join(it.text for it in words),
-        degrees_of(notes[:_NOTES]),
-        degree_of(notes[-1]) if notes else None,
+        degrees_of(notes),
+        degree_of(final) if final else None,
         degree_of(reach.low) if reach else None,
         degree_of(reach.high) if reach else None,
         (reach.high.step or 0) - (reach.low.step or 0) if reach else None,

@@ -8,6 +8,7 @@ from array import array
 from collections import Counter
 from collections.abc import Iterator, Sequence
 from dataclasses import dataclass
+from itertools import filterfalse
 from typing import Protocol
 
 from gregorio_chant.errors import UsageError
@@ -15,7 +16,7 @@ from gregorio_chant.export.volpiano import LETTERS, letter_of
 from gregorio_chant.objects.items import Note
 from gregorio_chant.objects.passages import text_of_syllables
 from gregorio_chant.objects.score import Score, rises_of
-from gregorio_chant.objects.syllables import Glyph, Syllable
+from gregorio_chant.objects.syllables import Glyph
 from gregorio_chant.tables.tables import Row
 from gregorio_chant.text.nearest import did_you_mean
 
@@ -75,27 +76,28 @@ def degrees_of(notes: Sequence[Note]) -> str:
     return " ".join(map(degree_of, notes))
 
 
-def _neumes(score: Score) -> Iterator[tuple[Syllable, Glyph]]:
-    return ((syllable, glyph) for syllable in score.syllables for glyph in syllable.glyphs)
+def _neumes(score: Score) -> Iterator[Glyph]:
+    return score.glyphs_in(0, score.past)
 
 
 def each_neume(score: Score) -> Iterator[Row]:
     """Yields a row for each neume."""
-    for syllable, it in _neumes(score):
-        yield Row.at(it.source, it.kind, it.spelling, degrees_of(it.notes), syllable.plain)
+    for it in _neumes(score):
+        yield Row.at(it.source, it.kind, it.spelling, degrees_of(it.notes), it.syllable.plain)
 
 
 def counted_neumes(score: Score) -> Iterator[Row]:
     """Yields a row for each kind of neume: how many there are, and the first one."""
-    count = Counter(it.kind for _, it in _neumes(score))
-    first: dict[str, tuple[Syllable, Glyph]] = {}
-    for syllable, it in _neumes(score):
-        first.setdefault(it.kind, (syllable, it))
-    for kind, (syllable, it) in first.items():
+    count = Counter[str]()
+    first: dict[str, Glyph] = {}
+    for it in _neumes(score):
+        count[it.kind] += 1
+        first.setdefault(it.kind, it)
+    for kind, it in first.items():
         yield Row(
             it.source.line,
             it.source.column,
-            (kind, count[kind], it.spelling, syllable.plain),
+            (kind, count[kind], it.spelling, it.syllable.plain),
             count[kind],
         )
 
@@ -150,11 +152,10 @@ class NeumeSearch:
         return cls(pattern)
 
     def matches(self, score: Score) -> Iterator[Match]:
-        for syllable, it in _neumes(score):
+        for it in _neumes(score):
             if fnmatch.fnmatchcase(it.kind, self.pattern):
-                yield Match(
-                    it.notes, Row.at(it.source, it.spelling, degrees_of(it.notes), syllable.plain)
-                )
+                row = Row.at(it.source, it.spelling, degrees_of(it.notes), it.syllable.plain)
+                yield Match(it.notes, row)
 
 
 @dataclass(frozen=True)
@@ -215,11 +216,17 @@ class VolpianoSearch:
             at = melody.find(self.letters, at + 1)
 
 
+def without_accents(text: str) -> str:
+    """Returns `text` without accents."""
+    return "".join(filterfalse(unicodedata.combining, unicodedata.normalize("NFD", text)))
+
+
 def folded(text: str) -> str:
     """Returns `text` in small letters without accents and without the signs at both ends."""
-    letters = "".join(
-        it for it in unicodedata.normalize("NFD", text) if not unicodedata.combining(it)
-    ).casefold()
+    letters = text if text.isascii() else without_accents(text)
+    letters = letters.casefold()
+    if letters.isalnum():
+        return letters
     inside = [at for at, it in enumerate(letters) if it.isalnum()]
     return letters[inside[0] : inside[-1] + 1] if inside else ""
 
@@ -234,12 +241,7 @@ class TextSearch:
     @classmethod
     def of(cls, words: str) -> TextSearch:
         """Raises `UsageError` where there is no word."""
-        patterns = tuple(
-            "".join(
-                c for c in unicodedata.normalize("NFD", it) if not unicodedata.combining(c)
-            ).casefold()
-            for it in words.split()
-        )
+        patterns = tuple(without_accents(it).casefold() for it in words.split())
         if not patterns:
             raise UsageError('--text needs a word, as in "Kyri*"')
         return cls(patterns)
@@ -247,8 +249,9 @@ class TextSearch:
     def matches(self, score: Score) -> Iterator[Match]:
         words = score.words
         texts = [folded(it.text) for it in words]
-        for at in range(len(words) - len(self.patterns) + 1):
-            if all(fnmatch.fnmatchcase(text, it) for text, it in zip(texts[at:], self.patterns)):
+        fits = [re.compile(fnmatch.translate(it)).match for it in self.patterns]
+        for at in range(len(words) - len(fits) + 1):
+            if all(fit(it) for fit, it in zip(fits, texts[at : at + len(fits)])):
                 found = words[at : at + len(self.patterns)]
                 notes = tuple(note for it in found for note in it.notes)
                 yield Match(

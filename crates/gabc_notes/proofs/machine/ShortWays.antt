@@ -1,25 +1,22 @@
--- The short ways of the stage do what its general way does.
-use Rattle.std.proofs.Common.{◌≡◌, ℕ, ◌+◌, ◌-◌, ◌^◌, min, List, [], ◌∷◌, true, false, ◌==◌, refl, Option, Some, None, arith}
+-- The short way of the stage does what its general way does.
+use Rattle.std.proofs.Common.{◌≡◌, ℕ, ◌+◌, ◌-◌, ◌^◌, min, List, [], ◌∷◌, false, refl, Option, Some, None, arith}
 use Rattle.std.proofs.Math.Bool.{and-false, and-true}
-use Rattle.std.specs.Char.{len_utf8}
 use Rattle.gabc_places.specs.declared.place.Char.{Char}
 use Rattle.gabc_places.specs.BoundedList.{BoundedList, extended_by}
 use Rattle.gabc_places.specs.StageLaw.{Pushes}
 use Rattle.gabc_notes.specs.machine.CharClass.{class_of_character}
-use Rattle.gabc_notes.specs.machine.ItemMachine.{IsShortStep, attribute_state, next_state, prefix_with, raw_state, facts_by_states, stage_after, stage_kept, whole_at}
+use Rattle.gabc_notes.specs.machine.ItemMachine.{IsShortStep, next_state, facts_by_states, stage_after, stage_kept}
 use Rattle.gabc_notes.specs.witness.ItemMachine.{events_left}
 use Rattle.gabc_notes.specs.witness.StageEvents.{role_in, warning_in, events_in, event_list}
 use Rattle.gabc_notes.specs.declared.stage.Before.{Before}
 use Rattle.gabc_notes.specs.declared.stage.CharFacts.{CharFacts}
-use Rattle.gabc_notes.specs.declared.macro_prefix.MacroPrefix.{MacroPrefix}
 use Rattle.gabc_notes.specs.declared.macro_prefix.MacroPrefix.TheVariants.{Closed}
 use Rattle.gabc_notes.specs.declared.stage.NoteEvent.{NoteEvent}
 use Rattle.gabc_notes.specs.declared.stage.NoteEvent.TheVariants.{Kept}
 use Rattle.gabc_notes.specs.declared.stage.NoteStage.{NoteStage}
 use Rattle.gabc_notes.specs.declared.stage.CharRole.{CharRole}
-use Rattle.gabc_notes.specs.declared.stage.CharRole.TheVariants.{Ends, Keep}
+use Rattle.gabc_notes.specs.declared.stage.CharRole.TheVariants.{Keep}
 use Rattle.gabc_notes.specs.declared.state.ItemState.{ItemState}
-use Rattle.gabc_notes.proofs.grammar.InsideRawIsAnOpenBracket.{raw_not_whole, raw_stays}
 use Rattle.gabc_notes.proofs.machine.StageEmitsItsEvents.{push_law, push_emits}
 
 -- ---- a character on the short way
@@ -39,26 +36,13 @@ module _ (st : NoteStage) (x : Char) (z : ItemState) (comment : st.before.commen
   pub note_stage : (kept : ℕ) → kept ≡ min (st.before.kept + 1) (2 ^ 64 - 1) → note_made st z kept x ≡ stage_kept st z x
   note_stage kept h = rw (h, comment, step.outside, step.outside_after, step.whole_after, step.is_byte, step.opens_nothing, step.closes_nothing, and-true st.before.fused) refl
 
-  pub note_emits : (next : NoteStage) (old new : BoundedList NoteEvent) → st.ended ≡ false → next ≡ stage_kept st z x → new ≡ extended_by old (Kept x ∷ [])
+  kept_emits : (next : NoteStage) (old new : BoundedList NoteEvent) → st.ended ≡ false → next ≡ stage_kept st z x → new ≡ extended_by old (Kept x ∷ [])
       → Pushes (events_left st) (events_left next) x 3 old new
-  note_emits next old new f n p = grind (arith, push_emits, note_role)
+  kept_emits next old new f n p = grind (arith, push_emits, note_role)
 
--- ---- a character inside raw that does not end it
-
-no_attribute : (s : ItemState) → raw_state s ≡ true → attribute_state s ≡ false
-no_attribute s e = grind arith
-
-module _ (st : NoteStage) (x : Char) (comment : st.before.comment ≡ false) (inside : raw_state st.state ≡ true) (other : (x.c == 93) ≡ false) where
-  inside_events : event_list (events_in Keep st.macros st.before (short_facts st st.state) x) ≡ Kept x ∷ []
-  inside_events = rw (inside, no_attribute st.state inside) refl
-
-  pub inside_stage : (n : MacroPrefix) (kept : ℕ) → n ≡ prefix_with st.name x.c → kept ≡ min (st.before.kept + len_utf8 x.c) (2 ^ 64 - 1)
-      → record st { name = n; before = record st.before { kept = kept } } ≡ stage_kept st st.state x
-  inside_stage n kept e h = rw (e, h, comment, inside, raw_not_whole st.state inside) refl
-
-  pub inside_emits : (next : NoteStage) (old new : BoundedList NoteEvent) → st.ended ≡ false → next ≡ stage_kept st st.state x → new ≡ extended_by old (Kept x ∷ [])
-      → Pushes (events_left st) (events_left next) x 3 old new
-  inside_emits next old new f n p = grind (arith, push_emits, raw_stays, inside_events)
+  pub note_emits : (kept : ℕ) (old new : BoundedList NoteEvent) → st.ended ≡ false → kept ≡ min (st.before.kept + 1) (2 ^ 64 - 1) → new ≡ extended_by old (Kept x ∷ [])
+      → Pushes (events_left st) (events_left (note_made st z kept x)) x 3 old new
+  note_emits kept old new f h p = kept_emits (note_made st z kept x) old new f (note_stage kept h) p
 
 -- ---- a character that is kept with no warning
 
@@ -74,16 +58,3 @@ kept_taken st next x o e r w xs f g h k kept m none n = grind (arith, push_law)
 pub emits_otherwise : (r : CharRole) (macros : ℕ) (b : Before) (e : CharFacts) (x : Char) (w : Option NoteEvent) → w ≡ warning_in macros b e x → (r ≡ Keep → w ≡ None → ⊥)
     → event_list (events_in r macros b e x) ≡ Kept x ∷ [] → ⊥
 emits_otherwise r macros b e x w m h k = grind arith
-
--- ---- the end at a `)`
-
-pub whole_is : (s : ItemState) (o : Option ItemState) (n : MacroPrefix) → (facts_by_states s o n).whole ≡ whole_at s
-whole_is s o n = grind arith
-
--- what is known of the character
-abbrev pub facts_of : NoteStage → Char → CharFacts
-facts_of st x = facts_by_states st.state (next_state st.state (class_of_character x.c)) st.name
-
-pub close_emits : (st : NoteStage) (x : Char) (old new : BoundedList NoteEvent) → st.ended ≡ false → st.before.comment ≡ false → raw_state st.state ≡ false → x.c ≡ 41
-    → new ≡ extended_by old (event_list (events_in Ends st.macros st.before (facts_of st x) x)) → Pushes (events_left st) (events_left (record st { ended = true })) x 3 old new
-close_emits st x old new f comment outside close p = grind arith

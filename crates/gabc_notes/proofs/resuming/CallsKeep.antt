@@ -1,5 +1,5 @@
 -- What the calls of a stage do to the text that it keeps.
-use Rattle.std.proofs.Common.{arith, ◌≡◌, ◌==◌, List, [], ◌∷◌, true, false, Option, length, drop, sym, ap, ◌∙◌, subst}
+use Rattle.std.proofs.Common.{arith, ◌≡◌, List, [], ◌∷◌, false, Option, length, drop, sym, ap, ◌∙◌, subst}
 use Rattle.std.proofs.Math.Seq.{drop-append_seam}
 use Rattle.gabc_places.specs.BoundedList.{BoundedList}
 use Rattle.gabc_places.specs.StageLaw.{Pushes}
@@ -7,14 +7,13 @@ use Rattle.gabc_places.specs.declared.place.Char.{Char}
 use Rattle.gabc_notes.specs.witness.ItemMachine.{events_left}
 use Rattle.gabc_notes.specs.witness.Keeps.{KeepsOn, Steps}
 use Rattle.gabc_notes.specs.witness.StageEvents.{role_in}
-use Rattle.gabc_notes.specs.machine.ItemMachine.{IsShortStep, raw_state, facts_by_states, stage_after, stage_kept}
+use Rattle.gabc_notes.specs.machine.ItemMachine.{IsShortStep, facts_by_states, stage_after, stage_kept}
 use Rattle.gabc_notes.specs.machine.StageAfter.{next_of, stage_after_one, events_of_push}
 use Rattle.gabc_notes.specs.declared.stage.CharFacts.{CharFacts}
 use Rattle.gabc_notes.specs.declared.stage.CharRole.{CharRole}
 use Rattle.gabc_notes.specs.declared.stage.NoteEvent.{NoteEvent}
 use Rattle.gabc_notes.specs.declared.stage.NoteStage.{NoteStage}
 use Rattle.gabc_notes.specs.declared.state.ItemState.{ItemState}
-use Rattle.gabc_notes.proofs.grammar.InsideRawIsAnOpenBracket.{raw_stays}
 use Rattle.gabc_notes.proofs.resuming.KeptTextGivesStage.{emits_on}
 use Rattle.gabc_notes.proofs.resuming.StagesKeep.{push_keeps}
 
@@ -28,14 +27,6 @@ read_state s next x o facts role on eo ef er e = cc
 -- the short way to a state
 pub short_state : (s : NoteStage) (x : Char) (z : ItemState) → s.ended ≡ false → s.before.comment ≡ false → IsShortStep s.state x.c z → stage_kept s z x ≡ stage_after_one s x
 short_state s x z on no_comment step = grind arith
-
--- the one inside raw
-pub inside_state : (s : NoteStage) (x : Char) → s.ended ≡ false → s.before.comment ≡ false → raw_state s.state ≡ true → (x.c == 93) ≡ false → stage_kept s s.state x ≡ stage_after_one s x
-inside_state s x on no_comment inside other = grind (arith, raw_stays)
-
--- the one of a `)`
-pub close_state : (s : NoteStage) (x : Char) → s.ended ≡ false → s.before.comment ≡ false → raw_state s.state ≡ false → x.c ≡ 41 → record s { ended = true } ≡ stage_after_one s x
-close_state s x on no_comment outside close = grind arith
 
 -- ---- what is kept
 

@@ -21,7 +21,7 @@ use Rattle.gabc_score.specs.machine.PartSteps.{IsBounded, PartSteps, SnippetStep
 use Rattle.gabc_score.specs.machine.PartSteps as step
 use Rattle.gabc_text.specs.witness.Steps as text
 
--- the part after a character, where the snippet ended at a `|`, at a `)`, or not
+-- the part after a character, by whether the snippet ended at a `|`, at a `)`, or not
 abbrev part_then : ℕ → ℕ → ℕ → Place → Place → (List Char → PartAhead) → Bool → Bool → List Char → PartAhead
 part_then lines macros line opened at goes next close xs =
     if next then snippet_from lines macros (next_line lines line) opened xs else

@@ -1,4 +1,5 @@
--- What a part of a body makes with its events: a syllable that holds a unit, where a snippet closes, and else none.
+-- What a part of a body makes with its events: a syllable that holds a unit, if a snippet closes,
+-- and else none.
 use Rattle.std.proofs.Common.{◌≡◌, ℕ, ◌+◌, ◌-◌, ◌^◌, min, Bool, true, false, List, [], ◌∷◌, ◌++◌, length, nat_lt, codes, refl, sym, ap, subst, ◌∙◌, arith, append_assoc}
 use Rattle.std.proofs.lemmas.Bool.{true≢false}
 use Rattle.std.proofs.lemmas.List.Elements.{All-push}
@@ -92,7 +93,7 @@ unfolding FollowEach
 follow_push p [] m h k = (k, tt)
 follow_push p (s ∷ ms) m h k = (h.0, follow_push (with_one p s) ms m h.1 k)
 
--- snippets end at a `|` only where there are NABC lines
+-- snippets end at a `|` only if there are NABC lines
 none_ended : (lines macros : ℕ) (ss : List (List ℕ)) → AreEnded lines macros 0 ss → lines ≡ 0 → length ss ≡ 0
 none_ended lines macros [] h e = refl
 none_ended lines macros (s ∷ ss) h e = absurd (true≢false (sym h.0.0 ∙ ap (nat_lt 0) e))

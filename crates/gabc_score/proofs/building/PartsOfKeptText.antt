@@ -163,7 +163,7 @@ pub stays : (spans : Spans) (g h : Gathered) → h.made ≡ g.made → spans_pas
 stays spans g h e = ap (λ (made : List UnplacedSyllable). cond (nat_lt (length g.made) (length made)) (record { eu = h.eu; nlba = h.nlba }) spans) e ∙ ap (λ (b : Bool). cond b (record { eu = h.eu; nlba = h.nlba }) spans) (same_ltb (length g.made))
 
 module _ (lines macros : ℕ) where
-  -- where nothing was made, the spans before the syllable stay
+  -- if nothing was made, the spans before the syllable stay
   pub read_on : (before after : BodyPart) (spans : Spans) (g h : Gathered) → h.made ≡ g.made → IsReading lines macros after spans h → IsReading lines macros after (spans_past spans g h) h
   read_on before after spans g h e r = subst (λ (s : Spans). IsReading lines macros after s h) (sym (stays spans g h e)) r
 

@@ -149,7 +149,7 @@ module _ (lines macros : ℕ) (x : Char) where
           opener = subst (λ (o : Option Place). (o ≡ None) ⊎ ((o ≡ tells.opener_of s) ⊎ (o ≡ Some x.place))) (sym g.opener) (after (in_raw (k ++ kept_of es)) (tells.opener_of s));
         }
 
-    -- a `|` ends it only where snippets are split
+    -- a `|` ends it only if snippets are split
     splits : (b r : Bool) → x.c ≡ 124 → (b && (r && ((x.c == 41) || (split && (x.c == 124))))) ≡ true → split ≡ true
     splits b r c = grind (arith, and_parts)
 

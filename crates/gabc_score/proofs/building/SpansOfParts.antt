@@ -21,7 +21,7 @@ use Rattle.gabc_score.specs.machine.PartKeeps.{in_notes, line_after, snippet_eve
 use Rattle.gabc_body.specs.witness.TextEvents.{kept_char, text_events}
 use Rattle.gabc_body.proofs.gathering.BuilderHoldsDefinition.{gathered}
 use Rattle.gabc_body.proofs.emitted.EventsOfSyllableParts.{onto_append}
-use Rattle.gabc_score.proofs.resuming.MadeOfEvents.{MadeAlike, made_after}
+use Rattle.gabc_score.proofs.resuming.SyllablesOfEvents.{MadeAlike, made_after}
 use Rattle.gabc_body.proofs.syllables_of_units.OpenSpans.{opened, leaves_open}
 use Rattle.gabc_body.proofs.syllables_of_units.LastTagOpensTheSpan.{after_tags, text_opens_span}
 

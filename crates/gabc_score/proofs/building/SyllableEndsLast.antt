@@ -24,7 +24,7 @@ pub ends_last : {O : Type 0} (ends : O → Bool) (es : List O) → ((before afte
 ends_last ends [] h = tt
 ends_last ends (e ∷ es) h = (h [] es e refl, ends_last ends es (λ before after x k. h (e ∷ before) after x (ap (λ ys. e ∷ ys) k)))
 
--- so it is where a push to an empty room stops at an end
+-- so it is if a push to an empty room stops at an end
 pub pushed_last : {O R : Type 0} (ends stops : O → Bool) → ((x : O) → ends x ≡ true → stops x ≡ true) → (old new : BoundedList O) → old.items ≡ [] → new.limit ≡ old.limit
     → ((before after : List O) (x : O) → new ≡ extended_by old (before ++ x ∷ after) → stops x ≡ true → (after ≡ []) × R) → EndsLast ends new.items
 pushed_last ends stops imp old new none limit stop = grind (arith, ends_last)

@@ -14,7 +14,7 @@ use Rattle.gabc_body.proofs.by_kept.ReadingStands.{Fits}
 some_made : (ms : List UnplacedSyllable) (m : UnplacedSyllable) → ms ++ m ∷ [] ≡ [] → ⊥
 some_made ms m e = let n = ap (λ (ns : List UnplacedSyllable). length ns) e in omega (arith, n, length-append ms (m ∷ []))
 
--- where no syllable was made, all events are those of the first
+-- if no syllable was made, all events are those of the first
 pub none_closes : (before : List BodyEvent) → all_syllables before ≡ [] → since_close before ≡ before
 none_closes [] h = refl
 none_closes (t ∷ before) h = by (closes t) (syllable_by (t ∷ since_close before) (is_eu before) (is_nlba before)) h (none_closes before)

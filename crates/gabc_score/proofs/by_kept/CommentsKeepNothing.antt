@@ -1,4 +1,4 @@
--- Of a text no more characters are kept than it has, and fewer where a comment is open after it.
+-- Of a text no more characters are kept than it has, and fewer if a comment is open after it.
 use Rattle.std.proofs.Common.{◌≡◌, ◌==◌, ◌&&◌, not, ℕ, ◌+◌, ◌≤◌, Bool, true, false, cond, List, [], ◌∷◌, ◌++◌, length, length-append, Some, None, refl, sym, ap, subst, arith}
 use Rattle.gabc_places.specs.Fate.{Fate, Keep, Comment, Ends, LeaveOut}
 use Rattle.gabc_places.specs.declared.place.Char.{Char}

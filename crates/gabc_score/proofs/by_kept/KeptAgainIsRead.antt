@@ -127,7 +127,7 @@ module _ (lines macros : ℕ) where
         by true = refl
         by false = refl
 
-    -- it is not kept exactly where it begins a comment
+    -- it is not kept exactly if it begins a comment
     adds_none : (with_percent.reading.before ++ with_percent.reading.kept ≡ b.reading.before ++ b.reading.kept) ↔ (fate ≡ Comment)
     unfolding with_percent
     adds_none = (
@@ -168,7 +168,7 @@ module _ (alike : TextsGoByKept) (laws : StageLaws) (reads : FromBeginning) (lin
   lists_are : lists lines macros t ≡ left
   lists_are = body_is texts_by_definition lines macros (placed_characters_from first_place t) (InText (texts_by_definition first_place (placed_characters_from first_place t)))
 
-  -- where all of it is kept, what is open is what is read
+  -- if all of it is kept, what is open is what is read
   module _ (kept : kept_of (emitted lines macros t) ≡ encode_utf8_all t) (none : all_syllables (emitted lines macros t) ≡ []) (kept_read : (let r = (read_alone lines macros t).reading in r.before ++ r.kept) ≡ t) where
     abbrev openers_there : Openers
     openers_there = record { notes = notes_at (placed lines macros t) (lists lines macros t); inner = if is_inside lines macros t then Some first_place else None }

@@ -1,4 +1,4 @@
--- A text that is read as one syllable where spans are open.
+-- A text that is read as one syllable after open spans.
 use Rattle.std.proofs.Common.{◌≡◌, ℕ, ◌<◌, ◌≤◌, List, [], ◌∷◌, ◌++◌, length, take, false, refl, sym, ap, subst, ◌∙◌, append-nil, arith}
 use Rattle.std.specs.Prelude.{◌↔◌}
 use Rattle.std.specs.List.{All}
@@ -32,7 +32,7 @@ use Rattle.gabc_body.proofs.by_kept.BodyStandsRead.{kept_stands}
 use Rattle.gabc_body.proofs.by_kept.PrefixesAreRead.{StandsFurther, further}
 use Rattle.gabc_body.proofs.by_kept.ReadingStands.{Fits, counts_fit, codes_placed, Stands}
 use Rattle.gabc_body.proofs.order.FindingsOfParts.{found, found_onto}
-use Rattle.gabc_score.proofs.resuming.MadeOfEvents.{MadeAlike, made_after}
+use Rattle.gabc_score.proofs.resuming.SyllablesOfEvents.{MadeAlike, made_after}
 use Rattle.gabc_body.proofs.syllables_of_units.OpenSpans.{opened, leaves_open}
 
 module _ (alike : TextsGoByKept) (lines macros : ℕ) (t : List ℕ) (spans : Spans) (fits : Fits first_place t 0) where

@@ -122,7 +122,7 @@ module _ (lines : ℕ) (text : List ℕ) (n line k : ℕ) (utf8 : IsUtf8 text) (
 
 -- ---- the syllable
 
--- A gap, a regular text, a `(` and snippets are a regular syllable of these bytes, where the bytes
+-- A gap, a regular text, a `(` and snippets are a regular syllable of these bytes, if the bytes
 -- after the gap are plain.
 module _ (lines : ℕ) (text : List ℕ) (gap k : ℕ) (utf8 : IsUtf8 text) (within : gap ≤ length text) (blanks : IsPlainGap (take gap text))
     (word : IsText (take k (drop gap text))) (regular : IsRegularText (chars (take k (drop gap text))))

@@ -94,7 +94,8 @@ pub record Fits (limits : Limits) (g : Gathered) : Type 0 where
 fits_any : (limits : Limits) (g : Gathered) (ms : List UnplacedSyllable) → Fits limits g → code_in limits (record g { made = ms }) ≡ None
 fits_any limits g ms f = none_passed limits (record g { made = ms }) (record { kept = f.kept; over = f.over; file = λ some. f.total })
 
--- With the last of these lists one syllable is made. Nothing is found, no limit is passed, and where neither a note nor a clef has come, none comes.
+-- With the last of these lists one syllable is made. Nothing is found, no limit is passed, and if
+-- neither a note nor a clef has come, none comes.
 pub record Gathers (limits : Limits) (g : Gathered) (lists : List (List BodyEvent)) (m : UnplacedSyllable) : Type 0 where
   pub none : g.made ≡ []
   pub sounded : is_some (with_all g (concat_of lists)).first_kind ≡ is_some g.first_kind
@@ -138,7 +139,7 @@ module _ (limits : Limits) (lent : Bool) (ms : List UnplacedSyllable) (few : len
   abbrev pub holding : Place → Gathered → HeldScore
   holding next g = record { next = next; gathered = record g { made = ms }; has_lent = lent }
 
-  -- holding this one, where those before it are given
+  -- holding this one, if those before it are given
   abbrev pub holding_one : Place → Gathered → UnplacedSyllable → HeldScore
   holding_one next g m = record { next = next; gathered = record g { made = m ∷ [] }; has_lent = lent || nat_lt 0 (length ms) }
 

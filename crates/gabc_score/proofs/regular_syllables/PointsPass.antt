@@ -1,4 +1,4 @@
--- A score passes the characters of its body one by one, where no limit is passed.
+-- A score passes the characters of its body one by one, if no limit is passed.
 use Rattle.std.proofs.Common.{◌≡◌, List, [], ◌∷◌, ◌++◌, map, None, refl, ap, arith}
 use Rattle.gabc_places.specs.declared.limits.Limits.{Limits}
 use Rattle.gabc_places.specs.declared.place.Char.{Char}

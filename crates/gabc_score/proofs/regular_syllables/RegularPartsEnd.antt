@@ -56,7 +56,7 @@ module _ (lines : ℕ) where
       EndsOnce at (codes_of xs) → after_tokens (codes_of xs) ≡ codes_of (end ∷ rest) → EndsAfter lines (text_from texts_by_definition at xs) prefix Opens)
   text_ends at prefix end rest e h = grind (arith, length_back, codes_append, length_of_codes, ends_there)
 
--- what is found in a text through some of its characters, where nothing is found in all
+-- what is found in a text through some of its characters, if nothing is found in all
 pub text_none : (lists : List (List TextEvent)) (xs : List Char) → found_in (concat_of lists) ≡ [] → found (concat_of (events_through (InText lists) xs)) ≡ []
 text_none lists xs h =
     let n = suc (length xs) in

@@ -1,8 +1,7 @@
 -- A regular syllable makes its own spelling.
-use Rattle.std.proofs.Common.{◌≡◌, ◌⊎◌, inr, ℕ, zero, suc, ◌+◌, ◌<◌, ◌^◌, ◌%◌, nat_lt, Bool, true, false, cond, List, [], ◌∷◌, ◌++◌, map, length, take, take_at, Option, Some, None, refl, sym, ap, ap₂, subst, ◌∙◌, arith, append_assoc, append-nil, length-append, codes}
+use Rattle.std.proofs.Common.{◌≡◌, ◌⊎◌, inr, ℕ, zero, suc, ◌+◌, ◌<◌, ◌^◌, ◌%◌, nat_lt, Bool, true, false, cond, List, [], ◌∷◌, ◌++◌, map, length, take, take_at, Option, Some, None, refl, sym, ap, ap₂, subst, ◌∙◌, arith, append_assoc, append-nil, codes}
 use Rattle.std.specs.List.{flat_map}
 use Rattle.std.proofs.Math.Nat.{mod-eq_of_lt}
-use Rattle.std.proofs.Math.Numerals.{add-one}
 use Rattle.std.proofs.lemmas.Str.{encodes-append, encode_ascii}
 use lib.Utf8.{encodes}
 use Rattle.gabc_text.proofs.KeptCharacters.{codes_placed}
@@ -40,17 +39,18 @@ use Rattle.gabc_body.specs.Body.{findings_of}
 use Rattle.gabc_body.specs.Canonical.{canonical, translation_text, with_bars}
 use Rattle.gabc_body.specs.Events.{texts_by_definition, text_from, snippet_from, next_line}
 use Rattle.gabc_body.specs.Holding.{ReadSnippet, kept_on_line, in_brackets, IsHeld}
-use Rattle.gabc_score.specs.RegularSyllable.{SaysText, SyllableParts, line_and_text, snippet_texts, with_lines, IsRegularOn, AreRegularFrom, IsRegularSyllable, has_gap, gap_kept, kept_spelled, canonical_spelled, notes_spelled, spelled, after_part, nexts_at, final_at, unit_at}
+use Rattle.gabc_score.specs.RegularSyllable.{SaysText, SyllableParts, line_and_text, snippet_texts, snippets_spelled, with_lines, IsRegularOn, AreRegularFrom, IsRegularSyllable, has_gap, gap_kept, kept_spelled, canonical_spelled, notes_spelled, spelled, after_part, nexts_at, final_at, unit_at}
 use Rattle.gabc_body.specs.Syllable.{UnplacedSyllable, since_close, slice}
 use Rattle.gabc_body.specs.SyllablesOfUnits.{HoldsUnit, NotesAre, ScoreUnit, score_unit, characters_in, characters_from}
 use Rattle.gabc_body.specs.UnitRead.{GivesOneSyllable, first_events, emitted_through}
 use Rattle.gabc_body.specs.Units.{Closes, EndedPart, BodyUnit, JustText, CutPart, Cuts, cut_part, whole, snippets_with, units_pieces}
-use Rattle.gabc_body.proofs.holding.SnippetsAreHeld.{bytes_stand, next_turn}
+use Rattle.gabc_body.proofs.holding.SnippetsAreHeld.{bytes_stand}
 use Rattle.gabc_body.proofs.holding.SpansBetweenCharacters.{part_text}
 use Rattle.gabc_body.proofs.order.FindingsOfParts.{found, found_onto}
 use Rattle.gabc_body.proofs.holding.PartsAreAUnit.{none_left}
 use Rattle.gabc_score.proofs.resuming.PartsAreOne.{nothing_marked}
 use Rattle.gabc_score.proofs.regular_syllables.RegularPartsEnd.{head_same, tail_same, next_ends, close_ends}
+use Rattle.gabc_score.proofs.regular_syllables.SnippetsInARow.{kept_texts, turn_after, in_a_row, first_byte}
 use Rattle.gabc_score.proofs.regular_syllables.RegularSyllableIsRead.{notes_at, unit_placed, syllable_passes, text_there, split_of, splits}
 use Rattle.gabc_body.proofs.syllables_of_units.UnitGivesOneSyllable.{one_syllable}
 use Rattle.gabc_body.proofs.syllables_of_units.UnitsGiveSyllables.{units_whole}
@@ -62,9 +62,6 @@ one_byte c t h = ap (λ (bs : List ℕ). bs ++ encodes t) (encode_ascii c (omega
 
 with_byte : (a : List ℕ) (c : ℕ) (b : List ℕ) → c < 128 → encodes a ++ c ∷ encodes b ≡ encodes (a ++ c ∷ b)
 with_byte a c b h = ap (λ (k : List ℕ). encodes a ++ k) (sym (one_byte c b h)) ∙ sym (encodes-append a (c ∷ b))
-
-abbrev kept_texts : List ReadSnippet → List (List ℕ)
-kept_texts ss = map (λ (s : ReadSnippet). s.kept) ss
 
 -- ---- notes as they stand
 
@@ -120,7 +117,7 @@ on_lines lines all text (t ∷ nexts) final line before (s ∷ ss) l e h =
     ap₂ (λ (x : ℕ × List ℕ) (xs : List (ℕ × List ℕ)). x ∷ xs)
     (on_line lines all text before s line t l (h before ss s refl) (head_same s.kept t (kept_texts ss) (nexts ++ final ∷ []) e))
     (on_lines lines all text nexts final (next_line lines line) (before ++ s ∷ []) ss
-    (ap (next_line lines) l ∙ next_turn lines (length before) ∙ ap (λ (m : ℕ). m % (lines + 1)) (sym (length-append before (s ∷ []) ∙ add-one (length before))))
+    (turn_after lines line before s l)
     (tail_same s.kept t (kept_texts ss) (nexts ++ final ∷ []) e) (λ b a z k. h b a z (sym (append_assoc before (s ∷ []) ss) ∙ k)))
 
 module _ (gabc_again : (split : Bool) (macros : ℕ) (at : Place) (how : NoteEnd) (t rest : List ℕ) (mark : ℕ) → IsSnippet gabc t → IsMarkOf split how mark → IsReadAgain split macros at t mark rest)
@@ -149,7 +146,7 @@ module _ (gabc_again : (split : Bool) (macros : ℕ) (at : Place) (how : NoteEnd
         ap (λ (k : List ℕ). k ∷ kept_texts ss) (kept_here line at t before s l (h before ss s refl) (head_same s.characters (placed_characters_from at t) own rest e) r.0)
         ∙ ap (λ (ks : List (List ℕ)). t ∷ ks)
         (kept_all nexts final (after_part at t 124) (next_line lines line) (before ++ s ∷ []) ss
-        (ap (next_line lines) l ∙ next_turn lines (length before) ∙ ap (λ (m : ℕ). m % (lines + 1)) (sym (length-append before (s ∷ []) ∙ add-one (length before))))
+        (turn_after lines line before s l)
         r.1 (tail_same s.characters (placed_characters_from at t) own rest e) (λ b a z k. h b a z (sym (append_assoc before (s ∷ []) ss) ∙ k)))
 
 -- ---- the text as it stands
@@ -209,6 +206,7 @@ module _ (starts : (t : List ℕ) → (view_in t).word_start ≡ (view_facts t).
       pub canonical_is : (w : Bool) → canonical w m ≡ encodes (canonical_spelled w r)
       pub text_is : SaysText m r.text
       pub snippets_are : snippet_texts m ≡ with_lines lines 0 r.nexts r.final
+      pub spans_are : m.snippets ≡ snippets_spelled lines r
 
     pub held_spelled : (m : UnplacedSyllable) → HoldsUnit lines u m → Spelled m
     held_spelled m h = by u.snippets refl h.notes
@@ -224,10 +222,12 @@ module _ (starts : (t : List ℕ) → (view_in t).word_start ≡ (view_facts t).
         by (xs ∷ xss) e n =
             let k = n.holds in
             let ss = k.earlier ++ k.last ∷ [] in
+            let turn : 0 ≡ 0 % (lines + 1) = sym (mod-eq_of_lt (let some : zero < lines + 1 = omega arith in some)) in
             let kepts : kept_texts ss ≡ r.nexts ++ r.final ∷ [] =
-            kept_all gabc_again nabc_again lines h.whole (kept u.text) r.nexts r.final (after_part at (r.gap ++ r.text) 40) 0 [] ss (sym (mod-eq_of_lt (let some : zero < lines + 1 = omega arith in some))) regular.notes n.characters_are k.each in
+            kept_all gabc_again nabc_again lines h.whole (kept u.text) r.nexts r.final (after_part at (r.gap ++ r.text) 40) 0 [] ss turn regular.notes n.characters_are k.each in
+            let front : kept u.text ≡ gap_kept r.gap ++ r.text = ap kept unit_text ∙ text_kept kept_alone kept_after r.gap r.text notes regular.blanks regular.text in
             let whole_is : h.whole ≡ kept_spelled r =
-            k.whole_is ∙ ap (λ (t : List ℕ). t ++ in_brackets (λ (s : ReadSnippet). s.kept) k.earlier k.last) (ap kept unit_text ∙ text_kept kept_alone kept_after r.gap r.text notes regular.blanks regular.text)
+            k.whole_is ∙ ap (λ (t : List ℕ). t ++ in_brackets (λ (s : ReadSnippet). s.kept) k.earlier k.last) front
             ∙ ap (λ (t : List ℕ). (gap_kept r.gap ++ r.text) ++ 40 ∷ t) (brackets k.earlier k.last r.nexts r.final kepts) in
             let spelled_bars : with_bars m.kept m.snippets ++ codes ")" ≡ encodes notes =
             ap (λ (bytes : List ℕ). with_bars bytes m.snippets ++ codes ")") h.kept_is ∙ ap (λ (ps : List Snippet). with_bars (encodes h.whole) ps ++ codes ")") k.snippets_are
@@ -244,7 +244,8 @@ module _ (starts : (t : List ℕ) → (view_in t).word_start ≡ (view_facts t).
               starts_is = ap (λ (v : ViewContent). v.word_start) text_is ∙ starts ((r.gap ++ r.text) ++ 40 ∷ notes) ∙ ap (λ (v : ViewFacts). v.word_start) says;
               text_is = said;
               snippets_are = ap (λ (bytes : List ℕ). map (line_and_text bytes) m.snippets) h.kept_is ∙ ap (map (line_and_text (encodes h.whole))) k.snippets_are
-                  ∙ on_lines lines h.whole (kept u.text) r.nexts r.final 0 [] ss (sym (mod-eq_of_lt (let some : zero < lines + 1 = omega arith in some))) kepts k.each;
+                  ∙ on_lines lines h.whole (kept u.text) r.nexts r.final 0 [] ss turn kepts k.each;
+              spans_are = k.snippets_are ∙ in_a_row lines h.whole (kept u.text) r.nexts r.final 0 _ [] ss turn (first_byte (kept u.text) _ front) kepts k.each;
               canonical_is = λ w. canonical_by w (canonical_text m.text m.kept) (translation_text m.kept m.text.translation) r.text notes (with_bars m.kept m.snippets) (whole_said m r.text regular.text said) spelled_bars;
             }
 

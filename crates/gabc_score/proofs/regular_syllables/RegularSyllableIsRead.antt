@@ -38,7 +38,7 @@ notes_placed at (s ∷ nexts) final = grind (arith, notes_placed (after_part at 
 pub unit_placed : (at : Place) (r : SyllableParts) → characters_in (unit_at at r) ≡ placed_characters_from at (spelled r)
 unit_placed at r = grind (arith, notes_placed, placed_append)
 
--- where more than one snippet stands, there are NABC lines
+-- if more than one snippet stands there, there are NABC lines
 pub splits : (t : List ℕ) (nexts : List (List ℕ)) (lines : ℕ) → ((t ∷ nexts) ≡ []) ⊎ (nat_lt 0 lines ≡ true) → nat_lt 0 lines ≡ true
 splits t nexts lines h = grind arith
 

@@ -1,5 +1,5 @@
--- A regular syllable is read between two syllables: what was held is given, and what it makes is
--- held.
+-- A regular syllable is read between two syllables: the held one is given, and the one that it
+-- makes is held.
 use Rattle.std.proofs.Common.{◌≡◌, ℕ, ◌<◌, ◌≤◌, ◌||◌, nat_lt, true, false, List, [], ◌∷◌, ◌++◌, map, length, take, take_all, take-take, take_at, length-take-le, is_some, refl, sym, ap, subst, ◌∙◌, arith, append_assoc, append-nil, length-append}
 use Rattle.std.specs.List.{list_any}
 use Rattle.std.proofs.lemmas.List.{append_cancel_left}
@@ -43,7 +43,7 @@ use Rattle.gabc_body.proofs.holding.PartsAreAUnit.{none_left}
 use Rattle.gabc_score.proofs.regular_syllables.RegularSyllableIsRead.{unit_placed}
 use Rattle.gabc_score.proofs.regular_syllables.SpellingIsShort.{canonical_short, keeps_within}
 use Rattle.gabc_score.proofs.regular_syllables.UnitIsGathered.{unit_gathers, unit_is_gathered}
-use Rattle.gabc_score.proofs.resuming.HeldIsRead.{alone_of}
+use Rattle.gabc_score.proofs.resuming.OneSyllableByCharacters.{alone_of}
 use Rattle.gabc_body.proofs.syllables_of_units.OpenSpans.{opened, leaves_open, none_cut}
 
 module _ (lines macros : ℕ) (at : Place) (r : SyllableParts) (regular : IsRegularSyllable lines r) (fits : CountsFit at (spelled r)) where
@@ -108,6 +108,7 @@ module _ (lines macros : ℕ) (at : Place) (r : SyllableParts) (regular : IsRegu
       canonical_is = s.canonical_is;
       text_is = s.text_is;
       snippets_are = s.snippets_are;
+      spans_are = s.spans_are;
       unit = record { unit = units.score_unit unit []; noted = none_left (λ (e : EndedPart). e.characters) unit.nexts unit.final; single = single; holds = s.one.holds };
       tags = tags_are says_alone says_after;
       follows = record { eu = s.one.eu_is ∙ ap (eu_past m) (leaves_open spans).eu; nlba = s.one.nlba_is ∙ ap (nlba_past m) (leaves_open spans).nlba };

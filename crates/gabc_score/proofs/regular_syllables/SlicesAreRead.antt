@@ -1,4 +1,5 @@
--- A regular syllable is read from the slices that spell it: its text ends at the `(`, and each snippet at its mark.
+-- A regular syllable is read from the slices that spell it: its text ends at the `(`, and each
+-- snippet at its mark.
 use Rattle.std.proofs.Common.{◌≡◌, ◌⊎◌, inl, inr, ℕ, zero, suc, ◌+◌, ◌-◌, ◌<◌, List, [], ◌∷◌, ◌++◌, Bool, true, false, not, ◌==◌, length, take, drop, slice_index, refl, sym, ap, subst, ◌∙◌, arith, append_assoc, append-nil, length-append, take-append-drop, IsUtf8}
 use Rattle.std.specs.Str.{chars, IsCharBoundary}
 use Rattle.std.proofs.Math.Seq.{get_or-append_seam}
@@ -89,7 +90,7 @@ module _ (events : List Char → List (List NoteEvent)) (prefix : (xs ys zs : Li
 abbrev IsMark : ℕ → Type 0
 IsMark c = (c ≡ 41) ⊎ (c ≡ 124)
 
--- the end at a mark, where there are NABC lines
+-- the end at a mark, if there are NABC lines
 module _ (gabc_prefix : (split : Bool) (macros : ℕ) (xs ys zs : List Char) → take (length xs) (note_events split macros (xs ++ ys)) ≡ take (length xs) (note_events split macros (xs ++ zs)))
     (nabc_prefix : (xs ys zs : List Char) → take (length xs) (nabc_events (xs ++ ys)) ≡ take (length xs) (nabc_events (xs ++ zs))) where
   start : Place

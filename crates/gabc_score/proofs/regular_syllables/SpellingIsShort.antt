@@ -31,7 +31,7 @@ module _ (r : SyllableParts) where
   sizes : size (spelled r) ≡ (size r.gap + size r.text) + size notes
   sizes = size_append (r.gap ++ r.text) notes ∙ ap (λ (n : ℕ). n + size notes) (size_append r.gap r.text)
 
-  -- its canonical text, where an LF stands for blanks
+  -- its canonical text, in which an LF stands for blanks
   pub canonical_short : (m : UnplacedSyllable) → m.text.word_start ≡ has_gap r.gap → ((starts : Bool) → canonical starts m ≡ encodes (canonical_spelled starts r)) → length (canonical m.text.word_start m) ≤ size (spelled r)
   canonical_short m starts are = grind (arith, size_append, one_for_gap, sizes)
 

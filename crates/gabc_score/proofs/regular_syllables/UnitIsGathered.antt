@@ -37,7 +37,7 @@ use Rattle.gabc_body.proofs.gathering.BuilderHoldsDefinition.{gathered}
 use Rattle.gabc_body.proofs.order.FindingsOfParts.{found}
 use Rattle.gabc_score.proofs.regular_syllables.OneMore.{Fits, Gathers, stays_before}
 use Rattle.std.proofs.lemmas.Bool.{or_from}
-use Rattle.gabc_score.proofs.resuming.MadeOfEvents.{open_of, MadeAlike, made_after, Counts, counts_from, size_of}
+use Rattle.gabc_score.proofs.resuming.SyllablesOfEvents.{open_of, MadeAlike, made_after, Counts, counts_from, size_of}
 use Rattle.gabc_score.proofs.resuming.ScoresAgree.{same_but}
 use Rattle.gabc_score.proofs.score_events.WhatPrecedes.{preceded_all}
 

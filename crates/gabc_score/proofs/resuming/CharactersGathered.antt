@@ -1,4 +1,4 @@
--- What a machine gives at a character, where no syllable is given.
+-- What a machine gives at a character, if no syllable is given.
 use Rattle.std.proofs.Math.Bool.{or-false}
 use Rattle.std.proofs.Common.{◌≡◌, inl, inr, ℕ, ◌-◌, ◌≤◌, ◌||◌, ◌&&◌, ◌++◌, not, nat_lt, Bool, false, List, [], ◌∷◌, length, take, drop, Option, is_some, refl, sym, ap, ◌∙◌, arith}
 use Rattle.std.specs.List.{list_any}
@@ -26,7 +26,7 @@ use Rattle.gabc_body.specs.witness.Gatherer.{Gathered}
 use Rattle.gabc_score.specs.machine.PartPushes.{ClosesLast}
 use Rattle.gabc_score.specs.machine.ReadAlone.{is_error, is_error_event, ReadsAlone}
 use Rattle.gabc_score.specs.machine.ReadsChar.{Gathers, Passes, ReadsChar, found_past, past_char, stops, goes}
-use Rattle.gabc_score.specs.machine.ScoreMachine.{IsInBody}
+use Rattle.gabc_score.specs.machine.ScoreMachine.{has_given, IsInBody}
 use Rattle.gabc_score.specs.machine.ScoreStage.{placed_after, with_held}
 use Rattle.gabc_score.specs.machine.SlotPair.{SlotPairState}
 use Rattle.gabc_score.specs.witness.BodyStage.{BodyStageState}
@@ -39,7 +39,7 @@ use Rattle.gabc_score.proofs.score_events.WhatPrecedes.{same_or_closed}
 pub few_is : (n : ℕ) → n ≤ 1 → nat_lt 1 n ≡ false
 few_is n h = grind (arith, nat_tests, h)
 
--- ---- a character that is read where none is held
+-- ---- a character that is read while none is held
 
 any_event : (fs : List Finding) → list_any is_error_event (events_of (outputs_of fs [])) ≡ list_any is_error fs
 any_event [] = refl
@@ -68,7 +68,7 @@ pub held_all : (g : Gathered) → length g.made ≤ 1 → with_held g ≡ g
 held_all g few = ap (λ (ms : List UnplacedSyllable). record g { made = ms }) (few_dropped g.made few)
 
 module _ {old : ScoreMachine} {x : Char} {given left : BoundedList ScoreEvent} (part : old.part ≡ score_part.Body) (h : IsInBody old) (none : old.pair.gathered.made ≡ []) (empty : given.items ≡ []) where
-  -- where no limit is passed
+  -- if no limit is passed
   module _ {b : BodyStageState} {p : SlotPairState} {f : BoundedList Finding} {whole gave : Bool} {q : SlotPairState} {r : BoundedList Finding} (a : Gathers old x b p f) (s : Passes old x p f whole gave q r given left) where
     abbrev now : List BodyEvent
     now = b.events
@@ -87,7 +87,7 @@ module _ {old : ScoreMachine} {x : Char} {given left : BoundedList ScoreEvent} (
 
     -- n are given
     abbrev given_of : ℕ → List PlacedSyllable
-    given_of n = take n (placed_after old.has_lent p.gathered.made)
+    given_of n = take n (placed_after (has_given old) p.gathered.made)
 
     left_none : length p.gathered.made - 1 ≡ 0
     left_none = let is = ap (λ (k : Gathered). length k.made) a.gathered in omega (arith, few, is)

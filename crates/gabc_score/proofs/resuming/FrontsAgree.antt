@@ -1,4 +1,5 @@
--- In front of the first text the same is emitted as in a comment of a text that keeps nothing, where the characters stand in line.
+-- In front of the first text the same is emitted as in a comment of a text that keeps nothing, if
+-- the characters stand in line.
 use Rattle.std.proofs.Common.{◌≡◌, ◌==◌, ℕ, List, [], ◌∷◌, Bool, true, false, refl, sym, ap, ◌∙◌, subst, if◌then◌else◌, arith}
 use Rattle.std.proofs.lemmas.Bool.{eqb-true}
 use Rattle.gabc_places.specs.Place.{saturating_next_place}
@@ -25,7 +26,7 @@ use Rattle.gabc_score.specs.machine.PartKeeps.{in_text, PartKeeps}
 use Rattle.gabc_score.proofs.resuming.BeginsAnywhere.{front_is}
 use Rattle.gabc_score.specs.witness.BodyStage.{BodyStageState, part_with, running_events_left, texts_by_stage}
 
--- A comment in front of a text counts for nothing, where the text keeps nothing yet.
+-- A comment in front of a text counts for nothing, if the text keeps nothing yet.
 pub record CommentsCountForNothing : Type 0 where
   pub stays : (s : TextStage) (place : Place) → Keeps s [] → Keeps (text_reports.moved_to place s) []
   pub goes_on : (s : TextStage) (place : Place) → text.is_in_comment (text_reports.moved_to place s) ≡ text.is_in_comment s

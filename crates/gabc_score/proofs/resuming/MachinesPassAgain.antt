@@ -1,4 +1,5 @@
--- A machine in the body reads the next character of a kept text again: it passes no limit, and stays in the body.
+-- A machine in the body reads the next character of a kept text again: it passes no limit, and
+-- stays in the body.
 use Rattle.std.proofs.Common.{◌≡◌, ℕ, ◌≤◌, nat_lt, Bool, true, false, List, [], ◌∷◌, ◌++◌, length, Option, Some, None, is_some, encode_utf8, encode_utf8_all, refl, sym, ap, subst, ◌∙◌, arith, append-nil, append_assoc, length-append}
 use Rattle.std.proofs.lemmas.Bool.{true≢false}
 use Rattle.std.proofs.lemmas.Bool.Decides.{nat_tests}
@@ -26,7 +27,7 @@ use Rattle.gabc_body.specs.Syllable.{UnplacedSyllable}
 use Rattle.gabc_body.specs.witness.BodyBuilder.{code_in, with_all}
 use Rattle.gabc_body.specs.witness.Gatherer.{Gathered, with_event}
 use Rattle.gabc_score.specs.machine.PartKeeps.{KeptParts, in_text, in_notes, joined, PartKeeps}
-use Rattle.gabc_score.specs.machine.ReadAgain.{Adds, BeginsComment, BeginsIn, HasPassed, IsNext, IsToldBy, PassesAgain, Reads, StandsSo, TakesAgain, inner_of, moved, outer_of, place_in}
+use Rattle.gabc_score.specs.machine.ReadAgain.{Adds, BeginsComment, BeginsIn, HasPassed, IsNext, IsReportedBy, PassesAgain, Reads, StandsSo, TakesAgain, inner_of, moved, outer_of, place_in}
 use Rattle.gabc_score.specs.machine.ReadsChar.{Gathers}
 use Rattle.gabc_score.specs.machine.SlotPair.{SlotPairState, is_made}
 use Rattle.gabc_score.specs.machine.StageLaws.{Again, Ends}
@@ -39,7 +40,7 @@ use Rattle.gabc_score.proofs.resuming.PartsAreOne.{parts_are_one}
 use Rattle.gabc_score.proofs.score_events.EventsStayWithinBounds.{none_passed, limit_stays}
 use Rattle.gabc_score.proofs.building.SnippetsTakeCharacters.{on_nabc}
 
--- ---- what is counted, where no syllable becomes whole
+-- ---- what is counted, if no syllable becomes whole
 
 made_grows : (now : List BodyEvent) (g : Gathered) → length g.made ≤ length (with_all g now).made
 made_grows [] g = omega arith
@@ -81,7 +82,7 @@ past_prefix (d ∷ q) cs rest c e =
     let h = past_prefix q k.0 rest c k.2 in
     (h.0, k.1 ∙ ap (λ (l : List ℕ). d ∷ l) h.1)
 
--- where a comment is reported, a `%` begins one
+-- if a comment is reported, a `%` begins one
 module _ (again : Again) (ends : Ends) (lines macros : ℕ) where
   pub begins : (told : BodyPart) (p : KeptParts) → PartKeeps lines macros told p → is_in_front told ≡ false → is_in_comment told ≡ true → BeginsComment lines p
   begins part.Comment p keeps front comment_open = absurd (true≢false front)
@@ -101,7 +102,7 @@ module _ (again : Again) (ends : Ends) (stays : TextStays) (m : ScoreMachine) (c
   x = record { c = c; place = place }
 
   abbrev IsTold : BodyPart → List ℕ → Type 0
-  IsTold told kept = IsToldBy m.body.nabc_lines m.body.macros m.limits.syllable told kept
+  IsTold told kept = IsReportedBy m.body.nabc_lines m.body.macros m.limits.syllable told kept
 
   module _ (done : List ℕ) (h : StandsSo m openers done false) where
     abbrev p : PassesAgain (moved place m) x n

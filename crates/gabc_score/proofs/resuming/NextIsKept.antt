@@ -1,4 +1,5 @@
--- Where a part keeps the beginning of a kept text, the character after it is kept again, or ends what is read.
+-- If a part keeps the beginning of a kept text, the character after it is kept again, or ends what
+-- is read.
 use Rattle.std.proofs.Common.{◌≡◌, inl, inr, ◌==◌, ◌&&◌, ℕ, zero, suc, nat_lt, List, [], ◌∷◌, ◌++◌, true, false, refl, sym, ap, ◌∙◌, subst, append_assoc, arith}
 use Rattle.std.proofs.lemmas.Bool.{eqb-true}
 use Rattle.gabc_text.specs.declared.stage.TextStage.{TextStage}

@@ -1,4 +1,4 @@
--- Where nothing is read of a syllable, a text begins.
+-- If nothing is read of a syllable, a text begins.
 use Rattle.std.proofs.Common.{◌≡◌, ℕ, [], ◌∷◌, ◌++◌, sym, ap, subst, ◌∙◌, append_assoc, arith}
 use Rattle.std.proofs.lemmas.Str.{encodes_same}
 use Rattle.gabc_text.specs.witness.Keeps as text

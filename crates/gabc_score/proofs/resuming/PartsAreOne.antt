@@ -47,7 +47,8 @@ nothing_marked (x ∷ s) r mark e = cc
 pub outside : (t : List ℕ) → IsSnippet gabc t → in_raw t ≡ false
 outside t h = ap (λ (b : Bool). is_snippet gabc (t ++ codes "]") && not b) ((snippet_decides gabc refl t).1 h) ∙ and-false (is_snippet gabc (t ++ codes "]"))
 
--- What stages keep is kept again: of a text, and of a snippet of GABC. A `(` that ends a text is not.
+-- What stages keep is kept again: of a text, and of a snippet of GABC. A `(` that ends a text is
+-- not.
 module _ (again : Again) (lines macros : ℕ) where
   -- some stage keeps a snippet of that line
   abbrev pub IsKeptOn : ℕ → List ℕ → Type 0
@@ -107,6 +108,6 @@ module _ (again : Again) (lines macros : ℕ) where
         | inr (inr h) ↦ absurd (no_notes hp.0.stage u h.0 hq.0.ends (subst (text.Keeps hp.0.stage) h.1 hp.0.keeps))
       ]
 
-  -- What two parts keep is the same where the whole kept texts are.
+  -- What two parts keep is the same if the whole kept texts are.
   pub parts_are_one : (a b : BodyPart) (p q : KeptParts) → PartKeeps lines macros a p → PartKeeps lines macros b q → joined p ≡ joined q → p ≡ q
   parts_are_one a b p q hp hq same = parts_one p q (kept_by a p hp) (kept_by b q hq) same

@@ -1,4 +1,4 @@
--- What a stage says that goes on after syllables is that of a text, where what it went on with is.
+-- What a stage reports that goes on after syllables is that of a text, if what it went on with is.
 use Rattle.std.proofs.Common.{◌≡◌, arith}
 use Rattle.std.proofs.lemmas.List.Elements.{All-nil}
 use Rattle.gabc_text.specs.witness.EventsLeft as fresh_events
@@ -16,7 +16,7 @@ use Rattle.gabc_score.specs.machine.ReadAgain.{IsRunAlike, IsSameBut}
 use Rattle.gabc_score.specs.machine.ScoreMachine.{shown}
 use Rattle.gabc_score.specs.witness.ScoreStage.{ScoreStageState}
 use Rattle.gabc_score.proofs.resuming.BeginsAnywhere.{none_in_body, nothing_in_body}
-use Rattle.gabc_score.proofs.resuming.ScoresAgree.{before_is_told}
+use Rattle.gabc_score.proofs.resuming.ScoresAgree.{before_is_reported}
 use Rattle.gabc_body.proofs.units.CanonicalTextIsText.{nothing_plain}
 
 -- a text that begins at the first place
@@ -24,13 +24,13 @@ pub first_is_place : IsPlace first_place
 first_is_place = record { line = omega arith; column = omega arith; in_64_bits = omega arith }
 
 -- a kept text that was read again is a text
-pub told_again : (old m : ScoreMachine) (next : Place) → IsSameBut old m → IsRunAlike old m → m.part ≡ score_part.Body → (let new = moved_to next (shown m) in IsPlace next → AreOpenersBefore next (openers_of new.body.part)
+pub reported_again : (old m : ScoreMachine) (next : Place) → IsSameBut old m → IsRunAlike old m → m.part ≡ score_part.Body → (let new = moved_to next (shown m) in IsPlace next → AreOpenersBefore next (openers_of new.body.part)
     → IsText (reading_of new) → ReportsText (shown old) → ReportsText new)
-told_again old m next same run now is openers text told body =
+reported_again old m next same run now is openers text told body =
     let t = told same.body in
     record { counts = rw (run.limits, run.lines, run.macros, same.bounds) t.counts; next = is; openers = openers; reading = rw now at text; held = rw same.made t.held }
 
--- so it is where nothing was read yet
-pub told_after : (limits : Limits) (before : Before) (s : ScoreStageState) → IsAfterSyllables limits before s → AreCountsWithin limits before.nabc_lines before.macros before.canonical → ReportsText s
+-- so it is if nothing was read yet
+pub reported_after : (limits : Limits) (before : Before) (s : ScoreStageState) → IsAfterSyllables limits before s → AreCountsWithin limits before.nabc_lines before.macros before.canonical → ReportsText s
 unfolding fresh_events.events_left
-told_after limits before s stands counts body = grind (arith, before_is_told, first_is_place, nothing_in_body, nothing_plain, none_in_body, All-nil)
+reported_after limits before s stands counts body = grind (arith, before_is_reported, first_is_place, nothing_in_body, nothing_plain, none_in_body, All-nil)

@@ -131,7 +131,7 @@ module _ (m n : UnplacedSyllable) where
 
   -- ---- after a character
 
-  -- where another is whole the one held is given
+  -- if another is whole, the held one is given
   held_aside : (l : Bool) (a b : Gathered) → IsEquivalentAside m n l a b → IsEquivalentAside m n (l || nat_lt 1 (length a.made)) (with_held a) (with_held b)
   held_aside l a b h = grind (arith, or-false)
 
@@ -168,7 +168,7 @@ module _ (m n : UnplacedSyllable) where
         after_found _ _ _ _ (ap (λ fs. findings_now now ++ fs) (first_same s.has_lent s.gathered b now x.place h))
         (rw (length_same s.has_lent g.made (with_all b now).made aside_now.made).0 (taken_same (length g.made - 1) _ _ (placed_same s.has_lent g.made (with_all b now).made aside_now.made)))
 
-  -- What a body will still give is the same, but for the syllable that is held.
+  -- What a body will still give is the same, but for the held syllable.
   pub left_same : (limits : Limits) (xs : List HeadEvent) (lists : List (List BodyEvent)) (s : HeldScore) (b : Gathered) → IsEquivalentAside m n s.has_lent s.gathered b
       → AreSameLists m n (body_left limits s lists xs) (body_left limits (record s { gathered = b }) lists xs)
   left_same limits [] lists s b h = (placed_same s.has_lent s.gathered.made b.made h.made, tt)

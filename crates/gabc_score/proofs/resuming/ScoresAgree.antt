@@ -1,4 +1,4 @@
--- Two stages over a score that hold and report the same give the same, but for the syllable that is held.
+-- Two stages over a score that hold and report the same give the same, but for the held syllable.
 use Rattle.std.proofs.Common.{◌≡◌, inl, inr, ℕ, ◌≤◌, ◌==◌, ◌||◌, not, nat_lt, List, [], ◌∷◌, length, Bool, false, Option, Some, is_some, refl, sym, ap, ◌∙◌, arith}
 use Rattle.std.proofs.lemmas.Str.{encodes_same}
 use Rattle.gabc_headers.specs.declared.head_event.HeadEvent.{HeadEvent}
@@ -17,7 +17,7 @@ use Rattle.gabc_body.specs.Syllable.{UnplacedSyllable}
 use Rattle.gabc_body.specs.witness.Gatherer.{Gathered}
 use Rattle.gabc_score.specs.machine.HeldAside.{AreInputsAlike, AreMadeAlike, IsEquivalentAside}
 use Rattle.gabc_score.specs.machine.PartKeeps.{joined, PartKeeps, ReadAlike}
-use Rattle.gabc_score.specs.machine.ScoreMachine.{held_score, IsInBody}
+use Rattle.gabc_score.specs.machine.ScoreMachine.{has_given, held_score, IsInBody}
 use Rattle.gabc_score.specs.machine.ScoreStage.{body_left}
 use Rattle.gabc_score.specs.machine.StageLaws.{Again}
 use Rattle.gabc_score.specs.witness.BodyStage.{running_events_left}
@@ -26,7 +26,7 @@ use Rattle.gabc_score.proofs.resuming.SameButHeld.{left_same}
 use Rattle.gabc_score.proofs.resuming.StagesAgree.{KeepTheSame}
 use Rattle.gabc_score.proofs.score_events.WhatPrecedes.{not_some}
 
--- ---- the same outputs, where the one syllable is the other
+-- ---- the same outputs, if the one syllable is the other
 
 dummy : UnplacedSyllable
 dummy = record { text = empty_view; kept = []; snippets = []; eu = false; nlba = false }
@@ -73,8 +73,8 @@ each_same p _ _ h = absurd h.1.1
 pub reads_in_body : (p : ScorePart) (kept : List ℕ) → p ≡ score_part.Body → reading_in_body p kept ≡ kept
 reads_in_body p kept e = ap (λ (k : ScorePart). reading_in_body k kept) e
 
-pub before_is_told : (p q : ScorePart) (b c : Before) → p ≡ score_part.Body → q ≡ score_part.Body → in_body p b ≡ in_body q c → b ≡ c
-before_is_told p q b c e f same = let some : Some b ≡ Some c = rw (e, f) at same in cc
+pub before_is_reported : (p q : ScorePart) (b c : Before) → p ≡ score_part.Body → q ≡ score_part.Body → in_body p b ≡ in_body q c → b ≡ c
+before_is_reported p q b c e f same = let some : Some b ≡ Some c = rw (e, f) at same in cc
 
 -- ---- two machines in the body
 
@@ -114,10 +114,10 @@ module _ (again : Again) (a b : ScoreMachine) (ra : IsInBody a) (rb : IsInBody b
     sounds_same : is_some a.pair.gathered.first_kind ≡ is_some b.pair.gathered.first_kind
     sounds_same = grind (arith, after_same, read_alike)
 
-    lent_same : a.has_lent ≡ b.has_lent
-    lent_same = ra.lent ∙ ap (λ (p : Preceding). nat_lt 0 p.syllables) same_before ∙ sym rb.lent
+    lent_same : has_given a ≡ has_given b
+    lent_same = ap (λ (p : Preceding). nat_lt 0 p.syllables) same_before
 
-    aside : (m n : UnplacedSyllable) → AreMadeAlike m n a.has_lent a.pair.gathered.made b.pair.gathered.made → IsEquivalentAside m n a.has_lent a.pair.gathered b.pair.gathered
+    aside : (m n : UnplacedSyllable) → AreMadeAlike m n (has_given a) a.pair.gathered.made b.pair.gathered.made → IsEquivalentAside m n (has_given a) a.pair.gathered b.pair.gathered
     aside m n made = grind (arith, come_alike, sounds_same, same_but, read_alike, after_same)
 
     abbrev left_of_one : List HeadEvent → List (List ScoreOutput)
@@ -126,16 +126,16 @@ module _ (again : Again) (a b : ScoreMachine) (ra : IsInBody a) (rb : IsInBody b
     abbrev left_of_other : List HeadEvent → List (List ScoreOutput)
     left_of_other xs = body_left b.limits (held_score b) (running_events_left b.body (characters_in xs)) xs
 
-    -- What is left for them is the same, but for the syllable that is held, where their bodies emit the same.
+    -- What is left for them is the same, but for the held syllable, if their bodies emit the same.
     pub bodies_give : (xs : List HeadEvent) → running_events_left a.body (characters_in xs) ≡ running_events_left b.body (characters_in xs)
         → GiveTheSame (held_in_body score_part.Body a.pair.gathered.made) (held_in_body score_part.Body b.pair.gathered.made) (left_of_one xs) (left_of_other xs)
     bodies_give xs events = by a.pair.gathered.made b.pair.gathered.made refl refl alike
       where
-        left : (m n : UnplacedSyllable) → AreMadeAlike m n a.has_lent a.pair.gathered.made b.pair.gathered.made → AreSameLists m n (left_of_one xs) (left_of_other xs)
+        left : (m n : UnplacedSyllable) → AreMadeAlike m n (has_given a) a.pair.gathered.made b.pair.gathered.made → AreSameLists m n (left_of_one xs) (left_of_other xs)
         left m n made = rw (sym same_limits, sym next, sym lent_same, sym events) (left_same m n a.limits xs (running_events_left a.body (characters_in xs)) (held_score a) b.pair.gathered (aside m n made))
 
-        twins : (m n : UnplacedSyllable) → IsEquivalentSyllable (a.bounds.before.syllables == 0) m n → (not a.has_lent || m.text.word_start) ≡ (not a.has_lent || n.text.word_start)
-        twins m n s = rw (ap not ra.lent ∙ not_some a.bounds.before.syllables) s.starts
+        twins : (m n : UnplacedSyllable) → IsEquivalentSyllable (a.bounds.before.syllables == 0) m n → (not (has_given a) || m.text.word_start) ≡ (not (has_given a) || n.text.word_start)
+        twins m n s = rw (not_some a.bounds.before.syllables) s.starts
 
         by : (ms ns : List UnplacedSyllable) → a.pair.gathered.made ≡ ms → b.pair.gathered.made ≡ ns → HeldAlike (a.bounds.before.syllables == 0) ms ns
             → GiveTheSame (held_in_body score_part.Body ms) (held_in_body score_part.Body ns) (left_of_one xs) (left_of_other xs)

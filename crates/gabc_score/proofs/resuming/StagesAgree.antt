@@ -77,9 +77,9 @@ pub bodies_agree : StagesAgree → (a b : BodyStageState) → a.nabc_lines ≡ b
     → (xs : List Char) → running_events_left a xs ≡ running_events_left b xs
 bodies_agree law a b same_lines same_macros keep told xs = grind (arith, ahead_agree)
 
--- The place of the next character is the same, where both texts have counted it.
-pub next_is_told : (p q : BodyPart) (at place : Place) → at ≡ place → IsAt at p → IsAt place q → openers_of p ≡ openers_of q → is_in_front p ≡ is_in_front q → next_in p ≡ next_in q
-next_is_told (part.Text s) (part.Text t) at place e h g openers front = ap (λ (p : Place). Some p) (h ∙ (e ∙ sym g))
-next_is_told (part.Text s) _ at place e h g openers front = absurd (cc (front, ap (λ (o : Openers). is_some o.notes) openers))
-next_is_told _ (part.Text t) at place e h g openers front = absurd (cc (front, ap (λ (o : Openers). is_some o.notes) openers))
-next_is_told _ _ at place e h g openers front = refl
+-- The place of the next character is the same, if both texts have counted it.
+pub next_is_reported : (p q : BodyPart) (at place : Place) → at ≡ place → IsAt at p → IsAt place q → openers_of p ≡ openers_of q → is_in_front p ≡ is_in_front q → next_in p ≡ next_in q
+next_is_reported (part.Text s) (part.Text t) at place e h g openers front = ap (λ (p : Place). Some p) (h ∙ (e ∙ sym g))
+next_is_reported (part.Text s) _ at place e h g openers front = absurd (cc (front, ap (λ (o : Openers). is_some o.notes) openers))
+next_is_reported _ (part.Text t) at place e h g openers front = absurd (cc (front, ap (λ (o : Openers). is_some o.notes) openers))
+next_is_reported _ _ at place e h g openers front = refl

@@ -1,4 +1,4 @@
--- A part and a machine stay what they are where the next character is said to stand elsewhere.
+-- A part and a machine stay what they are if the next character is said to stand elsewhere.
 use Rattle.std.proofs.Common.{◌≡◌, ℕ, arith}
 use Rattle.gabc_places.specs.declared.place.Place.{Place}
 use Rattle.gabc_text.specs.StageReports as text_tells

@@ -1,4 +1,4 @@
--- Two stages over a score that stand alike give the same, but for the syllable that is held.
+-- Two stages over a score that stand alike give the same, but for the held syllable.
 use Rattle.std.proofs.Common.{◌≡◌, ◌==◌, List, [], Bool, true, false, Option, Some, None, is_some, refl, sym, ap, subst, ◌∙◌, arith}
 use Rattle.gabc_places.specs.declared.place.Place.{Place}
 use Rattle.gabc_headers.specs.declared.head_event.HeadEvent.{HeadEvent}
@@ -19,17 +19,17 @@ use Rattle.gabc_score.specs.witness.ScoreStage.{ScoreStageState, left_of}
 use Rattle.gabc_score.proofs.resuming.BeginsAnywhere.{front_reads}
 use Rattle.gabc_score.proofs.resuming.FrontsAgree.{CommentsCountForNothing, fronts_emit}
 use Rattle.gabc_score.proofs.resuming.NothingIsRead.{nothing_kept}
-use Rattle.gabc_score.proofs.resuming.ScoresAgree.{HeldAlike, before_is_told, bodies_give, bodies_keep}
-use Rattle.gabc_score.proofs.resuming.StagesAgree.{StagesAgree, bodies_agree, next_is_told}
-use Rattle.gabc_score.proofs.resuming.StatesStand.{IsRunning, both_in_body}
+use Rattle.gabc_score.proofs.resuming.ScoresAgree.{HeldAlike, before_is_reported, bodies_give, bodies_keep}
+use Rattle.gabc_score.proofs.resuming.StagesAgree.{StagesAgree, bodies_agree, next_is_reported}
+use Rattle.gabc_score.proofs.resuming.ReachableStatesMeetInvariant.{IsRunning, both_in_body}
 
--- ---- where only the other one stands in front
+-- ---- if only the other one stands in front
 
 none_too : (first : Bool) (o : Option UnplacedSyllable) → HoldTheSame first o None → o ≡ None
 none_too first None h = refl
 none_too first (Some m) h = absurd h
 
--- the other way round, but for what is held
+-- the other way round, but for the held syllable
 turned : (one other : ScoreStageState) → held_of one ≡ None → held_of other ≡ None → AreEquivalent one other → AreEquivalent other one
 turned one other none others alike = record {
   runs = ap is_some (sym alike.before) ∙ alike.runs;
@@ -49,7 +49,7 @@ turned one other none others alike = record {
 module _ (again : Again) where
   module _ (a b : ScoreMachine) (ra : IsRunning a) (rb : IsRunning b) (alike : AreEquivalent (shown a) (shown b)) where
     before : before_with a.body a.bounds.before ≡ before_with b.body b.bounds.before
-    before = before_is_told a.part b.part (before_with a.body a.bounds.before) (before_with b.body b.bounds.before) ra.part rb.part alike.before
+    before = before_is_reported a.part b.part (before_with a.body a.bounds.before) (before_with b.body b.bounds.before) ra.part rb.part alike.before
 
     reading : a.pair.gathered.builder.kept ≡ b.pair.gathered.builder.kept
     reading = rw (ra.part, rb.part) at alike.reading
@@ -57,7 +57,7 @@ module _ (again : Again) where
     held : HeldAlike (a.bounds.before.syllables == 0) a.pair.gathered.made b.pair.gathered.made
     held = (ra.few, (rb.few, rw (ra.part, rb.part) at alike.held))
 
-    -- they give the same where their bodies emit the same
+    -- they give the same if their bodies emit the same
     given_alike : (xs : List HeadEvent) → running_events_left a.body (characters_in xs) ≡ running_events_left b.body (characters_in xs)
         → GiveTheSame (held_of (shown a)) (held_of (shown b)) (left_of (shown a) xs) (left_of (shown b) xs)
     given_alike xs same = grind (arith, bodies_give)
@@ -76,7 +76,7 @@ module _ (again : Again) where
 
     -- both or none of them
     pub machines_give : StagesAgree → is_in_front a.body.part ≡ is_in_front b.body.part → (xs : List HeadEvent) → GiveTheSame (held_of (shown a)) (held_of (shown b)) (left_of (shown a) xs) (left_of (shown b) xs)
-    machines_give law front xs = grind (arith, given_alike, bodies_agree, bodies_keep, next_is_told)
+    machines_give law front xs = grind (arith, given_alike, bodies_agree, bodies_keep, next_is_reported)
 
   -- ---- two states
 

@@ -1,8 +1,7 @@
--- A machine that goes on before a syllable, where none is held.
+-- A machine that goes on before a syllable, and holds none.
 use Rattle.std.proofs.Math.Bool.{or-false}
 use Rattle.std.proofs.Common.{◌≡◌, ℕ, ◌≤◌, true, false, [], length, is_some, sym, ap, subst, ◌∙◌, arith}
 use Rattle.std.proofs.lemmas.Bool.{true≢false}
-use Rattle.std.proofs.lemmas.Bool.Decides.{nat_tests}
 use Rattle.std.proofs.lemmas.List.Elements.{All-nil}
 use Rattle.std.specs.List.{All}
 use Rattle.gabc_text.specs.TextStage.{fresh_stage}
@@ -44,7 +43,7 @@ module _ (m : ScoreMachine) (rests : IsInBody m) (p : Preceding) (some : 1 ≤ p
   -- It rests, whatever slots it has, in which this is gathered.
   pub rests_next : (pair : SlotPairState) (body : BodyStageState) (next at : Place) → pair.gathered ≡ before_last m p → is_made pair.used ≡ false → body ≡ record m.body { part = Text (fresh_stage at) }
       → CountsHold body.part nothing_open → ((lines macros : ℕ) → PartKeeps lines macros body.part (in_text []))
-      → IsInBody (record m { pair = pair; has_lent = true; bounds = record { before = p; after = p }; body = body; next = next })
+      → IsInBody (record m { pair = pair; bounds = record { before = p; after = p }; body = body; next = next })
   rests_next pair body next at is used text counts keeps = record {
     rests = record {
       none = rests.rests.none;
@@ -58,7 +57,6 @@ module _ (m : ScoreMachine) (rests : IsInBody m) (p : Preceding) (some : 1 ≤ p
     kept = (let k = ap (λ (g : Gathered). length g.builder.kept) is ∙ ap (λ (o : OpenSyllable). length o.kept) nothing in omega (arith, k));
     preceded = subst (IsPreceded p) (sym is) preceded_next;
     after = ap (λ (g : Gathered). with_each p g.made) (sym is);
-    lent = sym (grind (arith, nat_tests, some));
     code = ap (code_in m.limits) is ∙ none_passed m.limits (before_last m p) (record { kept = (let k = ap (λ (o : OpenSyllable). length o.kept) nothing in omega (arith, k)); over = rests.rests.over; file = λ some. absurd (cc some) });
     reading = subst (IsReading body.nabc_lines body.macros body.part p.spans) (sym is)
         (reads_next body.nabc_lines body.macros body.part (keeps body.nabc_lines body.macros));

@@ -117,7 +117,7 @@ module _ (f : Found) (lines total : ℕ) (limits : Limits) (found : IsFound line
     pub is_short : IsShort limits.syllable m
     is_short = grind (arith, kept_length, length_is, canonical_with, length-drop)
 
-    -- where it is steady, it sounds no more than what stands before it
+    -- if it is steady, it sounds no more than what stands before it
     pub sounds_no_more : (first : Option ItemKind) → IsSteady lines first parts → SoundsNoMore (is_some first) (sounds m)
     sounds_no_more first steady = subst (SoundsNoMore (is_some first)) (sym (sounds_as m ∙ ap sounds_among made.snippets_are)) steady
 
@@ -141,8 +141,11 @@ module _ (f : Found) (lines total : ℕ) (limits : Limits) (found : IsFound line
       position = ap (λ b. position_by b begins) word_is;
       eu = eu_after;
       nlba = nlba_after;
+      gap = starts_is;
+      word_start = made.starts;
       kept = made.kept;
       canonical = canonical_there begins;
       text = made.text_is;
       snippets = made.snippets_are;
+      spans_are = made.spans_are;
     }

@@ -87,7 +87,6 @@ module _ (m : ScoreMachine) (at : Place) (t : List ℕ) (given : List PlacedSyll
         kept = rested.kept;
         preceded = rested.preceded;
         after = rested.after;
-        lent = rested.lent;
         code = rested.code;
         reading = begins_again _ _ read.body.part body.part read.bounds.after.spans read.pair.gathered (rw (lines_are, macros_are) rested.reading) nothing (keeps _ _);
         units = rw lines_are rested.units;
@@ -109,7 +108,7 @@ module _ (m : ScoreMachine) (at : Place) (t : List ℕ) (given : List PlacedSyll
         at = refl;
         gathered = gathered_is;
         before = before_is;
-        lent = rested.lent ∙ ap (λ (q : Preceding). nat_lt 0 q.syllables) before_is ∙ some;
+        lent = ap (λ (q : Preceding). nat_lt 0 q.syllables) before_is ∙ some;
         texts = texts spelled_is_text texts_there;
       }
         where

@@ -1,4 +1,4 @@
--- A run begins with the syllable that is held.
+-- A run begins with the held syllable.
 use Rattle.std.proofs.Math.Bool.{or-false}
 use Rattle.std.proofs.Common.{◌≡◌, ◌||◌, not, Bool, List, [], ◌∷◌, length, is_some, refl, sym, ap, ap₂, subst, ◌∙◌, arith}
 use Rattle.std.proofs.lemmas.List.Elements.{All-nil, All-cons, All-head}
@@ -13,7 +13,7 @@ use Rattle.gabc_score.specs.ScoreStage.{IsWithin}
 use Rattle.gabc_body.specs.Syllable.{UnplacedSyllable}
 use Rattle.gabc_score.specs.machine.PartKeeps.{begun, ReadAlike}
 use Rattle.gabc_score.specs.machine.Run.{StandsBetween, RunsBefore}
-use Rattle.gabc_score.specs.machine.ScoreMachine.{held_score, IsShort}
+use Rattle.gabc_score.specs.machine.ScoreMachine.{has_given, held_score, IsShort}
 use Rattle.gabc_body.specs.witness.SyllableBuilder.{OpenSyllable}
 use Rattle.gabc_score.proofs.resuming.NothingIsRead.{nothing_alike}
 use Rattle.gabc_score.proofs.score_events.FewAndShortAreLent.{short_within}
@@ -44,7 +44,7 @@ module _ (m : ScoreMachine) (at : Place) (held : UnplacedSyllable) (stands : Sta
       ∙ ap₂ (λ a b. record m.pair.gathered { made = held ∷ []; total = m.bounds.after.canonical; eu = a; nlba = b }) alike.eu alike.nlba
 
   -- nothing is read yet, and it is given
-  pub run_begins : (starts : Bool) → RunsBefore m at [] (record { made = held; position = position_by (not m.has_lent || held.text.word_start) starts } ∷ []) starts m.bounds.after at
+  pub run_begins : (starts : Bool) → RunsBefore m at [] (record { made = held; position = position_by (not (has_given m) || held.text.word_start) starts } ∷ []) starts m.bounds.after at
   run_begins starts = record {
     held = held;
     s = held_score m;
@@ -54,7 +54,7 @@ module _ (m : ScoreMachine) (at : Place) (held : UnplacedSyllable) (stands : Sta
     given_are = refl;
     before = after_is;
     place = refl;
-    within = All-cons (IsWithin m.limits) _ [] (short_within m.limits (position_by (not m.has_lent || held.text.word_start) starts) held
+    within = All-cons (IsWithin m.limits) _ [] (short_within m.limits (position_by (not (has_given m) || held.text.word_start) starts) held
         (All-head (IsShort m.limits.syllable) held [] (subst (All (IsShort m.limits.syllable)) one stands.rests.rests.short))) (All-nil (IsWithin m.limits));
     plain = All-nil IsPlain;
     few = omega arith;

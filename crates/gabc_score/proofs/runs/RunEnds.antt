@@ -20,7 +20,7 @@ abbrev pub before_last : ScoreMachine → Preceding → Gathered
 before_last m p = record m.pair.gathered { made = []; total = p.canonical; eu = p.spans.eu; nlba = p.spans.nlba }
 
 -- Through the syllable that was found the run gives those before it, and then holds it, as a
--- machine does that reads it where none is held.
+-- machine does that reads it while none is held.
 pub record EndsWith (m : ScoreMachine) (at : Place) (t : List ℕ) (given : List PlacedSyllable) (p : Preceding) (f : Found) (next : Place) : Type 0 where
   pub made : UnplacedSyllable
   pub through : GoesThrough m.limits m.body.nabc_lines m.body.macros at (held_score m) (t ++ chars f.spelled.now) given (place_past next (chars f.spelled.now)) (record { next = place_past next (chars f.spelled.now); gathered = with_one (before_last m p) made; has_lent = true })

@@ -25,7 +25,7 @@ use Rattle.gabc_score.specs.machine.Between.{left_between, with_one as gathered_
 use Rattle.gabc_body.specs.witness.Gatherer.{Gathered}
 use Rattle.gabc_score.specs.machine.PartOnly.{HoldsTexts}
 use Rattle.gabc_score.specs.machine.Run.{IsFound, StandsBetween, RunsBefore}
-use Rattle.gabc_score.specs.machine.ScoreMachine.{held_score, shown}
+use Rattle.gabc_score.specs.machine.ScoreMachine.{has_given, held_score, shown}
 use Rattle.gabc_score.proofs.runs.FoundSyllable.{some_are, utf8_is}
 use Rattle.gabc_score.proofs.runs.RunEnds.{EndsWith, before_last}
 use Rattle.gabc_score.proofs.runs.RunGoesOn.{few_characters}
@@ -47,7 +47,7 @@ next_past at before t some = grind arith
 
 -- ---- what is left
 
--- what is still given where a text begins
+-- what is still given if a text begins
 left_there : (n : ScoreMachine) (at : Place) (first second : PlacedSyllable) → n.part ≡ score_part.Body → n.body.part ≡ Text (fresh_stage at) → (xs : List HeadEvent)
     → left_of (record (shown n) { first = first; second = second }) xs ≡ left_between n.limits n.body.nabc_lines n.body.macros at (held_score n) xs
 left_there n at first second part begins xs = grind arith
@@ -62,7 +62,7 @@ pub record HoldsLast (m : ScoreMachine) (p : Preceding) (next : Place) (made : U
   pub at : after.next ≡ next
   pub gathered : after.pair.gathered ≡ gathered_with (before_last m p) made
   pub before : after.bounds.before ≡ p
-  pub lent : after.has_lent ≡ true
+  pub lent : has_given after ≡ true
   pub texts : HoldsTexts after.pair.gathered
 
 module _ (m : ScoreMachine) (at : Place) (t : List ℕ) (given : List PlacedSyllable) (starts : Bool) (p : Preceding) (next : Place) (runs : RunsBefore m at t given starts p next)
@@ -110,9 +110,9 @@ module _ (m : ScoreMachine) (at : Place) (t : List ℕ) (given : List PlacedSyll
         in_64_bits = omega (arith, low, few, e, column);
       }
 
-  told_is : at ≡ m.next → ReportsText before → ReportsText (shown after)
+  reported_is : at ≡ m.next → ReportsText before → ReportsText (shown after)
   unfolding fresh_events.events_left
-  told_is here told body =
+  reported_is here told body =
       let was = told stands.part in
       let input = runs.input in
       record {
@@ -136,4 +136,4 @@ module _ (m : ScoreMachine) (at : Place) (t : List ℕ) (given : List PlacedSyll
 
   -- what was given, and how it goes on
   pub run_gives : GivesSyllables before at text given (shown after)
-  run_gives = grind (arith, next_past, long, stands_there, few_whole, told_is, holds_is, next_is, law_is)
+  run_gives = grind (arith, next_past, long, stands_there, few_whole, reported_is, holds_is, next_is, law_is)

@@ -45,7 +45,7 @@ low_there at next bytes spelled rest text u e place line column = grind (arith, 
 
 -- ---- one syllable more
 
--- where every regular syllable makes one, wherever it begins
+-- that every regular syllable makes one, wherever it begins
 abbrev pub MakeSyllables : Type 0
 MakeSyllables =
     (lines macros : ℕ) (at : Place) (r : SyllableParts) (spans : Spans) → IsRegularSyllable lines r → CountsFit at (spelled r) → length (encode_utf8_all (spelled r)) < 2 ^ 63
@@ -102,7 +102,7 @@ module _ (m : ScoreMachine) (at : Place) (t : List ℕ) (given : List PlacedSyll
     given_is : runs.earlier ++ given_before runs.s one ≡ given
     given_is = grind (arith, word)
 
-    -- through the syllable the one is given that was held
+    -- through the syllable the one held before is given
     pub through_all : GoesThrough m.limits m.body.nabc_lines m.body.macros at (held_score m) (t ++ chars f.spelled.now) given past (past_one runs.s past one)
     through_all = grind (arith, given_is, through_both, through_one)
 
@@ -118,8 +118,8 @@ module _ (m : ScoreMachine) (at : Place) (t : List ℕ) (given : List PlacedSyll
     few_bytes : canonical_length f ≤ length f.spelled.now
     few_bytes = length_is f m.body.nabc_lines p.canonical m.limits found
 
-    -- no more of what is gathered changes than the syllable that is held, the bytes before and the
-    -- open spans
+    -- no more of what is gathered changes than the held syllable, the bytes before and the open
+    -- spans
     pub gathered_is : gathered_with runs.s.gathered one
         ≡ record m.pair.gathered { made = one ∷ []; total = (past_found p f).canonical; eu = (past_found p f).spans.eu; nlba = (past_found p f).spans.nlba }
     gathered_is =

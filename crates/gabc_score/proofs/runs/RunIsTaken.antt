@@ -28,7 +28,7 @@ use Rattle.gabc_score.specs.machine.PartKeeps.{in_text, PartKeeps}
 use Rattle.gabc_score.specs.machine.PartOnly.{HoldsTexts}
 use Rattle.gabc_score.specs.machine.ReadAlone.{is_alone, lists_from, HasRead}
 use Rattle.gabc_score.specs.machine.Run.{GoesBefore, IsFound, IsSamePair, IsSteady, StandsBetween, RunsBefore, RunsTo, before_in}
-use Rattle.gabc_score.specs.machine.ScoreMachine.{shown, IsInBody, IsScoreAt}
+use Rattle.gabc_score.specs.machine.ScoreMachine.{has_given, shown, IsInBody, IsScoreAt}
 use Rattle.gabc_score.specs.machine.SlotPair.{SlotPairState, is_made}
 use Rattle.gabc_body.specs.witness.SyllableBuilder.{nothing_open}
 use Rattle.gabc_score.proofs.runs.FoundSyllable.{plain_is, utf8_is}
@@ -37,7 +37,7 @@ use Rattle.gabc_score.proofs.runs.RunBegins.{held_of, run_begins}
 use Rattle.gabc_score.proofs.runs.RunEnds.{EndsWith, run_ends}
 use Rattle.gabc_score.proofs.runs.RunGives.{run_gives}
 use Rattle.gabc_score.proofs.runs.RunGoesOn.{MakeSyllables, low_there}
-use Rattle.gabc_score.proofs.runs.SameStands.{moved_stands}
+use Rattle.gabc_score.proofs.runs.MachineStaysBetween.{moved_stands}
 
 -- ---- what is borrowed does not count
 
@@ -68,9 +68,9 @@ shown_same old new same first second = grind arith
 
 -- ---- the first syllable
 
--- the syllable that is held, before one that begins a word or not
+-- the held syllable, before one that begins a word or not
 abbrev pub placed_first : ScoreMachine → UnplacedSyllable → Bool → PlacedSyllable
-placed_first m x starts = record { made = x; position = position_by (not m.has_lent || x.text.word_start) starts }
+placed_first m x starts = record { made = x; position = position_by (not (has_given m) || x.text.word_start) starts }
 
 module _ (m : ScoreMachine) (at : Place) (text : List ℕ) (first : Found) (stands : StandsBetween m at)
     (found : IsFound m.body.nabc_lines m.limits m.bounds.after.canonical first) (steady : IsSteady m.body.nabc_lines m.pair.gathered.first_kind found.is.syllable) (is : text ≡ first.spelled.now ++ first.rest.now)
@@ -78,7 +78,7 @@ module _ (m : ScoreMachine) (at : Place) (text : List ℕ) (first : Found) (stan
   abbrev pub reached_first : Reached
   reached_first = record { last = first; count = 0; canonical = m.bounds.after.canonical; spans = m.bounds.after.spans }
 
-  -- the syllable that is held
+  -- the held syllable
   abbrev held_first : (x : UnplacedSyllable) × (m.pair.gathered.made ≡ x ∷ [])
   held_first = held_of m.pair.gathered.made stands.one
 
@@ -105,7 +105,7 @@ module _ (m : ScoreMachine) (at : Place) (text : List ℕ) (first : Found) (stan
         column = column;
       }
 
-  -- a run has given the syllable that was held, and has reached the first one that was found
+  -- a run has given the syllable held before, and has reached the first one that was found
   pub run_to_first : (new : ScoreMachine) → IsSamePair m new → RunsTo new at text given_first reached_first
   run_to_first new same = subst (λ (n : ScoreMachine). RunsTo n at text given_first reached_first) (sym same.is) (run_from new.pair same.gathered (ap is_made same.used))
 

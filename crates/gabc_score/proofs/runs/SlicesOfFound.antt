@@ -8,7 +8,7 @@ use Rattle.gabc_score.specs.declared.run.Found.{Found}
 use Rattle.gabc_score.specs.declared.spelled.SpelledSyllable.{SpelledSyllable}
 use Rattle.gabc_body.specs.Canonical.{position_by, starts_word}
 use Rattle.gabc_score.specs.GivesSyllables.{spelled_canonical}
-use Rattle.gabc_score.specs.RegularSyllable.{IsRegularSyllable, with_lines}
+use Rattle.gabc_score.specs.RegularSyllable.{IsRegularSyllable, snippets_spelled, with_lines}
 use Rattle.gabc_score.specs.SpelledSyllable.{IsSpelling, Spells}
 use Rattle.gabc_body.specs.Syllable.{PlacedSyllable}
 use Rattle.gabc_score.specs.machine.RegularLen.{BeginsRegularly}
@@ -51,8 +51,11 @@ module _ (f : Found) (lines : ℕ) (b : BeginsRegularly lines (f.spelled.now ++ 
         position = h.position ∙ sym position;
         eu = h.eu ∙ ap (λ (x : Spans). x.eu) (sym spans_are);
         nlba = h.nlba ∙ ap (λ (x : Spans). x.nlba) (sym spans_are);
+        gap = sym h.gap ∙ sym (ap starts_word position ∙ begins_there (nat_lt 0 f.gap) begins);
+        word_start = h.word_start;
         kept = h.kept;
         canonical = h.canonical ∙ ap₂ spelled_canonical (sym (ap starts_word position ∙ begins_there (nat_lt 0 f.gap) begins)) (sym canonical);
         text = h.text;
         snippets = h.snippets ∙ ap (λ l. with_lines l 0 b.syllable.nexts b.syllable.final) (sym lines_are);
+        spans = h.spans_are ∙ ap (λ l. snippets_spelled l b.syllable) (sym lines_are);
       }

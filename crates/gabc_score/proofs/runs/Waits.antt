@@ -66,6 +66,6 @@ module _ (w : Waiting) (r : Reached) (front : List ℕ) (before : AreBefore w r 
     pub then_before : AreBefore w then front_then
     then_before = grind (arith, text_is, gap_is, few)
 
-  -- where what waits with it has no room, none waits
+  -- if what waits with it has no room, none waits
   pub none_where_full : nat_lt (length w.text.now - length r.last.rest.now) w.most ≡ false → w.earlier ≡ r.count
   none_where_full full = grind (arith, text_then, length-append)

@@ -27,7 +27,7 @@ use Rattle.gabc_score.specs.ScoreStage.{events_borrowed, events_of, is_last_even
 use Rattle.gabc_score.specs.witness.ScoreStage.{left_of}
 use Rattle.gabc_body.specs.witness.BodyBuilder.{with_all, code_in}
 use Rattle.gabc_score.specs.machine.ScoreStage.{HeldScore, placed_after, score_past, end_outputs_by, left_by, body_left, fresh_score, score_left, outputs_left}
-use Rattle.gabc_score.specs.machine.ScoreMachine.{shown}
+use Rattle.gabc_score.specs.machine.ScoreMachine.{held_score, shown}
 use Rattle.gabc_body.proofs.score_events.NothingAfterTheEnd.{Ends, silent, then_end, last_ends}
 
 -- ---- what is left ends at its first stop or end
@@ -61,7 +61,7 @@ module _ (limits : Limits) where
   left_ends part s body xs = grind (arith, score_ends, body_ends, silent, joined_silence)
 
 pub machine_ends : (m : ScoreMachine) (xs : List HeadEvent) → Ends (concat_of (left_of (shown m) xs))
-machine_ends m xs = left_ends m.limits m.part (record { next = m.next; gathered = m.pair.gathered; has_lent = m.has_lent }) m.body xs
+machine_ends m xs = left_ends m.limits m.part (held_score m) m.body xs
 
 -- ---- the same of events
 

@@ -12,27 +12,20 @@ use Rattle.gabc_body.specs.declared.ending.InputEnding.TheVariants.{Whole}
 use Rattle.gabc_body.specs.declared.events.BodyEvent.{BodyEvent}
 use Rattle.gabc_body.specs.Body.{body_of}
 use Rattle.gabc_body.specs.NoteBeforeClef.{with_first_each}
-use Rattle.gabc_body.specs.ScoreEvents.{ScoreOutput}
+use Rattle.gabc_body.specs.ScoreEvents.{ScoreOutput, characters_in}
 use Rattle.gabc_score.specs.ScoreStage.{AreCountsBelow}
 use Rattle.gabc_score.specs.machine.Collected.{result_with, to_come}
 use Rattle.gabc_score.specs.machine.ScoreStage.{begun_score, body_left}
 use Rattle.gabc_body.proofs.score_events.BodyOutputs.{Says, body_says}
 use Rattle.gabc_body.proofs.gathering.FirstNotes.{first_each}
 use Rattle.gabc_score.proofs.score_events.HeldScoreIsDefinition.{left_is, holds_nothing}
-use Rattle.gabc_score.proofs.score_events.OutputsAreCollected.{with_more}
+use Rattle.gabc_score.specs.witness.BodyStage.{BodyStageState, running_events_left}
 use Rattle.gabc_body.proofs.score_events.ScoreOutputs.{characters_are, ends_past}
 use Rattle.std.proofs.lemmas.Bool.{cond_both}
 
 -- nothing but what was found in the headers
 abbrev pub nothing_said : List Finding → BodyResult
 nothing_said found = record { syllables = []; findings = found; fault = None }
-
--- ---- an input more
-
-pub collects_on : (r next total : BodyResult) (left after : List HeadEvent → List (List ScoreOutput)) (x : HeadEvent) (outputs : List ScoreOutput) (xs : List HeadEvent)
-    → left (x ∷ xs) ≡ outputs ∷ after xs → next ≡ result_with r outputs → result_with r (concat_of (left (x ∷ xs))) ≡ total → result_with next (concat_of (after xs)) ≡ total
-collects_on r next total left after x outputs xs law e h =
-    ap (λ s. result_with s (concat_of (after xs))) e ∙ with_more r outputs (concat_of (after xs)) ∙ ap (λ lists. result_with r (concat_of lists)) (sym law) ∙ h
 
 -- ---- counts
 
@@ -58,3 +51,14 @@ module _ (limits : Limits) (small : limits.syllable < 2 ^ 64 - 1) (low : limits.
       let xs = placed_characters_from at cs in
       rw (holds_nothing limits head small low at fits, left_is limits head small low at [] lists (to_come ending xs) below, characters_are ending xs, ← ends_past at cs)
       (says_is ending _ _ (body_says limits head found ending at [] xs (with_first_each [] xs lists) (first_each [] xs lists n)))
+
+-- what a new machine will say, whatever it is shown as
+pub body_said : (limits : Limits) (head : ℕ) → limits.syllable < 2 ^ 64 - 1 → limits.input < 2 ^ 64 - 1 → head < 2 ^ 64 → (found : List Finding) (ending : InputEnding) (at : Place) (cs : List ℕ) (stage : BodyStageState)
+    → length (running_events_left stage (placed_characters_from at cs)) ≡ length (placed_characters_from at cs) + 1 → at.line + length cs < 2 ^ 64 → at.column + length cs < 2 ^ 64
+    → {left : List HeadEvent → List (List ScoreOutput)} → ((xs : List HeadEvent) → left xs ≡ body_left limits (begun_score limits at head) (running_events_left stage (characters_in xs)) xs)
+    → result_with (nothing_said found) (concat_of (left (to_come ending (placed_characters_from at cs))))
+    ≡ body_of limits head found (place_past at cs) ending (placed_characters_from at cs) (with_first_each [] (placed_characters_from at cs) (running_events_left stage (placed_characters_from at cs)))
+body_said limits head small low fits found ending at cs stage each line column left =
+    let xs = placed_characters_from at cs in
+    ap (λ lists. result_with (nothing_said found) (concat_of lists)) (left (to_come ending xs) ∙ ap (λ ys. body_left limits (begun_score limits at head) (running_events_left stage ys) (to_come ending xs)) (characters_are ending xs))
+    ∙ body_collected limits small low head fits found ending at cs (running_events_left stage xs) each (counts_below ending at cs line column)

@@ -35,7 +35,7 @@ use Rattle.gabc_score.specs.machine.PartCounts.{CountsHold}
 use Rattle.gabc_score.specs.machine.PartOnly.{HoldsTexts, kept_codes}
 use Rattle.gabc_score.specs.machine.Preceded.{IsPreceded, past_point}
 use Rattle.gabc_score.specs.machine.ReadsChar.{Gathers, Passes, ReadsChar, StopsWith, found_past, past_char, stops, goes}
-use Rattle.gabc_score.specs.machine.ScoreMachine.{IsInBody, IsScore, IsScoreAt, IsShort, held_score, shown}
+use Rattle.gabc_score.specs.machine.ScoreMachine.{has_given, IsInBody, IsScore, IsScoreAt, IsShort, held_score, shown}
 use Rattle.gabc_score.specs.machine.ScoreStage.{body_left, left_by, placed_after, with_held}
 use Rattle.gabc_score.specs.machine.SlotPair.{SlotPairState, is_made}
 use Rattle.gabc_score.proofs.building.CountsOfParts.{counts_go_on}
@@ -98,7 +98,7 @@ module _ {m : ScoreMachine} {x : Char} {b : BodyStageState} {p : SlotPairState} 
 
   -- what will be given after this was gathered
   abbrev later : List HeadEvent → Gathered → List (List ScoreOutput)
-  later xs k = body_left m.limits (record { next = saturating_next_place x.place x.c; gathered = with_held k; has_lent = m.has_lent || nat_lt 1 (length k.made) }) (running_events_left b (characters_in xs)) xs
+  later xs k = body_left m.limits (record { next = saturating_next_place x.place x.c; gathered = with_held k; has_lent = has_given m || nat_lt 1 (length k.made) }) (running_events_left b (characters_in xs)) xs
 
   left_is : (xs : List HeadEvent) → left_of (shown m) (head_event.Body x ∷ xs) ≡ left_by (code_in m.limits (with_all was now)) (held_score m) x now xs (later xs (with_all was now))
   left_is xs = grind (arith, emits)
@@ -109,9 +109,9 @@ module _ {m : ScoreMachine} {x : Char} {b : BodyStageState} {p : SlotPairState} 
     gives_stop : GivesAt (shown m) (head_event.Body x) (shown n) old new
     gives_stop =
         let fault = fault_at x.place code in
-        let given = outputs_of [] (placed_after m.has_lent p.held) in
+        let given = outputs_of [] (placed_after (has_given m) p.held) in
         gives_outside (given ++ Stop fault ∷ []) (λ is. absurd (cc (is, s.part))) (λ heads. absurd (cc (heads, body))) (record {
-          lends = held_lends m.limits 1 m.has_lent p.held was.made (Stop fault ∷ []) refl a.held h.rests.short s.few (omega arith);
+          lends = held_lends m.limits 1 (has_given m) p.held was.made (Stop fault ∷ []) refl a.held h.rests.short s.few (omega arith);
           limits = s.limits;
           part = leads_out m.part n.part (head_event.Body x) given (Stop fault) body s.part refl;
           last = λ other final. absurd (cc final);
@@ -130,13 +130,13 @@ module _ {m : ScoreMachine} {x : Char} {b : BodyStageState} {p : SlotPairState} 
     g = p.gathered
 
     abbrev lent : List PlacedSyllable
-    lent = take (length g.made - 1) (placed_after m.has_lent g.made)
+    lent = take (length g.made - 1) (placed_after (has_given m) g.made)
 
     abbrev bounds : Bounds
     bounds = past_point whole gave m.bounds q.gathered
 
-    turns : Turns m.bounds g m.has_lent whole gave
-    turns = rw a.gathered (turned m.bounds was now h.preceded h.after (closes_last a.steps.0 a.steps.1) a.one m.has_lent whole gave (rw (a.held, a.gathered) at u.whole_is) (rw a.gathered at u.gave_is))
+    turns : Turns m.bounds g (has_given m) whole gave
+    turns = rw a.gathered (turned m.bounds was now h.preceded h.after (closes_last a.steps.0 a.steps.1) a.one (has_given m) whole gave (rw (a.held, a.gathered) at u.whole_is) (rw a.gathered at u.gave_is))
 
     passed : bounds ≡ past_point whole gave m.bounds g
     passed = ap (past_point whole gave m.bounds) u.gathered
@@ -160,7 +160,7 @@ module _ {m : ScoreMachine} {x : Char} {b : BodyStageState} {p : SlotPairState} 
     preceded = subst (IsPreceded bounds.before) (sym u.gathered) (subst (λ (k : Bounds). IsPreceded k.before (with_held g)) (sym passed) turns.preceded)
 
     held_within : HoldsWithin m.limits bounds.before q.gathered
-    held_within = within_past m.limits m.bounds.before bounds.before m.has_lent was g q.gathered now h.rests.limit h.rests.over h.preceded.follows h.within h.rests.short a.gathered none before_is u.gathered
+    held_within = within_past m.limits m.bounds.before bounds.before (has_given m) was g q.gathered now h.rests.limit h.rests.over h.preceded.follows h.within h.rests.short a.gathered none before_is u.gathered
 
     -- the kept text is short enough to be counted
     counted : length was.builder.kept < 2 ^ 64
@@ -180,25 +180,27 @@ module _ {m : ScoreMachine} {x : Char} {b : BodyStageState} {p : SlotPairState} 
       kept = rw (ap (λ (k : Gathered). k.builder.kept) u.gathered) (let kept = (is_within m.limits g none_now).kept in let limit = limit_gathered h a in omega (arith, kept, limit));
       preceded = preceded;
       after = ap (λ (k : Bounds). k.after) passed ∙ turns.after ∙ ap (λ (k : Bounds). with_each k.before (with_held g).made) (sym passed) ∙ ap (λ (k : Gathered). with_each bounds.before k.made) (sym u.gathered);
-      lent = lent_past m.bounds.before bounds.before m.has_lent gave g.made h.lent before_is u.gave_is;
       code = ap (code_in m.limits) u.gathered ∙ code_turned m.limits g none_now;
       reading = reading_past m.body.nabc_lines m.body.macros b.nabc_lines b.macros m.body.part b.part m.bounds bounds was g q.gathered now whole gave counted a.gathered u.gathered
           (u.whole_is ∙ ap (λ (ms : List UnplacedSyllable). nat_lt (length ms) (length g.made)) a.held) passed lines macros (keeps_on a.steps.0) h.reading;
-      units = units_past m.body.nabc_lines m.body.macros b.nabc_lines m.body.part m.bounds.before bounds.before m.bounds.after.spans m.has_lent was g q.gathered now counted a.gathered u.gathered lines
+      units = units_past m.body.nabc_lines m.body.macros b.nabc_lines m.body.part m.bounds.before bounds.before m.bounds.after.spans (has_given m) was g q.gathered now counted a.gathered u.gathered lines
           (ap (λ (k : Preceding). k.spans) h.after) before_is (makes a.steps.0) h.reading h.units;
       within = held_within;
-      front = front_past m.body.part b.part m.bounds.before bounds.before m.has_lent was g q.gathered now (leaves_front a.steps.0) h.front a.gathered before_is u.gathered;
+      front = front_past m.body.part b.part m.bounds.before bounds.before (has_given m) was g q.gathered now (leaves_front a.steps.0) h.front a.gathered before_is u.gathered;
     }
 
     module _ {r : BoundedList Finding} {old new : BoundedList ScoreEvent} (s : Passes m x p f whole gave q r old new) where
       abbrev n : ScoreMachine
       n = past_char m x b whole gave q r
 
+      given_now : (has_given m || nat_lt 1 (length g.made)) ≡ has_given n
+      given_now = lent_past m.bounds.before bounds.before (has_given m) g.made refl before_is
+
       abbrev fs : List Finding
       fs = (found_past m x p f).items
 
       law : (xs : List HeadEvent) → left_of (shown m) (head_event.Body x ∷ xs) ≡ outputs_of fs lent ∷ left_of (shown n) xs
-      law xs = grind (arith, left_is, none, found_is)
+      law xs = grind (arith, left_is, none, found_is, given_now)
 
       texts : MayCome m.limits m.next (head_event.Body x) → IsReportOfText (shown m) → HoldsTexts q.gathered
       texts may t = subst HoldsTexts (sym u.gathered) (plain_held g (subst HoldsTexts (sym a.gathered)
@@ -211,7 +213,7 @@ module _ {m : ScoreMachine} {x : Char} {b : BodyStageState} {p : SlotPairState} 
       gives_past = record {
         outputs = outputs_of fs lent;
         lends = subst (Lends m.limits 1) (append-nil (outputs_of fs lent)) (lends_these m.limits 1 fs lent [] refl s.given.few (one_at_most lent s.given.few)
-            (All-take (IsWithin m.limits) (length g.made - 1) (placed_after m.has_lent g.made) (placed_within m.limits (not m.has_lent) g.made short)));
+            (All-take (IsWithin m.limits) (length g.made - 1) (placed_after (has_given m) g.made) (placed_within m.limits (not (has_given m)) g.made short)));
         limits = refl;
         part = stays_inside m.part m.part (head_event.Body x) fs lent body body;
         last = λ other final. absurd (cc final);
@@ -221,9 +223,9 @@ module _ {m : ScoreMachine} {x : Char} {b : BodyStageState} {p : SlotPairState} 
         before_held = λ is. past_in_body m.part (head_event.Body x) fs lent m.bounds.before bounds.before body before_is;
         next = λ is. rw body refl;
         stands = λ here at is. stands_on a.steps.0 h.reading.parts h.reading.keeps (subst (λ k. IsAt k m.body.part) (sym here) (at body));
-        whole = λ is. rw body (whole_past m.bounds.before bounds.before m.has_lent was g q.gathered now (closes_last a.steps.0 a.steps.1) a.gathered before_is u.gathered);
+        whole = λ is. rw body (whole_past m.bounds.before bounds.before (has_given m) was g q.gathered now (closes_last a.steps.0 a.steps.1) a.gathered before_is u.gathered);
         told = λ may here t is. record {
-          counts = rw (lines, macros) (counts_past m.limits m.body.nabc_lines m.body.macros m.bounds.before bounds.before m.has_lent g q.gathered before_is u.gathered preceded held_within (t body).counts);
+          counts = rw (lines, macros) (counts_past m.limits m.body.nabc_lines m.body.macros m.bounds.before bounds.before (has_given m) g q.gathered before_is u.gathered preceded held_within (t body).counts);
           reading = (texts may (t body)).0;
           held = (texts may (t body)).1;
           next = (next_place may (t body).next).0;
@@ -231,7 +233,7 @@ module _ {m : ScoreMachine} {x : Char} {b : BodyStageState} {p : SlotPairState} 
               (opens_on a.steps.0 h.reading.parts h.reading.keeps (subst (λ k. IsAt k m.body.part) (sym may.0) (here body)))
               (subst (λ k. AreOpenersBefore k (openers_of m.body.part)) (sym may.0) (t body).openers);
         };
-        holds = λ held is e. none_past m.bounds.before bounds.before m.has_lent was g q.gathered now (closes_last a.steps.0 a.steps.1) before_is u.gathered a.gathered
+        holds = λ held is e. none_past m.bounds.before bounds.before (has_given m) was g q.gathered now (closes_last a.steps.0 a.steps.1) before_is u.gathered a.gathered
             (λ k. held body (ap (λ (k : ScorePart). held_in_body k was.made) body ∙ k)) (ap (λ (k : ScorePart). held_in_body k q.gathered.made) (sym body) ∙ e);
         law = law;
         emitted = s.given.emitted;

@@ -45,7 +45,7 @@ held_some g e = by g.made (sym (last_stays g.made) ∙ e)
     by [] e = refl
     by (m ∷ ms) e = absurd (cc)
 
--- what stands before what is held is below the limit of the input, as what stands after it is
+-- what stands before the held syllable is below the limit of the input, as what stands after it is
 pub counts_past : (limits : Limits) (lines macros : ℕ) (before after : Preceding) (has_lent : Bool) (h turned : Gathered) → after ≡ with_placed before (take (length h.made - 1) (placed_after has_lent h.made)) → turned ≡ with_held h
     → IsPreceded after turned → HoldsWithin limits after turned → AreCountsWithin limits lines macros before.canonical → AreCountsWithin limits lines macros after.canonical
 counts_past limits lines macros before after has_lent h turned there turns preceded within c = record {
@@ -71,7 +71,7 @@ counts_past limits lines macros before after has_lent h turned there turns prece
         let none : h.made ≡ [] = held_some h (sym (ap (λ (k : Gathered). is_none k.made) turns) ∙ e) in
         subst (λ (p : Preceding). p.canonical < limits.input) (sym (there ∙ ap (λ (ms : List UnplacedSyllable). with_placed before (take (length ms - 1) (placed_after has_lent ms))) none)) c.below
 
--- where none is held then none was before
+-- if none is held then, none was before
 pub none_past : (before after : Preceding) (has_lent : Bool) (g h turned : Gathered) (now : List BodyEvent) → ClosesLast now → after ≡ with_placed before (take (length h.made - 1) (placed_after has_lent h.made)) → turned ≡ with_held h
     → h ≡ with_all g now → (held_in_body score_part.Body g.made ≡ None → before.syllables ≡ 0) → held_in_body score_part.Body turned.made ≡ None → after.syllables ≡ 0
 none_past before after has_lent g h turned now last there turns is was none =

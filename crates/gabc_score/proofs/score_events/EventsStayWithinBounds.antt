@@ -31,7 +31,7 @@ is_within limits g e = grind (arith, neither, or_parts)
 pub none_passed : (limits : Limits) (g : Gathered) → IsWithinLimits limits g → code_in limits g ≡ None
 none_passed limits g w = grind arith
 
--- where only the last syllable is held, one is held if any was made
+-- if only the last syllable is held, one is held if any was made
 pub last_stays : (ms : List UnplacedSyllable) → is_none (drop (length ms - 1) ms) ≡ is_none ms
 last_stays [] = refl
 last_stays (m ∷ []) = refl

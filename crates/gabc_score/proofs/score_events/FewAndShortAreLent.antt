@@ -21,7 +21,7 @@ use Rattle.gabc_body.proofs.score_events.WhatOutputsSay.{given_syllables}
 
 -- ---- short syllables stay so
 
--- where it is not over the limit, a syllable is counted as short
+-- if it is not over the limit, a syllable is counted as short
 pub counted : (limit len kept : ℕ) → limit < 2 ^ 32 → nat_lt limit kept ≡ false → nat_lt limit (min len (2 ^ 64 - 1)) ≡ false → (kept ≤ limit) × (len ≤ limit)
 counted limit len kept h k e = (grind (arith, nat_tests), grind (arith, nat_tests))
 

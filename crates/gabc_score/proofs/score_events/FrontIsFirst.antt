@@ -24,11 +24,11 @@ use Rattle.gabc_score.specs.machine.PartSteps as step
 pub no_comment_no_front : {A : Type 0} (b : BodyPart) → is_in_comment b ≡ false → is_in_front b ≡ true → A
 no_comment_no_front b e front = grind arith
 
--- where the next character stands does not count
+-- the place of the next character does not count
 pub front_moved : (at : Place) (b : BodyPart) → is_in_front (moved_part at b) ≡ is_in_front b
 front_moved at b = grind arith
 
--- After a character the comment is still open only where nothing has come.
+-- After a character the comment is still open only if nothing has come.
 pub front_past : (before after : BodyPart) (p later : Preceding) (has_lent : _) (g h turned : Gathered) (now : List BodyEvent) → PartLeavesFront before after now → (is_in_front before ≡ true → NoneIsWhole p g)
     → h ≡ with_all g now → later ≡ with_placed p (take (length h.made - 1) (placed_after has_lent h.made)) → turned ≡ with_held h → is_in_front after ≡ true → NoneIsWhole later turned
 front_past before after p later has_lent g h turned now leaves was is there turns front = grind arith

@@ -1,4 +1,5 @@
--- Where a stage does not stand in the body after an input, it gives what was to come by these facts alone.
+-- If a stage does not stand in the body after an input, it gives what was to come by these facts
+-- alone.
 use Rattle.std.proofs.Common.{◌≡◌, ℕ, List, ◌∷◌, true, arith}
 use Rattle.std.specs.List.{list_any}
 use Rattle.gabc_places.specs.BoundedList.{BoundedList}

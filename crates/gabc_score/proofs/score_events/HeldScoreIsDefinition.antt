@@ -44,7 +44,7 @@ module _ (limits : Limits) (head : ℕ) (small : limits.syllable < 2 ^ 64 - 1) (
     has_lent = nat_lt 1 (count_made before);
   }
 
-  -- it holds the same where the same was gathered
+  -- it holds the same if the same was gathered
   holding_as : (at : Place) (one other : List BodyEvent) → SaysSame one other → holding at one ≡ holding at other
   holding_as at one other e = grind (arith, same_gathered)
 
@@ -64,7 +64,8 @@ module _ (limits : Limits) (head : ℕ) (small : limits.syllable < 2 ^ 64 - 1) (
     code_here : (at : Place) (x : Char) → code_in limits (with_all (holding at before).gathered now) ≡ code_at limits head (events_onto (with_first before x now) before)
     code_here at x = grind (arith, now_is, code_without, goes, code_is, same_code, says_with_first)
 
-    -- the syllables that are made and what came first are the same with what is found beside what the body emits
+    -- the syllables that are made and what came first are the same with what is found beside what
+    -- the body emits
     point_is : (at : Place) (x : Char) → point_outputs (holding at before) x now ≡ outputs_at before (with_first before x now)
     point_is at x =
         rw (now_is, placed_now (count_made before) (count_made all) (all_syllables all) refl (made_grows before now), findings_with_first before now x, ap (λ (g : Gathered). g.made) (says_with_first before now x)) refl
@@ -104,7 +105,7 @@ module _ (limits : Limits) (head : ℕ) (small : limits.syllable < 2 ^ 64 - 1) (
   by_code at before now x xs left later e (Some code) = ap (λ outputs. outputs ∷ silence xs) (stop_is before now at (fault_at x.place code))
   by_code at before now x xs left later e None = ap (λ outputs. outputs ∷ left) (point_is before now at x) ∙ ap (λ lists. outputs_at before (with_first before x now) ∷ lists) e
 
-  -- where no count reaches its last value
+  -- if no count reaches its last value
   next_is : (x : Char) → IsPlaceBelow x → saturating_next_place x.place x.c ≡ next_place x.place x.c
   next_is x h =
       let line : count_plus x.place.line 1 ≡ x.place.line + 1 = let l = h.0 in omega (arith, l) in

@@ -43,7 +43,7 @@ one_more limit first [] m starts f h k = (subst (λ (b : Bool). length (canonica
 one_more limit first (s ∷ ms) m starts f h k = (h.0, later limit ms m h.1 (subst (λ (b : Bool). length (canonical (b || m.text.word_start) m) ≤ limit) (f ∙ and-false first) k))
 
 module _ (first : Bool) where
-  -- where it is not over the limit, what was made is short, and so it is as it will be written
+  -- if it is not over the limit, what was made is short, and so it is as it will be written
   abbrev AreWithin : Gathered → Type 0
   AreWithin g = (not g.follows ≡ (first && is_none g.made)) × (g.over ≡ false → AreWritten g.limit first g.made × All (IsShort g.limit) g.made)
 

@@ -27,7 +27,7 @@ none_made_at_end r g now law = grind (arith, made_stays, ends_close_none)
 
 -- ---- the last text
 
--- where one syllable is held at most, what is made last has no notes
+-- if one syllable is held at most, what is made last has no notes
 pub last_has_no_notes : (has_lent : Bool) (g : Gathered) → length g.made ≤ 1 → OnlyFirstHasNotes (placed_after has_lent (with_last g).made)
 last_has_no_notes has_lent g one =
     cond_both (has_text g.builder.view) (with_syllable (with_no_notes g)) g (λ (k : Gathered). OnlyFirstHasNotes (placed_after has_lent k.made)) (λ e. by g.made one)

@@ -1,4 +1,5 @@
--- Where what comes in just ceases, a stage of scores gives no finding, no stop and no end; and it gives the end only at the end.
+-- If what comes in just ceases, a stage of scores gives no finding, no stop and no end; and it
+-- gives the end only at the end.
 use Rattle.std.proofs.Common.{◌≡◌, ◌≤◌, not, List, [], ◌∷◌, ◌++◌, length, Option, None, false, refl, ap, ◌∙◌, append_assoc, arith}
 use Rattle.gabc_places.proofs.PushesAreOne.{joined_silence}
 use Rattle.gabc_places.specs.StageLaw.{concat_of, silence}
@@ -40,7 +41,7 @@ by_part limits _ s body = record { findings = refl; stop = refl; end = refl }
 pub no_stop : (s : ScoreStageState) → NoStop (said_by (concat_of (left_of s [])))
 no_stop s = by_part s.limits s.part s.held s.body
 
--- one syllable is given at most, where one is held at most
+-- one syllable is given at most, if one is held at most
 pub few_are_held : (limits : Limits) (s : HeldScore) (body : BodyStageState) → length s.gathered.made ≤ 1
     → length (syllables_in (concat_of (outputs_left limits score_part.Body s body []))) ≤ 1
 few_are_held limits s body few = rw (given_syllables [] (placed_after s.has_lent s.gathered.made) [] refl, placed_count (not s.has_lent) s.gathered.made) few

@@ -1,9 +1,8 @@
 -- A character at which nothing is found, no syllable becomes whole and no limit is passed: nothing
 -- is given.
 use Rattle.gabc_score.proofs.building.EventsAreHeld.{none_closes}
-use Rattle.std.proofs.Common.{◌≡◌, ℕ, ◌+◌, ◌-◌, ◌≤◌, ◌||◌, ◌&&◌, not, nat_lt, Bool, false, cond, List, [], length, take, Option, Some, None, refl, sym, ap, subst, ◌∙◌, arith, append-nil}
+use Rattle.std.proofs.Common.{◌≡◌, ℕ, ◌+◌, ◌-◌, ◌≤◌, ◌||◌, ◌&&◌, not, nat_lt, Bool, false, cond, List, [], length, take, Option, Some, None, refl, sym, ap, ◌∙◌, arith, append-nil}
 use Rattle.std.specs.List.{list_any}
-use Rattle.std.proofs.Math.Bool.{or-false}
 use Rattle.std.proofs.lemmas.Bool.Decides.{nat_tests}
 use Rattle.gabc_places.specs.BoundedList.{BoundedList}
 use Rattle.gabc_places.specs.Place.{saturating_next_place}
@@ -19,14 +18,14 @@ use Rattle.gabc_body.specs.Body.{is_longer, is_none}
 use Rattle.gabc_body.specs.Syllable.{UnplacedSyllable, closes}
 use Rattle.gabc_body.specs.witness.BodyBuilder.{code_in}
 use Rattle.gabc_score.specs.machine.ReadsChar.{Gathers, Passes, ReadsChar, found_past, goes}
-use Rattle.gabc_score.specs.machine.ScoreMachine.{IsInBody}
+use Rattle.gabc_score.specs.machine.ScoreMachine.{has_given, IsInBody}
 use Rattle.gabc_score.specs.machine.ScoreStage.{placed_after}
 use Rattle.gabc_score.specs.machine.SlotPair.{SlotPairState, is_made}
 use Rattle.gabc_score.specs.witness.BodyStage.{BodyStageState}
 use Rattle.gabc_score.proofs.building.PartsMakeSyllables.{whole_in, whole_stays}
 use Rattle.gabc_score.proofs.resuming.CharactersGathered.{few_is, held_all}
 
--- which limit is passed, where the kept text is longer than a syllable may be or not
+-- which limit is passed, by whether the kept text is longer than a syllable may be
 abbrev code_at : Limits → Bool → List UnplacedSyllable × (ℕ × Bool) → Option Code
 code_at limits longer w = cond (longer || w.1.1) (Some F5) (cond (not (is_none w.0) && nat_lt limits.input (w.1.0 + 1)) (Some F7) None)
 
@@ -45,8 +44,8 @@ module _ {m : ScoreMachine} {x : Char} {b : BodyStageState} {p : SlotPairState} 
   few = let n = ap (λ w. length w.0) whole in let one = a.one in omega (arith, n, one)
 
   module _ (out : BoundedList ScoreEvent) (nothing : (found_past m x p f).items ≡ []) where
-    none_given : take (length p.gathered.made - 1) (placed_after m.has_lent p.gathered.made) ≡ []
-    none_given = let n : length p.gathered.made - 1 ≡ 0 = omega (arith, few) in ap (λ n. take n (placed_after m.has_lent p.gathered.made)) n
+    none_given : take (length p.gathered.made - 1) (placed_after (has_given m) p.gathered.made) ≡ []
+    none_given = let n : length p.gathered.made - 1 ≡ 0 = omega (arith, few) in ap (λ n. take n (placed_after (has_given m) p.gathered.made)) n
 
     passes : Passes m x p f false false p (found_past m x p f) out out
     passes = record {
@@ -63,4 +62,4 @@ module _ {m : ScoreMachine} {x : Char} {b : BodyStageState} {p : SlotPairState} 
     }
 
     pub nothing_given : ReadsChar m x out out (record m { body = b; pair = p; found = found_past m x p f; next = saturating_next_place x.place x.c })
-    nothing_given = subst (λ lent. ReadsChar m x out out (record m { body = b; pair = p; found = found_past m x p f; next = saturating_next_place x.place x.c; has_lent = lent })) (or-false m.has_lent) (goes a passes)
+    nothing_given = goes a passes

@@ -1,4 +1,5 @@
--- What was gathered of the syllable that is read stays what the parts of its kept text say, past a point.
+-- What was gathered of the syllable that is read stays what the parts of its kept text say, past a
+-- point.
 use Rattle.std.proofs.Common.{◌≡◌, ℕ, ◌<◌, ◌^◌, nat_lt, Bool, cond, length, refl, sym, ap, subst, ◌∙◌, List, [], arith}
 use Rattle.gabc_text.specs.witness.Keeps as text
 use Rattle.gabc_body.specs.declared.before.Spans.{Spans}
@@ -12,7 +13,7 @@ use Rattle.gabc_score.specs.machine.PartKeeps.{in_text, IsReading, PartKeepsOn}
 use Rattle.gabc_score.specs.machine.Preceded.{after_headers, past_point, spans_of}
 use Rattle.gabc_score.specs.machine.ScoreStage.{with_held}
 
--- what is held is not read
+-- the held syllable is not read
 turned_reads : (lines macros : ℕ) (part : BodyPart) (spans : Spans) (g : Gathered) → IsReading lines macros part spans g → IsReading lines macros part spans (with_held g)
 turned_reads lines macros part spans g r = record { parts = r.parts; keeps = r.keeps; said = record { builder = r.said.builder; eu = r.said.eu; nlba = r.said.nlba }; kept = r.kept; from = r.from; uncut = r.uncut }
 

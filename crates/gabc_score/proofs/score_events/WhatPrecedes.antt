@@ -227,7 +227,8 @@ after_is : (before : Preceding) (h : Gathered) (ms : List UnplacedSyllable) (m :
     → after_gathered (with_each before ms).syllables h ≡ with_each before h.made
 after_is before h ms m p made eu nlba builder = grind (arith, each_then, or-false)
 
--- What stands before and after what is held then reports of what was gathered, where the one held before is given or not.
+-- What stands before and after the held syllable then reports of what was gathered, by whether the
+-- one held before is given.
 pub record Turns (b : Bounds) (h : Gathered) (has_lent whole gave : Bool) : Type 0 where
   pub preceded : IsPreceded (before_past whole gave b) (with_held h)
   pub after : (past_point whole gave b h).after ≡ with_each (before_past whole gave b) (with_held h).made
@@ -287,18 +288,18 @@ pub each_some : (p : Preceding) (ms : List UnplacedSyllable) → 1 ≤ p.syllabl
 each_some p [] h = h
 each_some p (m ∷ ms) h = each_some (with_one p m) ms (omega (arith, h))
 
--- one was given where two were made
+-- one was given if two were made
 pub given_some : (has_lent : Bool) (p : Preceding) (s m : UnplacedSyllable) (ms : List UnplacedSyllable) → 1 ≤ (with_placed p (take (length (s ∷ m ∷ ms) - 1) (placed_after has_lent (s ∷ m ∷ ms)))).syllables
 given_some has_lent p s m ms =
     let count : length (s ∷ m ∷ ms) - 1 ≡ suc (length ms) = omega arith in
     rw count (each_some (with_one p s) (map (λ (s : PlacedSyllable). s.made) (take (length ms) (placed_after true (m ∷ ms)))) (omega arith))
 
--- one was exactly if one stands before the syllable that is held
-pub lent_past : (before passed : Preceding) (has_lent gave : Bool) (made : List UnplacedSyllable) → has_lent ≡ nat_lt 0 before.syllables → passed ≡ with_placed before (take (length made - 1) (placed_after has_lent made))
-    → gave ≡ nat_lt 1 (length made) → (has_lent || gave) ≡ nat_lt 0 passed.syllables
-lent_past before passed has_lent gave [] l p g = rw (g, p) (or-false has_lent ∙ l)
-lent_past before passed has_lent gave (m ∷ []) l p g = rw (g, p) (or-false has_lent ∙ l)
-lent_past before passed has_lent gave (m ∷ n ∷ made) l p g =
+-- one was, exactly if one stands before the held syllable
+pub lent_past : (before passed : Preceding) (has_lent : Bool) (made : List UnplacedSyllable) → has_lent ≡ nat_lt 0 before.syllables → passed ≡ with_placed before (take (length made - 1) (placed_after has_lent made))
+    → (has_lent || nat_lt 1 (length made)) ≡ nat_lt 0 passed.syllables
+lent_past before passed has_lent [] l p = rw p (or-false has_lent ∙ l)
+lent_past before passed has_lent (m ∷ []) l p = rw p (or-false has_lent ∙ l)
+lent_past before passed has_lent (m ∷ n ∷ made) l p =
     let some = given_some has_lent before m n made in
     let more : nat_lt 1 (length (m ∷ n ∷ made)) ≡ true = grind (arith, nat_tests) in
-    rw (g, more, p) (or-true has_lent ∙ sym (grind (arith, nat_tests, some)))
+    rw (more, p) (or-true has_lent ∙ sym (grind (arith, nat_tests, some)))

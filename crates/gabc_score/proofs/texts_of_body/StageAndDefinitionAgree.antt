@@ -1,4 +1,5 @@
--- Texts as their machine reads them and by their definition are the same, where no count of a body reaches its last value.
+-- Texts as their machine reads them and by their definition are the same, if no count of a body
+-- reaches its last value.
 use Rattle.std.proofs.Common.{◌≡◌, ℕ, ◌+◌, ◌<◌, ◌^◌, ◌==◌, if◌then◌else◌, List, [], ◌∷◌, length, refl, ap, arith, IsUtf8, ◌≤◌}
 use Rattle.std.specs.Str.{chars}
 use Rattle.std.proofs.lemmas.Str.{encodes-chars, length-le-encodes}
@@ -17,7 +18,8 @@ use Rattle.gabc_body.proofs.texts_of_body.BodyFits.{fits_next, bytes_encodes}
 fits_after : (at : Place) (c : ℕ) (t : List ℕ) → CountsFit at (c ∷ t) → CountsFit (after_mark at) t
 fits_after at c t f = record { line = omega (arith, f.line); column = omega (arith, f.column); bytes = omega (arith, f.bytes) }
 
--- a body fits after a prefix if the bytes of both are few, and the place after the prefix counts no more than the prefix has
+-- a body fits after a prefix if the bytes of both are few, and the place after the prefix counts no
+-- more than the prefix has
 pub fits_after_prefix : (at : Place) (prefix bytes : List ℕ) → IsUtf8 bytes → at.line ≤ 1 + length prefix → at.column ≤ 1 + length prefix
     → length prefix + length bytes < 2 ^ 63 → CountsFit at (chars bytes)
 fits_after_prefix at prefix bytes utf8 line column few = grind (arith, encodes-chars, length-le-encodes, bytes_encodes)

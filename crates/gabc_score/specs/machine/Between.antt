@@ -11,7 +11,7 @@ use Rattle.gabc_score.specs.Before.{sounds}
 use Rattle.gabc_body.specs.Canonical.{canonical}
 use Rattle.gabc_body.specs.Events.{text_from, events_from}
 use Rattle.gabc_score.specs.GivesSyllables.{text_inputs}
-use Rattle.gabc_score.specs.RegularSyllable.{SaysText, SyllableParts, spelled, kept_spelled, canonical_spelled, has_gap, snippet_texts, with_lines}
+use Rattle.gabc_score.specs.RegularSyllable.{SaysText, SyllableParts, spelled, kept_spelled, canonical_spelled, has_gap, snippet_texts, snippets_spelled, with_lines}
 use Rattle.gabc_body.specs.ScoreEvents.{ScoreOutput, Syllable, characters_in}
 use Rattle.gabc_body.specs.SpansPast.{FollowsSpans}
 use Rattle.gabc_body.specs.Syllable.{UnplacedSyllable, PlacedSyllable}
@@ -27,7 +27,7 @@ use Rattle.gabc_body.specs.witness.SyllableBuilder.{nothing_open}
 
 -- ---- one syllable more
 
--- what is gathered with this syllable, where the one that was held is given
+-- what is gathered with this syllable, if the one held before is given
 abbrev pub with_one : Gathered → UnplacedSyllable → Gathered
 with_one g m = record (with_made g m) { eu = m.eu; nlba = m.nlba; made = m ∷ [] }
 
@@ -35,13 +35,13 @@ with_one g m = record (with_made g m) { eu = m.eu; nlba = m.nlba; made = m ∷ [
 abbrev pub past_one : HeldScore → Place → UnplacedSyllable → HeldScore
 past_one s next m = record { next = next; gathered = with_one s.gathered m; has_lent = s.has_lent || nat_lt 0 (length s.gathered.made) }
 
--- what is given then: the syllable that was held, if one was
+-- what is given then: the syllable held before, if there was one
 abbrev pub given_before : HeldScore → UnplacedSyllable → List PlacedSyllable
 given_before s m = take (length s.gathered.made) (placed_after s.has_lent (s.gathered.made ++ m ∷ []))
 
 -- ---- between two syllables
 
--- where neither a note nor a clef has come, none comes with the syllable
+-- if neither a note nor a clef has come, none comes with the syllable
 abbrev pub SoundsNoMore : Bool → Bool → Type 0
 SoundsNoMore sounded sounds_now = (sounded || sounds_now) ≡ sounded
 
@@ -61,7 +61,7 @@ module _ (limits : Limits) where
     pub input : g.total + length (encode_utf8_all (spelled r)) + 1 ≤ limits.input
 
   module _ (lines macros : ℕ) where
-    -- what is still given where a text begins at this place
+    -- what is still given if a text begins at this place
     abbrev pub left_between : Place → HeldScore → List HeadEvent → List (List ScoreOutput)
     left_between at s xs = body_left limits s (events_from texts_by_stage lines macros (text_from texts_by_stage at (characters_in xs)) (characters_in xs)) xs
 
@@ -73,7 +73,7 @@ module _ (limits : Limits) where
       pub law : (xs : List HeadEvent) → left_between at s (text_inputs at t ++ xs) ≡ points ++ left_between next after xs
       pub given_are : concat_of points ≡ map (λ (s : PlacedSyllable). Syllable s) given
 
--- where a text of these characters begins at this place, what is emitted at each of them
+-- what is emitted at each character of a text that begins at this place
 abbrev pub lists_between : ℕ → ℕ → Place → List ℕ → List (List BodyEvent)
 lists_between lines macros at t = let us = placed_characters_from at t in take (length t) (events_from texts_by_stage lines macros (text_from texts_by_stage at us) us)
 
@@ -85,22 +85,23 @@ pub record IsAloneWith (limits : Limits) (g : Gathered) (lists : List (List Body
 
 -- ---- what a regular syllable makes
 
--- It keeps its spelling, with one blank where there are some before its text, and its spelling is
--- its canonical text, text and snippets. It holds a unit with the span marks of its text, and which
--- spans are open after it follows from those before.
+-- It keeps its spelling, with one blank if there are some before its text, and its spelling is its
+-- canonical text, text and snippets, each in its place. It holds a unit with the span marks of its
+-- text, and which spans are open after it follows from those before.
 pub record IsMadeOf (lines : ℕ) (spans : Spans) (r : SyllableParts) (m : UnplacedSyllable) : Type 0 where
   pub kept : m.kept ≡ encode_utf8_all (kept_spelled r)
   pub starts : m.text.word_start ≡ has_gap r.gap
   pub canonical_is : (starts : Bool) → canonical starts m ≡ encode_utf8_all (canonical_spelled starts r)
   pub text_is : SaysText m r.text
   pub snippets_are : snippet_texts m ≡ with_lines lines 0 r.nexts r.final
+  pub spans_are : m.snippets ≡ snippets_spelled lines r
   pub unit : HoldsSomeUnit lines m
   pub tags : span_tags unit.unit.text ≡ span_tags r.text
   pub follows : FollowsSpans spans m
 
--- Where these spans are open, a regular syllable that begins at this place makes this one, whatever
+-- If these spans are open, a regular syllable that begins at this place makes this one, whatever
 -- was gathered before, if no note and no clef comes with it or one has come before: it is read to
--- its end, and the one that was held is given.
+-- its end, and the one held before is given.
 pub record Makes (lines macros : ℕ) (at : Place) (r : SyllableParts) (spans : Spans) (m : UnplacedSyllable) : Type 0 where
   pub made : IsMadeOf lines spans r m
   pub through : (limits : Limits) (s : HeldScore) → IsBetween limits s → SoundsNoMore (is_some s.gathered.first_kind) (sounds m) → spans_of s.gathered ≡ spans → LeavesRoomFor limits s.gathered r

@@ -5,7 +5,7 @@ use Rattle.gabc_notes.specs.declared.item.ItemKind.TheVariants as kind
 use Rattle.gabc_score.specs.declared.first_sound.FirstSound.{FirstSound}
 use Rattle.gabc_score.specs.declared.first_sound.FirstSound.TheVariants.{Note, Clef, Either}
 
--- Where one of the two has come, no note before any clef is found any more: as after a clef.
+-- If either of the two has come, no note before any clef is found any more: as after a clef.
 abbrev pub kind_of : Option FirstSound → Option ItemKind
 kind_of None = None
 kind_of (Some Note) = Some kind.Note

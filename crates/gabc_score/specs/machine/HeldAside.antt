@@ -1,4 +1,4 @@
--- What was gathered, but for the syllable that is held and for which came first, a note or a clef.
+-- What was gathered, but for the held syllable and for which came first, a note or a clef.
 use Rattle.std.specs.Prelude.{◌≡◌, ◌⊎◌, ◌||◌, not, List, ◌∷◌, Bool, true, Option, is_some}
 use Rattle.gabc_notes.specs.declared.item.ItemKind.{ItemKind}
 use Rattle.gabc_body.specs.Syllable.{UnplacedSyllable}
@@ -9,7 +9,7 @@ abbrev pub AreInputsAlike : Option ItemKind → Option ItemKind → Type 0
 AreInputsAlike a b = (a ≡ b) ⊎ ((is_some a ≡ true) × (is_some b ≡ true))
 
 module _ (m n : UnplacedSyllable) where
-  -- n stands in place of m as the first that is not given, and begins a word as m does where it
+  -- n stands in place of m as the first that is not given, and begins a word as m does if that
   -- counts
   pub record IsSwapped (has_lent : Bool) (ms ns : List UnplacedSyllable) : Type 0 where
     pub rest : List UnplacedSyllable

@@ -20,7 +20,7 @@ CountsHold (part.Text stage) o = (length o.view.pieces + pieces_owed stage ≤ l
 CountsHold (part.Notes opened stage) o = CountsInNotes o
 CountsHold (part.Nabc line opened stage) o = CountsInNotes o
 
--- With these events a part goes on as this one: the counts hold again, and the events fit where the
+-- With these events a part goes on as this one: the counts hold again, and the events fit if the
 -- kept text is within the limit.
 pub record PartGoesOn (before after : BodyPart) (now : List BodyEvent) : Type 0 where
   pub counts : (g : Gathered) → CountsHold before g.builder → CountsHold after (with_all g now).builder

@@ -121,7 +121,7 @@ BeginsSnippet lines macros line part = (t : List ℕ) (earlier : List (List ℕ)
 
 -- ---- what is gathered of them
 
--- nothing of a syllable, where these spans are open
+-- nothing of a syllable, after these open spans
 abbrev pub begun : Spans → Gathered
 begun spans = record (nothing_gathered 0 0) { eu = spans.eu; nlba = spans.nlba }
 
@@ -141,8 +141,8 @@ pub record IsReading (lines macros : ℕ) (part : BodyPart) (spans : Spans) (g :
   pub from : g.builder.from ≡ length (encode_utf8_all (text_before parts))
   pub uncut : g.cut ≡ None
 
--- which spans are open before the syllable that is read, where h was gathered after g: another one
--- is read where one was made
+-- which spans are open before the syllable that is read, if h was gathered after g: another one is
+-- read if one was made
 abbrev pub spans_past : Spans → Gathered → Gathered → Spans
 spans_past spans g h = cond (nat_lt (length g.made) (length h.made)) (spans_of h) spans
 
@@ -152,7 +152,7 @@ PartKeepsOn lines macros before after now =
     (spans : Spans) (g : Gathered) → length g.builder.kept < 2 ^ 64 → IsReading lines macros before spans g
     → IsReading lines macros after (spans_past spans g (with_all g now)) (with_all g now)
 
--- where a part stands that keeps a text, it stands after the character x with it
+-- if a part that keeps a text stands at the character x, it stands after x from then on
 abbrev pub PartStandsOn : ℕ → ℕ → Char → BodyPart → BodyPart → Type 0
 PartStandsOn lines macros x before after =
     (p : KeptParts) → PartKeeps lines macros before p → IsAt x.place before → IsAt (saturating_next_place x.place x.c) after

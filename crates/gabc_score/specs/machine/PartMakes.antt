@@ -31,8 +31,8 @@ pub record PartLaws : Type 0 where
   pub stands : (t : List ℕ) → StandsForView (kept t) (view_in t) t
   pub kept_again : (line : ℕ) (s : List ℕ) → IsSnippetOf line s → s ≡ kept_on_line line (characters_of s)
 
--- which spans are open after each of these follows from those before it, where p reports what
--- stands before the first
+-- which spans are open after each of these follows from those before it, if p reports what stands
+-- before the first
 unfoldable pub FollowEach : Preceding → List UnplacedSyllable → Type 0
 FollowEach p [] = Unit {0}
 FollowEach p (m ∷ ms) = FollowsSpans p.spans m × FollowEach (with_one p m) ms

@@ -23,7 +23,7 @@ kept_codes (t ∷ now) = kept_codes now
 abbrev pub IsKeptOf : ℕ → ℕ → Type 0
 IsKeptOf c d = (d ≡ c) ⊎ (d ≡ 32)
 
--- so it is where a part stands that keeps parts of a kept text
+-- so it is for a part that keeps parts of a kept text
 abbrev pub PartKeepsOnly : ℕ → ℕ → Char → BodyPart → List BodyEvent → Type 0
 PartKeepsOnly lines macros x before now = (p : KeptParts) → PartKeeps lines macros before p → All (IsKeptOf x.c) (kept_codes now)
 

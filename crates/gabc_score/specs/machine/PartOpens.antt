@@ -13,7 +13,7 @@ pub record OpensOn (at : Place) (before after : Openers) : Type 0 where
   pub notes : (after.notes ≡ before.notes) ⊎ ((after.inner ≡ None) × ((after.notes ≡ None) ⊎ (after.notes ≡ Some at)))
   pub inner : (after.inner ≡ None) ⊎ ((after.inner ≡ before.inner) ⊎ (after.inner ≡ Some at))
 
--- so it is where a part stands that keeps parts of a kept text
+-- so it is for a part that keeps parts of a kept text
 abbrev pub PartOpensOn : ℕ → ℕ → Char → BodyPart → BodyPart → Type 0
 PartOpensOn lines macros x before after =
     (p : KeptParts) → PartKeeps lines macros before p → IsAt x.place before → OpensOn x.place (openers_of before) (openers_of after)

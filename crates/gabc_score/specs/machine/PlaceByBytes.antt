@@ -6,7 +6,7 @@ use Rattle.gabc_places.specs.declared.place.Place.{Place}
 abbrev pub begins_character : ℕ → Bool
 begins_character b = nat_lt b 128 || nat_lt 191 b
 
--- The place after a byte of a text, where `p` is that after those before: after the bytes of a
+-- The place after a byte of a text, if `p` is that after those before: after the bytes of a
 -- character that is the place after it.
 abbrev pub next_by_byte : Place → ℕ → Place
 next_by_byte p b =

@@ -12,13 +12,12 @@ use Rattle.gabc_body.specs.witness.Gatherer.{Gathered}
 abbrev pub spans_of : Gathered → Spans
 spans_of g = record { eu = g.eu; nlba = g.nlba }
 
--- what stands after all that was gathered, where n syllables stand before the one that was
--- made last
+-- what stands after all that was gathered, if n syllables stand before the one made last
 abbrev pub after_gathered : ℕ → Gathered → Preceding
 after_gathered syllables g = record { syllables = min (syllables + 1) most; canonical = g.total; spans = spans_of g; sounded = is_some g.first_kind }
 
--- what stands before what is held, where a syllable has become whole or not, and the one held
--- before was given or not
+-- what stands before the held syllable, by whether a syllable has become whole, and whether the one
+-- held before was given
 abbrev pub before_past : Bool → Bool → Bounds → Preceding
 before_past whole gave b = if whole then (if gave then b.after else b.before) else b.before
 
@@ -29,7 +28,7 @@ past_point whole gave b g = record {
   after = if whole then after_gathered (before_past whole gave b).syllables g else b.after;
 }
 
--- before the first syllable, where the canonical headers have n bytes
+-- before the first syllable, after canonical headers of n bytes
 abbrev pub after_headers : ℕ → Bounds
 after_headers head = record { before = no_syllable head; after = no_syllable head }
 

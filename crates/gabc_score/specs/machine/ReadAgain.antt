@@ -95,7 +95,7 @@ pub record ReadsAgain (lines macros : ℕ) (x : Char) (before after : BodyPart) 
 -- ---- the machine
 
 -- A part of the body keeps the parts of this kept text, which is within the limit.
-pub record IsToldBy (lines macros limit : ℕ) (part : BodyPart) (kept : List ℕ) : Type 0 where
+pub record IsReportedBy (lines macros limit : ℕ) (part : BodyPart) (kept : List ℕ) : Type 0 where
   pub parts : KeptParts
   pub keeps : PartKeeps lines macros part parts
   pub is : kept ≡ encode_utf8_all (joined parts)
@@ -114,7 +114,6 @@ pub record StandsSo (m : ScoreMachine) (openers : Openers) (kept : List ℕ) (co
 pub record IsSameBut (before after : ScoreMachine) : Type 0 where
   pub body : before.part ≡ score_part.Body
   pub bounds : after.bounds ≡ before.bounds
-  pub has_lent : after.has_lent ≡ before.has_lent
   pub made : after.pair.gathered.made ≡ before.pair.gathered.made
 
 -- The machine runs under the same limits, with the same lines and macros.
@@ -129,8 +128,8 @@ pub record HasPassed (before : ScoreMachine) (part : BodyPart) (now : List BodyE
   pub gathered : after.pair.gathered ≡ with_all before.pair.gathered now
   pub same : IsSameBut before after
 
--- At the character x the body emits this. The reading goes on where no limit is passed and no
--- syllable becomes whole.
+-- At the character x the body emits this. The reading goes on if no limit is passed and no syllable
+-- becomes whole.
 pub record PassesAgain (before : ScoreMachine) (x : Char) (after : ScoreMachine) : Type 0 where
   pub rests : IsInBody before
   pub now : List BodyEvent
@@ -155,7 +154,7 @@ abbrev pub ReadsThrough : ScoreMachine → Openers → List ℕ → ScoreMachine
 ReadsThrough before openers [] after = before ≡ after
 ReadsThrough before openers (c ∷ cs) after = (m : ScoreMachine) × (TakesAgain before c openers m × ReadsThrough m openers cs after)
 
--- In the body a kept text is read, and the `%` of a comment after it where one is open. Then the
+-- In the body a kept text is read, and the `%` of a comment after it if one is open. Then the
 -- next character is said to stand at `next`. The result says whether the reading is not over.
 pub record HasReadKept (before : ScoreMachine) (kept : List ℕ) (openers : Openers) (comment : Bool) (next : Place) (result : Bool) (after : ScoreMachine) : Type 0 where
   pub m : ScoreMachine

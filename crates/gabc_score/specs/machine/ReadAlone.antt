@@ -58,7 +58,7 @@ abbrev pub is_alone : Limits → Gathered → List (List BodyEvent) → Bool
 is_alone limits g [] = not (is_none g.made)
 is_alone limits g (now ∷ lists) = is_none g.made && (is_fine limits g now && is_alone limits (with_all g now) lists)
 
--- It has gathered this and goes on: where a syllable is whole, nothing of the next one is read.
+-- It has gathered this and goes on: if a syllable is whole, nothing of the next one is read.
 pub record GoesOn (old new : ScoreMachine) (g : Gathered) : Type 0 where
   pub part : new.part ≡ score_part.Body
   pub gathered : new.pair.gathered ≡ g
@@ -68,7 +68,7 @@ pub record GoesOn (old new : ScoreMachine) (g : Gathered) : Type 0 where
   pub limits : new.limits ≡ old.limits
   pub whole : is_none g.made ≡ false → g.builder ≡ nothing_open
 
--- where no syllable is held a character is read, and the machine goes on if all is fine
+-- a character is read while no syllable is held, and the machine goes on if all is fine
 pub record ReadsAlone (old new : ScoreMachine) (x : Char) (fine : Bool) : Type 0 where
   pub now : List BodyEvent
   pub after : BodyStageState

@@ -1,5 +1,5 @@
 -- What a machine over a score does at a character of the body, and at any input.
-use Rattle.std.specs.Prelude.{◌≡◌, ◌≤◌, ℕ, ◌-◌, ◌||◌, nat_lt, Bool, false, List, [], ◌∷◌, ◌++◌, length, take, None, Some}
+use Rattle.std.specs.Prelude.{◌≡◌, ◌≤◌, ℕ, ◌-◌, nat_lt, Bool, false, List, [], ◌∷◌, ◌++◌, length, take, None, Some}
 use Rattle.std.specs.List.{list_any}
 use Rattle.gabc_places.specs.BoundedList.{BoundedList, extended_by}
 use Rattle.gabc_places.specs.Place.{saturating_next_place}
@@ -19,7 +19,7 @@ use Rattle.gabc_body.specs.Syllable.{PlacedSyllable, closes}
 use Rattle.gabc_body.specs.witness.BodyBuilder.{code_in, with_all, with_found}
 use Rattle.gabc_score.specs.machine.PartSteps.{TakesChar}
 use Rattle.gabc_score.specs.machine.Preceded.{past_point}
-use Rattle.gabc_score.specs.machine.ScoreMachine.{IsInBody, IsScore, KeepsMemory, shown}
+use Rattle.gabc_score.specs.machine.ScoreMachine.{has_given, IsInBody, IsScore, KeepsMemory, shown}
 use Rattle.gabc_score.specs.machine.ScoreStage.{placed_after, with_held}
 use Rattle.gabc_score.specs.machine.SlotPair.{SlotPairState, is_made, used_by}
 use Rattle.gabc_score.specs.witness.BodyStage.{BodyStageState}
@@ -66,8 +66,8 @@ pub record StopsWith (before : ScoreMachine) (fault : Fault) (after : ScoreMachi
   pub part : after.part ≡ score_part.Over
   pub limits : after.limits ≡ before.limits
   pub keeps : KeepsMemory before → KeepsMemory after
-  pub emitted : GivesOutputs (outputs_of [] (placed_after before.has_lent before.pair.held) ++ Stop fault ∷ []) old new after.pair.first after.pair.second
-  pub few : length (placed_after before.has_lent before.pair.held) ≤ 1
+  pub emitted : GivesOutputs (outputs_of [] (placed_after (has_given before) before.pair.held) ++ Stop fault ∷ []) old new after.pair.first after.pair.second
+  pub few : length (placed_after (has_given before) before.pair.held) ≤ 1
 
 -- ---- a character
 
@@ -76,7 +76,7 @@ pub record StopsWith (before : ScoreMachine) (fault : Fault) (after : ScoreMachi
 pub record Passes (m : ScoreMachine) (x : Char) (p : SlotPairState) (f : BoundedList Finding) (whole gave : Bool) (q : SlotPairState) (r : BoundedList Finding) (old new : BoundedList ScoreEvent) : Type 0 where
   pub none : code_in m.limits p.gathered ≡ None
   pub whole_is : whole ≡ nat_lt (length p.held) (length p.gathered.made)
-  pub given : GivesPoint m.has_lent p (found_past m x p f) gave q r old new
+  pub given : GivesPoint (has_given m) p (found_past m x p f) gave q r old new
 
 -- the machine m past the character x
 abbrev pub past_char : ScoreMachine → Char → BodyStageState → Bool → Bool → SlotPairState → BoundedList Finding → ScoreMachine
@@ -85,11 +85,10 @@ past_char m x b whole gave q r = record m {
   pair = q;
   found = r;
   next = saturating_next_place x.place x.c;
-  has_lent = m.has_lent || gave;
   bounds = past_point whole gave m.bounds q.gathered;
 }
 
--- It reads the character x: it stops where a limit is passed, else it goes on.
+-- It reads the character x: it stops if a limit is passed, else it goes on.
 pub data ReadsChar (m : ScoreMachine) (x : Char) (old new : BoundedList ScoreEvent) : ScoreMachine → Type 0 where
   stops : {b : BodyStageState} {p : SlotPairState} {f : BoundedList Finding} {code : Code} {n : ScoreMachine} → Gathers m x b p f → code_in m.limits p.gathered ≡ Some code
       → StopsWith (record m { body = b; pair = p; found = found_past m x p f }) (fault_at x.place code) n old new → ReadsChar m x old new n

@@ -20,7 +20,7 @@ IsPlainByte b = (b ≢ 13) × (b ≢ 0xEF)
 
 -- ---- a span mark
 
--- the spans that are open after it, where these are open before it
+-- the spans that are open after it, if these are open before it
 abbrev pub past_mark : Option SpanMark → Spans → Spans
 past_mark None spans = spans
 past_mark (Some OpensEu) spans = record spans { eu = true }

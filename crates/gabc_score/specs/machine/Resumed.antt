@@ -6,7 +6,7 @@ use Rattle.gabc_score.specs.declared.first_sound.FirstSound.TheVariants.{Either}
 use Rattle.gabc_score.specs.machine.FirstSound.{kind_of}
 use Rattle.gabc_body.specs.witness.Gatherer.{Gathered}
 
--- Where a note or a clef has come, it is not known which.
+-- If a note or a clef has come, it is not known which.
 abbrev pub first_sounded : Bool → Option ItemKind
 first_sounded true = kind_of (Some Either)
 first_sounded false = None

@@ -1,5 +1,5 @@
 -- A run of regular syllables that a machine over a score takes from a text.
-use Rattle.std.specs.Prelude.{◌≡◌, ℕ, ◌+◌, ◌≤◌, ◌<◌, ◌^◌, ◌||◌, ◌&&◌, ◌==◌, not, nat_lt, min, List, [], ◌∷◌, ◌++◌, Bool, length, map, take, drop, encode_utf8_all, if◌then◌else◌, Option, is_some, true}
+use Rattle.std.specs.Prelude.{◌≡◌, ℕ, ◌+◌, ◌≤◌, ◌<◌, ◌^◌, ◌||◌, ◌&&◌, ◌==◌, not, nat_lt, min, List, [], ◌∷◌, ◌++◌, Bool, length, map, take, drop, encode_utf8_all, if◌then◌else◌, Option, is_some}
 use Rattle.std.specs.List.{All, list_any}
 use Rattle.std.specs.Str.{IsUtf8, chars}
 use Rattle.std.specs.String.Boundary.{IsSplitPoint}
@@ -26,7 +26,7 @@ use Rattle.gabc_score.specs.declared.slot_pair.SlotUse.TheVariants.{Filling}
 use Rattle.gabc_score.specs.Before.{most, with_placed}
 use Rattle.gabc_body.specs.Canonical.{canonical_in_place, position_by}
 use Rattle.gabc_score.specs.GivesSyllables.{GivesSyllables, Runs, spelled_canonical}
-use Rattle.gabc_score.specs.RegularSyllable.{SaysText, SyllableParts, kept_spelled, snippet_texts, with_lines}
+use Rattle.gabc_score.specs.RegularSyllable.{SaysText, SyllableParts, has_gap, kept_spelled, snippet_texts, snippets_spelled, with_lines}
 use Rattle.gabc_body.specs.declared.before.Spans.{Spans}
 use Rattle.gabc_score.specs.declared.spelled.SpelledSyllable.{SpelledSyllable}
 use Rattle.gabc_score.specs.declared.waiting.Waiting.{Waiting}
@@ -61,7 +61,7 @@ sounds_on_line t = (t.0 == 0) && is_some (first_note_or_clef (items_of t.1))
 abbrev pub sounds_among : List (ℕ × List ℕ) → Bool
 sounds_among texts = list_any sounds_on_line texts
 
--- where neither a note nor a clef has come, none comes with the syllable
+-- if neither a note nor a clef has come, none comes with the syllable
 abbrev pub IsSteady : ℕ → Option ItemKind → SyllableParts → Type 0
 IsSteady lines first r = SoundsNoMore (is_some first) (sounds_among (with_lines lines 0 r.nexts r.final))
 
@@ -77,17 +77,20 @@ mark_of f = mark_at (drop f.gap f.spelled.now)
 abbrev pub past_found : Preceding → Found → Preceding
 past_found p f = record p { syllables = min (p.syllables + 1) most; canonical = p.canonical + canonical_length f; spans = past_mark (mark_of f) p.spans }
 
--- Of a syllable that was found, where these spans are open after it and it stands before one that
--- begins a word or not: its place in its word, its open spans, what is kept of it, its canonical
--- text, its text and its translation, and its snippets.
+-- Of a syllable that was found, with these spans open after it, and before one that begins a word
+-- or not: its place in its word, its open spans, whether it begins after blanks, what is kept of
+-- it, its canonical text, its text and its translation, and its snippets, each in its place.
 pub record SpellsFound (lines : ℕ) (spans : Spans) (begins : Bool) (f : Found) (r : SyllableParts) (s : PlacedSyllable) : Type 0 where
   pub position : s.position ≡ position_by (nat_lt 0 f.gap) begins
   pub eu : s.made.eu ≡ spans.eu
   pub nlba : s.made.nlba ≡ spans.nlba
+  pub gap : nat_lt 0 f.gap ≡ has_gap r.gap
+  pub word_start : s.made.text.word_start ≡ has_gap r.gap
   pub kept : s.made.kept ≡ encode_utf8_all (kept_spelled r)
   pub canonical : canonical_in_place s ≡ spelled_canonical (nat_lt 0 f.gap) (drop f.gap f.spelled.now)
   pub text : SaysText s.made r.text
   pub snippets : snippet_texts s.made ≡ with_lines lines 0 r.nexts r.final
+  pub spans_are : s.made.snippets ≡ snippets_spelled lines r
 
 -- Slices spell a syllable of these parts.
 pub record IsSpelledBy (r : SpelledSyllable) (lines : ℕ) (parts : SyllableParts) : Type 0 where
@@ -170,7 +173,7 @@ pub record AreBefore (w : Waiting) (r : Reached) (front : List ℕ) : Type 0 whe
   pub some : w.earlier < r.count → (r.last.gap ≡ 0) × (length front + length r.last.spelled.now < w.most)
   pub none : w.earlier ≡ r.count → (front ≡ []) × (w.starts ≡ nat_lt 0 r.last.gap)
 
--- The same as `RunsMore`, where some of those that a taker has not taken wait.
+-- The same as `RunsMore`, but some of those that a taker has not taken wait.
 pub record RunsOn {Taker : Type 0} (given_by : Taker → List PlacedSyllable → Taker) (m : ScoreMachine) (at : Place) (text : List ℕ) (given : List PlacedSyllable) (old : Taker) (w : Waiting) (front : List ℕ) (reached : Reached) (new : Taker) : Type 0 where
   pub more : List PlacedSyllable
   pub waiting : List PlacedSyllable
@@ -187,14 +190,14 @@ pub record IsSamePair (old new : ScoreMachine) : Type 0 where
   pub used : new.pair.used ≡ Filling
   pub is : new ≡ record old { pair = new.pair }
 
--- The machine goes on before a syllable of a run, where none is held.
+-- The machine goes on before a syllable of a run, and none is held.
 pub record GoesBefore (m : ScoreMachine) (p : Preceding) (at : Place) (on : ScoreMachine) : Type 0 where
   pub gathered : on.pair.gathered ≡ record m.pair.gathered { made = []; total = p.canonical; eu = p.spans.eu; nlba = p.spans.nlba }
   pub used : on.pair.used ≡ Filling
   pub body : on.body ≡ record m.body { part = Text (fresh_stage at) }
   pub counts : CountsHold on.body.part nothing_open
   pub keeps : (lines macros : ℕ) → PartKeeps lines macros on.body.part (in_text [])
-  pub is : on ≡ record m { pair = on.pair; has_lent = true; bounds = record { before = p; after = p }; body = on.body; next = at }
+  pub is : on ≡ record m { pair = on.pair; bounds = record { before = p; after = p }; body = on.body; next = at }
 
 -- ---- the end of a run
 

@@ -1,5 +1,5 @@
 -- What a machine over a score shows, and what holds of it between two calls.
-use Rattle.std.specs.Prelude.{◌≡◌, ℕ, ◌≤◌, nat_lt, true, false, [], length, None}
+use Rattle.std.specs.Prelude.{◌≡◌, ℕ, ◌≤◌, nat_lt, Bool, true, false, [], length, None}
 use Rattle.std.specs.List.{All}
 use Rattle.gabc_score.specs.declared.preceding.Preceding.{Preceding}
 use Rattle.gabc_score.specs.Before.{with_each}
@@ -20,9 +20,13 @@ use Rattle.gabc_score.specs.machine.Preceded.{IsPreceded}
 use Rattle.gabc_score.specs.machine.ScoreStage.{HeldScore}
 use Rattle.gabc_score.specs.machine.SlotPair.{is_made}
 
+-- a syllable was given: one stands before the held one
+abbrev pub has_given : ScoreMachine → Bool
+has_given m = nat_lt 0 m.bounds.before.syllables
+
 -- what was read
 abbrev pub held_score : ScoreMachine → HeldScore
-held_score m = record { next = m.next; gathered = m.pair.gathered; has_lent = m.has_lent }
+held_score m = record { next = m.next; gathered = m.pair.gathered; has_lent = has_given m }
 
 abbrev pub shown : ScoreMachine → ScoreStageState
 shown m = record { limits = m.limits; part = m.part; before = m.bounds.before; held = held_score m; body = m.body; first = m.pair.first; second = m.pair.second }
@@ -32,8 +36,8 @@ pub record IsShort (limit : ℕ) (m : UnplacedSyllable) : Type 0 where
   pub kept : length m.kept ≤ limit
   pub canonical : length (canonical false m) ≤ limit
 
--- between two calls: nothing found is kept, the slots are those of the limits, and what is held is
--- within them
+-- between two calls: no finding is left, the slots are those of the limits, and the held syllable
+-- is within them
 pub record IsAtRest (m : ScoreMachine) : Type 0 where
   pub none : m.found.items ≡ []
   pub room : 9 ≤ m.found.limit
@@ -46,7 +50,6 @@ pub record IsAtRest (m : ScoreMachine) : Type 0 where
 pub record IsBeforeBody (m : ScoreMachine) : Type 0 where
   pub rests : IsAtRest m
   pub nothing : m.pair.gathered ≡ nothing_gathered m.limits.syllable 0
-  pub none_lent : m.has_lent ≡ false
 
 -- no syllable is whole, whether it was given or not
 pub record NoneIsWhole (before : Preceding) (g : Gathered) : Type 0 where
@@ -54,15 +57,14 @@ pub record NoneIsWhole (before : Preceding) (g : Gathered) : Type 0 where
   pub none_made : g.made ≡ []
 
 -- In the body what is counted holds, no limit is passed, the kept text is within its limit, what is
--- gathered is what its parts say, and what is held holds a unit, and its spans follow from those
--- before it. In front of the first text no syllable is whole.
+-- gathered is what its parts say, and the held syllable holds a unit, and its spans follow from
+-- those before it. In front of the first text no syllable is whole.
 pub record IsInBody (m : ScoreMachine) : Type 0 where
   pub rests : IsAtRest m
   pub counts : CountsHold m.body.part m.pair.gathered.builder
   pub kept : length m.pair.gathered.builder.kept ≤ m.limits.syllable
   pub preceded : IsPreceded m.bounds.before m.pair.gathered
   pub after : m.bounds.after ≡ with_each m.bounds.before m.pair.gathered.made
-  pub lent : m.has_lent ≡ nat_lt 0 m.bounds.before.syllables
   pub code : code_in m.limits m.pair.gathered ≡ None
   pub reading : IsReading m.body.nabc_lines m.body.macros m.body.part m.bounds.after.spans m.pair.gathered
   pub units : HoldUnits m.body.nabc_lines m.bounds.before m.pair.gathered.made

@@ -40,7 +40,7 @@ held_outputs s = outputs_of [] (placed_after s.has_lent s.gathered.made)
 abbrev pub stop_outputs : HeldScore → Fault → List ScoreOutput
 stop_outputs s fault = held_outputs s ++ Stop fault ∷ []
 
--- at a character of which the body emits this, where no limit is passed
+-- at a character of which the body emits this, if no limit is passed
 abbrev pub point_outputs : HeldScore → Char → List BodyEvent → List ScoreOutput
 point_outputs s x now =
     let g = with_all s.gathered now in
@@ -69,7 +69,7 @@ abbrev pub left_by : Option Code → HeldScore → Char → List BodyEvent → L
 left_by (Some code) s x now xs later = stop_outputs s (fault_at x.place code) ∷ silence xs
 left_by None s x now xs later = point_outputs s x now ∷ later
 
--- what it will still emit, where the body's machine will still emit these lists
+-- what it will still emit, if the body's machine will still emit these lists
 abbrev pub body_left : Limits → HeldScore → List (List BodyEvent) → List HeadEvent → List (List ScoreOutput)
 body_left limits s lists [] = held_outputs s ∷ []
 body_left limits s (now ∷ lists) (head_event.Body x ∷ xs) =

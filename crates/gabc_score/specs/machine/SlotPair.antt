@@ -13,8 +13,8 @@ use Rattle.gabc_body.specs.witness.Gatherer.{Gathered}
 use Rattle.gabc_score.specs.machine.Slot.{ReadSyllable, made_in, placed_in}
 use Rattle.gabc_body.specs.witness.SyllableBuilder.{OpenSyllable, nothing_open}
 
--- what was gathered, the whole syllable that is held, if one is, how the slot is used that reads,
--- and the two that may be borrowed
+-- what was gathered, the held syllable, if there is one, the use of the slot that reads, and the
+-- two syllables that may be borrowed
 pub record SlotPairState : Type 0 where
   pub gathered : Gathered
   pub held : List UnplacedSyllable
@@ -22,13 +22,13 @@ pub record SlotPairState : Type 0 where
   pub first : PlacedSyllable
   pub second : PlacedSyllable
 
--- This was gathered, and the slot that reads is used so. What is held stays.
+-- This was gathered, and this is the use of the slot that reads. The held syllable stays.
 pub record HasGathered (before : SlotPairState) (g : Gathered) (used_so : SlotUse) (after : SlotPairState) : Type 0 where
   pub gathered : after.gathered ≡ g
   pub held : after.held ≡ before.held
   pub used : after.used ≡ used_so
 
--- nothing is read where the slot holds a whole syllable
+-- nothing is read if the slot has a whole syllable
 abbrev pub reading_in : SlotUse → ReadSyllable → OpenSyllable
 reading_in Filling s = s.reading
 reading_in Made s = nothing_open

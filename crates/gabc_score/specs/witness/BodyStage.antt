@@ -1,5 +1,5 @@
 -- What the machine over a body will still emit. It is no promise: that it emits what a body emits
--- is proved, where no count of the body reaches its last value.
+-- is proved, if no count of the body reaches its last value.
 use Rattle.std.specs.Prelude.{ℕ, List, [], map, Bool, if◌then◌else◌}
 use Rattle.gabc_places.specs.StageLaw.{silence}
 use Rattle.gabc_places.specs.declared.place.Char.{Char}

@@ -21,7 +21,7 @@ abbrev pub opens : BodyEvent → Bool
 opens (event.Text (text.Ended Notes)) = true
 opens _ = false
 
--- the place of this `(`, if there is one, where these lists are what the characters emit
+-- the place of this `(`, if there is one, and these lists are what the characters emit
 abbrev pub notes_at : List Char → List (List BodyEvent) → Option Place
 notes_at [] lists = None
 notes_at (x ∷ xs) [] = None
@@ -55,7 +55,7 @@ module _ (lines macros : ℕ) (t : List ℕ) where
   is_inside = is_other (cut_of (concat_of (drop (length t) lists))) (notes_at placed lists)
 
 -- Read by itself the text is what is kept of it, and no syllable is whole. A comment is open after
--- it only where a `%` there is not kept. The openers say what else is open, wherever they stand.
+-- it only if a `%` there is not kept. The openers say what else is open, wherever they stand.
 pub record IsEmittedAgain (lines macros : ℕ) (t : List ℕ) (openers : Openers) (comment : Bool) : Type 0 where
   pub kept : kept_of (emitted lines macros t) ≡ encode_utf8_all t
   pub none : all_syllables (emitted lines macros t) ≡ []

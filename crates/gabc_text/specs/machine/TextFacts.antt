@@ -1,5 +1,5 @@
 -- What the code keeps of the tokens so far.
-use Rattle.std.specs.Prelude.{◌≡◌, ℕ, ◌==◌, Bool, true, false, cond, not, ◌||◌, ◌&&◌, Option, Some, None}
+use Rattle.std.specs.Prelude.{ℕ, ◌==◌, Bool, true, false, cond, not, ◌||◌, ◌&&◌, Option, Some, None}
 use Rattle.gabc_text.specs.declared.styles.Style.{Style}
 use Rattle.gabc_text.specs.declared.styles.Style.TheVariants.{B, C, E, I, Sc, Tt, Ul}
 use Rattle.gabc_text.specs.declared.styles.Styles.{Styles}
@@ -12,9 +12,7 @@ use Rattle.gabc_text.specs.declared.token.TagEffect.{TagEffect}
 use Rattle.gabc_text.specs.declared.token.TagEffect.TheVariants.{Opens, Closes, Mark, Other}
 use Rattle.gabc_text.specs.declared.token_state.TokenState.{TokenState}
 use Rattle.gabc_text.specs.declared.token_state.TokenState.TheVariants.{Plain}
-use Rattle.gabc_text.specs.declared.token_state.Step.TheVariants.{Stays}
 use Rattle.gabc_text.specs.witness.FactsPast.{leaves_out}
-use Rattle.gabc_text.specs.machine.TokenState.{is_plain, keep, next_step, settled_kind, with_name}
 
 abbrev pub with_style : Styles → Style → Bool → Styles
 with_style s B o = record s { b = o }
@@ -33,14 +31,6 @@ styles_after s _ = s
 abbrev pub early_at : TextFacts → TokenState → ℕ → Option Code
 early_at s Plain c = cond (c == 91 && s.translated) (Some W5) None
 early_at s _ c = None
-
--- In this state the character begins a tag or goes on with one: it is kept, and nothing is found.
-pub record IsInTag (state : TokenState) (c : ℕ) : Type 0 where
-  pub settles_none : settled_kind state c ≡ None
-  pub begins_no_notes : (c == 40 && is_plain state) ≡ false
-  pub keeps : (s : TextFacts) → keep s state c ≡ Some c
-  pub finds_none : (s : TextFacts) → early_at s state c ≡ None
-  pub stays : next_step state c ≡ Stays (with_name state c)
 
 -- after a piece that is no blank and no span mark
 abbrev pub after_piece : TextFacts → TextFacts

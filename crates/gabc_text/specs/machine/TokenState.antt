@@ -1,5 +1,5 @@
 -- A text is cut into tokens as its characters come.
-use Rattle.std.specs.Prelude.{◌≡◌, ℕ, ◌+◌, [], ◌∷◌, ◌++◌, Bool, true, false, cond, ◌||◌, ◌==◌, nat_lt, Option, Some, None}
+use Rattle.std.specs.Prelude.{ℕ, ◌+◌, [], ◌∷◌, ◌++◌, Bool, true, false, cond, ◌||◌, ◌==◌, nat_lt, Option, Some, None}
 use Rattle.gabc_text.specs.declared.token.TokenKind.{TokenKind}
 use Rattle.gabc_text.specs.declared.token.TokenKind.TheVariants as kind
 use Rattle.gabc_text.specs.declared.token.TagEffect.{TagEffect}
@@ -52,11 +52,6 @@ next_step (Tag name) c = cond (c == 62) (step_at_tag_end (effect_of (60 ∷ name
 next_step (Raw raw m) c = step_in_raw raw m c
 next_step Translation c = cond (c == 93) (Ends kind.Translation Other) (Stays Translation)
 
--- in a tag, with its name so far
-abbrev pub with_name : TokenState → ℕ → TokenState
-with_name (Tag name) c = Tag (next_name name c)
-with_name _ c = Tag []
-
 abbrev pub kind_at_end : TokenState → Option TokenKind
 kind_at_end Plain = None
 kind_at_end Dollar = Some kind.Letter
@@ -78,11 +73,3 @@ keep facts _ c = Some c
 abbrev pub is_plain : TokenState → Bool
 is_plain Plain = true
 is_plain _ = false
-
--- between tokens, the character is a token by itself, a letter
-pub record IsLetterBetween (c : ℕ) : Type 0 where
-  pub is_letter : single c ≡ kind.Letter
-  pub is_whole : first_step c ≡ Ends kind.Letter Other
-  pub begins_no_notes : (c == 40) ≡ false
-  pub begins_no_comment : (c == 37) ≡ false
-  pub begins_no_translation : (c == 91) ≡ false

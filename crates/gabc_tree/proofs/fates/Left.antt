@@ -12,13 +12,13 @@ use Rattle.gabc_headers.specs.Lines.{bytes_len}
 use Rattle.gabc_headers.specs.declared.heads.Heads.{Heads}
 use Rattle.gabc_text.specs.Token.{is_blank}
 use Rattle.gabc_body.specs.Score.{heads_text, after_heads, score_of}
+use Rattle.gabc_nodes.specs.declared.kind.Kind.{Kind}
+use Rattle.gabc_nodes.specs.declared.kind.Kind.TheVariants as kind
 use Rattle.gabc_tree.specs.CodeNumber.{number_of_code}
 use Rattle.gabc_tree.specs.Fates.{reached_after, spaced, left_of, IsKeptText}
 use Rattle.gabc_tree.specs.NotKept.{Reached, begun, code_at, comes_next, out_by_code, out_in_body, out_by, out_of, is_silent, but_first, past, past_head, past_body, past_shown, nodes_by, nodes_from}
 use Rattle.gabc_tree.specs.Placed.{bytes_in}
 use Rattle.gabc_tree.specs.Tree.{ending_by, characters_before, kept_characters}
-use Rattle.gabc_tree.specs.declared.kind.Kind.{Kind}
-use Rattle.gabc_tree.specs.declared.kind.Kind.TheVariants as kind
 use Rattle.gabc_tree.proofs.fates.Input.{shown, shown_is}
 use Rattle.gabc_tree.proofs.fates.OfScore.{count_of, text_is, all_found}
 

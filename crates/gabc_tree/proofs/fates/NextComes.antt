@@ -219,7 +219,7 @@ module _ (limits : Limits) (head lines macros : ℕ) (at_end : Place) (ending : 
   may_same : (b next : BodyRead) (d : ℕ) → next.reading.part ≡ b.reading.part → next.reading.kept ≡ b.reading.kept → MayCome lines next.reading.part next.reading.kept d → MayCome lines b.reading.part b.reading.kept d
   may_same b next d p k m = subst (λ (q : Part). MayCome lines q b.reading.kept d) p (subst (λ (u : List ℕ). MayCome lines next.reading.part u d) k m)
 
-  -- where a character is kept that is cut, it is outside raw
+  -- if a character is kept that is cut, it is outside raw
   pub cut_outside : (b : BodyRead) (x : Char) (xs : List Char) (line : ℕ) (ks : List ℕ) → b.reading.part ≡ InNotes line → Coming b (x ∷ xs) ≡ Some ks
       → nat_le (length (whole_of line (kept_at_end lines macros b (x ∷ xs)))) (length b.reading.kept) ≡ true → is_raw_in line b.reading.kept ≡ false
   cut_outside b x xs line ks p h cut = by (line == 0) refl (in_raw b.reading.kept) refl

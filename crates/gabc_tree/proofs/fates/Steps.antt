@@ -46,7 +46,7 @@ abbrev pub AreHere : Place → List Finding → Type 0
 AreHere here [] = Unit {0}
 AreHere here (f ∷ fs) = ((leaves_out f.code ≡ false) ⊎ (f.place ≡ here)) × AreHere here fs
 
--- none of these is found where a character is left out
+-- none of these is found if a character is left out
 abbrev pub AreOthers : List Finding → Type 0
 AreOthers [] = Unit {0}
 AreOthers (f ∷ fs) = (is_error f.code ≡ false) × AreOthers fs

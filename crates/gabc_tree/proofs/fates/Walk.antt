@@ -19,11 +19,11 @@ use Rattle.gabc_nabc.specs.KeptNabc as nabc_text
 use Rattle.gabc_nabc.specs.KeptNabc.{fate_in_nabc}
 use Rattle.gabc_body.specs.Reading.{Part, InText, InNotes, Reading, BodyRead, fate_by, kept_as, whole_of, past, code_now}
 use Rattle.gabc_body.specs.declared.ending.InputEnding.{InputEnding}
+use Rattle.gabc_nodes.specs.declared.kind.Kind.{Kind}
+use Rattle.gabc_nodes.specs.declared.kind.Kind.TheVariants as kind
 use Rattle.gabc_tree.specs.CodeNumber.{number_of_code}
 use Rattle.gabc_tree.specs.Fates.{fate_at, kept_at_end, is_cut_by, is_cut, out_by_fate, out_by_reading}
 use Rattle.gabc_tree.specs.NotKept.{Reached, leaves_out, from_here, code_at, comes_next, out_by_code, out_in_body, is_comment, but_first, past_shown}
-use Rattle.gabc_tree.specs.declared.kind.Kind.{Kind}
-use Rattle.gabc_tree.specs.declared.kind.Kind.TheVariants as kind
 use Rattle.gabc_tree.proofs.fates.Steps.{AreMild, Step, comments, leaves, keeps, opens, splits, closes, left_found, step}
 use Rattle.gabc_tree.proofs.fates.Coming.{or_none, coming}
 use Rattle.gabc_tree.proofs.fates.NextKept.{none_holds, is_shown, not_next, text_ends}

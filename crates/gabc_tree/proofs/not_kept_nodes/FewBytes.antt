@@ -4,8 +4,8 @@ use Rattle.std.specs.List.{sum_by}
 use Rattle.std.specs.Str.{chars}
 use Rattle.gabc_headers.proofs.entries.TextsAsBytes.{bytes_len-chars, bytes_len-cons}
 use Rattle.std.specs.Char.{len_utf8}
-use Rattle.gabc_tree.specs.declared.kind.Kind.{Kind}
-use Rattle.gabc_tree.specs.declared.node.Node.{Node}
+use Rattle.gabc_nodes.specs.declared.kind.Kind.{Kind}
+use Rattle.gabc_nodes.specs.declared.node.Node.{Node}
 use Rattle.gabc_tree.specs.NotKept.{Reached, joined, joined_to, nodes_from, nodes_of, nodes_by, out_of, past}
 use Rattle.gabc_tree.specs.Placed.{bytes_in}
 

@@ -3,10 +3,10 @@ use Rattle.std.proofs.Common.{◌≡◌, ◌+◌, ◌≤◌, ℕ, List, [], ◌�
 use Rattle.std.specs.Char.{len_utf8}
 use Rattle.gabc_headers.proofs.entries.TextsAsBytes.{bytes_len-cons}
 use Rattle.gabc_headers.specs.Lines.{bytes_len}
+use Rattle.gabc_nodes.specs.declared.kind.Kind.{Kind}
+use Rattle.gabc_nodes.specs.declared.node.Node.{Node}
 use Rattle.gabc_tree.specs.Nested.{AreNested, over, node}
 use Rattle.gabc_tree.specs.NotKept.{Reached, joins, joined, joined_to, nodes_by, nodes_from, out_of, past}
-use Rattle.gabc_tree.specs.declared.kind.Kind.{Kind}
-use Rattle.gabc_tree.specs.declared.node.Node.{Node}
 
 -- nodes one after the other, in which no other lies
 abbrev pub InRow : ℕ → ℕ → List Node → Type 0

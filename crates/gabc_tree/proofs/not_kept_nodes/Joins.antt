@@ -1,6 +1,6 @@
 -- Nodes that are joined one after the other.
 use Rattle.std.proofs.Common.{◌≡◌, List, [], ◌∷◌, ◌++◌, ap, ◌∙◌, Bool, true, false, ◌&&◌, ◌==◌, append_assoc, Some, arith}
-use Rattle.gabc_tree.specs.declared.node.Node.{Node}
+use Rattle.gabc_nodes.specs.declared.node.Node.{Node}
 use Rattle.gabc_tree.specs.NotKept.{joins, joined, joined_to}
 use Rattle.gabc_tree.specs.machine.NotKept.{joined_after}
 

@@ -4,8 +4,8 @@ use Rattle.std.specs.Char.{len_utf8}
 use Rattle.std.specs.Str.{chars, IsCharBoundary}
 use Rattle.std.proofs.lemmas.Grind.{common_steps}
 use Rattle.std.proofs.lemmas.Str.{chars_past_char, encode_ascii, IsUtf8-drop, IsCharBoundary-after_ascii}
+use Rattle.gabc_nodes.specs.declared.kind.Kind.{Kind}
 use Rattle.gabc_tree.specs.NotKept.{Reached, nodes_from, nodes_by, out_of, past}
-use Rattle.gabc_tree.specs.declared.kind.Kind.{Kind}
 
 -- what is kept is no node
 one_kept : (s : Reached) (c : ℕ) (cs : List ℕ) → out_of s c ≡ None → nodes_from s (c ∷ cs) ≡ nodes_from (past s c) cs

@@ -1,6 +1,6 @@
 -- A node before all of what is not kept stands as far on as bytes were passed.
 use Rattle.std.proofs.Common.{◌≡◌, ◌+◌, ◌≤◌, ◌<◌, ◌^◌, ℕ, nat_lt, List, [], ◌∷◌, length, drop, slice_index_or, IsTrue, refl, ap, ◌∙◌, arith}
-use Rattle.gabc_tree.specs.declared.node.Node.{Node}
+use Rattle.gabc_nodes.specs.declared.node.Node.{Node}
 use Rattle.gabc_tree.specs.Placed.{Reach, bytes_in, before_byte, up_to, reach_to, byte_at, first_of, begin_of, inside_of, end_by, nodes_at, reach_past, moved}
 
 none_before : (a b : ℕ) (out : List Node) → a ≤ b → before_byte b out ≡ [] → before_byte a out ≡ []

@@ -1,6 +1,6 @@
 -- Nodes placed one after the other, in two parts.
 use Rattle.std.proofs.Common.{◌≡◌, ◌++◌, List, [], ◌∷◌, refl, sym, ap, ◌∙◌, append_assoc}
-use Rattle.gabc_tree.specs.declared.node.Node.{Node}
+use Rattle.gabc_nodes.specs.declared.node.Node.{Node}
 use Rattle.gabc_tree.specs.Placed.{Reach, placed_from, reach_after, reach_past, nodes_at}
 
 pub placed_both : (r : Reach) (ns more : List Node) → placed_from r (ns ++ more) ≡ placed_from r ns ++ placed_from (reach_after r ns) more

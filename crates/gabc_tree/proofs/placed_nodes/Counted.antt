@@ -1,8 +1,8 @@
 -- How many nodes are put, with what is not kept.
 use Rattle.std.proofs.Common.{◌≡◌, ◌≤◌, ℕ, ◌+◌, Bool, true, false, List, [], ◌∷◌, length, length-append, nat_le, refl, ap, arith}
 use Rattle.std.proofs.lemmas.Bool.{leb-true, leb-false}
+use Rattle.gabc_nodes.specs.declared.node.Node.{Node}
 use Rattle.gabc_tree.specs.Placed.{Reach, up_to, reach_to, first_of, node_in, nodes_at, reach_past, placed_from, reach_after}
-use Rattle.gabc_tree.specs.declared.node.Node.{Node}
 use Rattle.gabc_tree.proofs.placed_nodes.Reaches.{up_more}
 
 -- what stands before a byte stands before another, or after it

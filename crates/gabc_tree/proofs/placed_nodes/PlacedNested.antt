@@ -1,9 +1,9 @@
 -- Nodes that lie in one another do so where they are put in the input.
 use Rattle.std.proofs.Common.{◌≡◌, ℕ, suc, ◌+◌, ◌-◌, ◌≤◌, Bool, true, false, cond, ◌&&◌, nat_lt, List, [], ◌∷◌, ◌++◌, length, length-append, refl, sym, ap, subst, ◌∙◌, append_assoc, append-nil, arith}
 use Rattle.std.proofs.lemmas.Bool.{lt-ltb, ltb-true}
+use Rattle.gabc_nodes.specs.declared.node.Node.{Node}
 use Rattle.gabc_tree.specs.Nested.{AreNested, over, node}
 use Rattle.gabc_tree.specs.Placed.{Reach, offset, bytes_in, up_to, reach_to, byte_at, is_snippet, is_between, first_of, begin_of, inside_of, end_by, node_in, nodes_at, placed_from, reach_past, reach_after}
-use Rattle.gabc_tree.specs.declared.node.Node.{Node}
 use Rattle.gabc_tree.proofs.KeptNodes.{AreKept, none, part, empty, notes, kept_order}
 use Rattle.gabc_tree.proofs.not_kept_nodes.InPlace.{InRow, earlier}
 use Rattle.gabc_tree.proofs.placed_nodes.Appended.{placed_both, reach_both}

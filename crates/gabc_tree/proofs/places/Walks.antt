@@ -28,7 +28,7 @@ not_earlier a b q h i = by (is_before q a) refl
     by true e = absurd (true≢false (sym (before_trans q a b e h) ∙ i))
     by false e = refl
 
--- where the numbers are small, the next place is later
+-- if the numbers are small, the next place is later
 later_place : (w : Walk) (c : ℕ) → IsWithin w → is_before w.here (saturating_next_place w.here c) ≡ true
 later_place w c i = ap (is_before w.here) (next_near w.here c (c ∷ []) near) ∙ before_next w.here c
   where

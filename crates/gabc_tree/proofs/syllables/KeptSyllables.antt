@@ -5,13 +5,13 @@ use Rattle.gabc_places.specs.declared.place.Span.{Span}
 use Rattle.gabc_neumes.specs.InForce.{InForce}
 use Rattle.gabc_body.specs.Syllable.{PlacedSyllable, text_at}
 use Rattle.gabc_body.specs.declared.snippets.Snippet.{Snippet}
+use Rattle.gabc_nodes.specs.declared.node.Node.{Node}
 use Rattle.gabc_tree.specs.NabcNodes.{nabc_nodes}
 use Rattle.gabc_tree.specs.NoteNodes.{gabc_nodes}
 use Rattle.gabc_tree.specs.Placed.{offset, moved}
 use Rattle.gabc_tree.specs.SyllableNodes.{snippet_node, items_nodes, snippet_nodes, force_past, notes_nodes, text_len, has_notes, force_at, force_past_syllable, syllable_node, inside_nodes, syllable_nodes}
 use Rattle.gabc_tree.specs.TextNodes.{text_nodes}
 use Rattle.gabc_tree.specs.Tree.{body_nodes, body_end}
-use Rattle.gabc_tree.specs.declared.node.Node.{Node}
 use Rattle.gabc_tree.proofs.KeptNodes.{AreKept, none, part, empty, notes, kept_order, kept_both}
 use Rattle.gabc_tree.proofs.NestedNabc.{nabc_is_kept}
 use Rattle.gabc_tree.proofs.NestedNotes.{notes_are_kept}

@@ -1,4 +1,4 @@
--- Where something stands in a line of the headers.
+-- The places of marks in a line of the headers.
 use Rattle.std.specs.Prelude.{if◌then◌else◌, ℕ, ◌+◌, ◌-◌, ◌==◌, ◌<◌, ◌≤◌, ◌^◌, ◌&&◌, ◌||◌, nat_lt, List, [], ◌∷◌, Bool, true, false, length, Option, Some, None}
 use Rattle.gabc_headers.specs.Lines.{is_blank, is_blank_or_lf, ends_no_value, has_mark, before_mark, has_colon, before_colon, trim_start}
 use Rattle.gabc_tree.specs.declared.header_lines.Header.{Header}

@@ -4,8 +4,8 @@ use Rattle.gabc_notes.specs.declared.item.Item.{Item}
 use Rattle.gabc_neumes.specs.declared.glyph.GlyphKind.{GlyphKind}
 use Rattle.gabc_neumes.specs.Elements.{is_in_element}
 use Rattle.gabc_neumes.specs.InForce.{InForce}
+use Rattle.gabc_nodes.specs.declared.node.Node.{Node}
 use Rattle.gabc_tree.specs.NoteNodes.{is_note, item_node, glyph_from, glyph_node}
-use Rattle.gabc_tree.specs.declared.node.Node.{Node}
 use Rattle.gabc_tree.specs.declared.note_nodes.ItemPlace.{ItemPlace}
 
 -- the node of a glyph, if one begins
@@ -13,7 +13,7 @@ abbrev pub node_of_glyph : ℕ → Option (GlyphKind × ℕ) → Item → List I
 node_of_glyph base None i items = []
 node_of_glyph base (Some g) i items = glyph_node base g i items ∷ []
 
--- that of the glyph that begins with the item: one does where no notes of the one before are left
+-- that of the glyph that begins with the item: one does if no notes of the one before are left
 abbrev pub next_glyph : ℕ → List ℕ → ℕ → Item → List Item → List Node
 next_glyph base kept zero i items = node_of_glyph base (glyph_from kept i items) i items
 next_glyph base kept (suc left) i items = []

@@ -1,6 +1,6 @@
 -- Nodes that are put where they stand, one after the other.
 use Rattle.std.specs.Prelude.{List}
-use Rattle.gabc_tree.specs.declared.node.Node.{Node}
+use Rattle.gabc_nodes.specs.declared.node.Node.{Node}
 use Rattle.gabc_tree.specs.Placed.{Reach}
 
 -- the nodes so far, and the place after the last one's first byte

@@ -67,7 +67,7 @@ with_episema s digits = record s {
   unbridged = is_in 50 digits || s.unbridged;
 }
 
--- the side of so many `_`, with which the text begins
+-- the side of this number of `_`, with which the text begins
 abbrev pub side_of_run : ℕ → List ℕ → Side
 side_of_run zero t = side.Auto
 side_of_run (suc n) t = side_by (digits_of (drop (suc n) t))

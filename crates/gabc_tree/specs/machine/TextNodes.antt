@@ -11,7 +11,7 @@ use Rattle.gabc_text.specs.declared.token_reader.TextToken.{TextToken}
 use Rattle.gabc_text.specs.Token.{Token}
 use Rattle.gabc_text.specs.View.{is_open_after, has_begin, has_end, has_word, follows_blank, has_translation, piece_kind, is_space}
 use Rattle.gabc_text.specs.Events.{styles_of}
-use Rattle.gabc_tree.specs.declared.node.Node.{Node}
+use Rattle.gabc_nodes.specs.declared.node.Node.{Node}
 use Rattle.gabc_tree.specs.declared.text_nodes.Before.{Before}
 use Rattle.gabc_tree.specs.TextNodes.{node_by, numbers}
 

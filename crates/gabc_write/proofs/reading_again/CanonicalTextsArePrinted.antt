@@ -1,4 +1,5 @@
--- The canonical texts of a score's syllables are printed syllables, one after the other, the first of which begins a word.
+-- The canonical texts of a score's syllables are printed syllables, one after the other, the first
+-- of which begins a word.
 use Rattle.std.proofs.Common.{◌≡◌, ℕ, ◌≤◌, List, [], ◌∷◌, ◌++◌, length, length-append, Bool, true, false, if◌then◌else◌, Option, Some, None, refl, sym, ap, subst, ◌∙◌, append_assoc, arith, codes}
 use Rattle.std.specs.List.{All, flat_map}
 use Rattle.std.specs.Option.{option_map}
@@ -69,7 +70,7 @@ module _ (lines : ℕ) (one : (u : ScoreUnit) (m : UnplacedSyllable) → HoldsUn
     bytes : flat_map canonical_in_place ss ++ codes "\n" ≡ encodes (printed_body facts)
     plain : AreUnitTexts units → IsText (printed_body facts)
 
-  -- a unit begins a word where its text does: the first one's does
+  -- a unit begins a word if its text does: the first one's does
   begins_as : (before after : List ScoreUnit) (u : ScoreUnit) → all ≡ before ++ u ∷ after → begins_word before u ≡ (view_in u.text).word_start
   begins_as before after u e = grind arith
 

@@ -1,4 +1,4 @@
--- Where the end of a part is emitted, there the part ends in the cutting of a body.
+-- At the point at which the end of a part is emitted, the part ends in the cutting of a body.
 use Rattle.std.proofs.Common.{◌≡◌, ℕ, suc, List, [], ◌∷◌, ◌++◌, length, length-append, take, Bool, true, false, if◌then◌else◌, Option, Some, None, refl, sym, ap, subst, ◌∙◌, append-nil, arith}
 use Rattle.std.specs.List.{list_any}
 use Rattle.gabc_places.proofs.NothingAfterAnEnd.{both_empty}

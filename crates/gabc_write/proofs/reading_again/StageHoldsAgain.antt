@@ -1,4 +1,4 @@
--- A stage that stands after the same holds by its text what is equivalent to the syllable that is held.
+-- A stage that stands after the same holds by its text what is equivalent to the held syllable.
 use Rattle.std.proofs.Common.{◌≡◌, ℕ, Bool, true, false, List, Option, Some, IfSome, is_some, refl, sym, ap, subst, ◌∙◌, arith}
 use Rattle.std.specs.Prelude.{IsUtf8, ◌==◌}
 use Rattle.std.specs.Str.{chars}
@@ -19,21 +19,21 @@ use Rattle.gabc_score.specs.witness.ScoreStage.{ScoreStageState}
 use Rattle.gabc_write.specs.SetDown.{MayBeHeldByItsText, SayTheSame}
 use Rattle.gabc_write.specs.SyllableRead.{as_it_stands, IsReadFromItsText}
 use Rattle.gabc_write.specs.machine.SetDown.{BeginsAlike}
-use Rattle.gabc_write.proofs.reading_again.HeldAgain.{SyllablesByKept, bytes_after, says_again, stands_for}
+use Rattle.gabc_write.proofs.reading_again.SyllableIsHeldByItsText.{SyllablesByKept, bytes_after, says_again, stands_for}
 
 abbrev pub told_before : ScoreStageState → Before
 told_before s = before_with s.body s.before
 
 -- in the body a stage reports what stands before
-pub told_in_body : {A : Type 0} → (p : ScorePart) (a : A) → is_some (in_body p a) ≡ true → in_body p a ≡ Some a
-told_in_body p a h = grind arith
+pub reported_in_body : {A : Type 0} → (p : ScorePart) (a : A) → is_some (in_body p a) ≡ true → in_body p a ≡ Some a
+reported_in_body p a h = grind arith
 
 pub some_held : (P : UnplacedSyllable → Type 0) (o : Option UnplacedSyllable) (m : UnplacedSyllable) → o ≡ Some m → IfSome o P → P m
 some_held P o m is h = subst (λ (x : Option UnplacedSyllable). IfSome x P) is h
 
 module _ (told old : ScoreStageState) (runs : is_some (before_of told) ≡ true) (stands : IsAfterSyllables told.limits (told_before told) old) where
   before_told : before_of told ≡ Some (told_before told)
-  before_told = told_in_body told.part (told_before told) runs
+  before_told = reported_in_body told.part (told_before told) runs
 
   before_old : told_before old ≡ told_before told
   before_old = cc (ap (λ (p : ScorePart). in_body p (told_before old)) (sym stands.begins.body) ∙ stands.before_is)

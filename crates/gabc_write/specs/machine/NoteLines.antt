@@ -23,8 +23,8 @@ notes_from kept first after = first ∷ notes_after kept after
 abbrev pub glyph_at : List ℕ → List Item → Option (GlyphKind × ℕ)
 glyph_at kept items = glyph_of (notes_after kept items)
 
--- at a note the line of the glyph that begins with it: one does where none of the notes of the
--- glyph before are left
+-- at a note the line of the glyph that begins with it: one does if none of the notes of the glyph
+-- before are left
 abbrev pub line_of_next : ℕ → Option (GlyphKind × ℕ) → List ℕ
 line_of_next (suc left) g = []
 line_of_next zero None = []

@@ -21,8 +21,8 @@ pub record IsFreeRoom (room : BoundedList ScoreEvent) : Type 0 where
   pub empty : room.items ≡ []
   pub wide : 16 ≤ room.limit
 
--- It stands after the same under the same limits, and holds what is equivalent to the syllable that
--- is held.
+-- It stands after the same under the same limits, and holds a syllable that is equivalent to the
+-- held one, if there is one.
 pub record HoldsAlike (told s : ScoreStageState) : Type 0 where
   pub limits_are : s.limits ≡ told.limits
   pub before_is : before_of s ≡ before_of told

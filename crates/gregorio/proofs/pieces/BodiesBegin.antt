@@ -1,4 +1,4 @@
--- A score that is reported where its body begins goes on as it would have.
+-- A score that is reported at the beginning of its body goes on as it would have.
 use Rattle.std.proofs.Common.{◌≡◌, ℕ, List, Bool, true, is_none, Result, ap, sym, subst, ◌∙◌, arith}
 use Rattle.gabc_places.specs.DecoderMachine.{DecoderState}
 use Rattle.gabc_places.specs.declared.code.Fault.{Fault}

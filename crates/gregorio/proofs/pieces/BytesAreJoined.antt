@@ -14,6 +14,6 @@ same_streams s t output messages status fault = λ i. record { output = output i
 pub after_same : (output lines : List ℕ) (s t : Streams) → after_bytes output lines s ≡ after_bytes output lines t → s ≡ t
 after_same output lines s t e = grind (arith, same_streams, append_cancel_left)
 
--- what waits where nothing waited is what was written
+-- what waits is what was written, if nothing waited before
 pub waits_now : (old new : BoundedList ℕ) (text : List ℕ) → old.items ≡ [] → new ≡ extended_by old text → new.items ≡ text
 waits_now old new text empty e = ap (λ (r : BoundedList ℕ). r.items) e ∙ ap (λ (xs : List ℕ). xs ++ text) empty

@@ -1,5 +1,5 @@
 -- A byte that an engine takes brings what was to come for it, and so do the bytes of a piece.
-use Rattle.std.proofs.Common.{◌≡◌, ℕ, ◌≤◌, ◌||◌, List, [], ◌∷◌, ◌++◌, length, take, length-take, take-take, true, false, not, Option, None, IfSome, is_none, is_some, Result, ap, append_assoc, sym, ◌∙◌, arith}
+use Rattle.std.proofs.Common.{◌≡◌, ℕ, ◌≤◌, ◌||◌, List, [], ◌∷◌, ◌++◌, length, take, length-take, take-take, true, false, not, Option, None, IfSome, is_none, is_some, Result, ap, append_assoc, refl, sym, ◌∙◌, arith}
 use Rattle.std.specs.List.{list_any}
 use Rattle.gabc_places.specs.StageLaw.{concat_of}
 use Rattle.gabc_places.specs.declared.code.Fault.{Fault}
@@ -12,14 +12,15 @@ use Rattle.gabc_body.specs.ScoreEvents.{ScoreOutput, Found, Stop, Syllable, End,
 use Rattle.gabc_score.specs.witness.ScoreStage.{ScoreStageState, left_of}
 use Rattle.gregorio.specs.declared.source_ending.SourceEnding.{SourceEnding}
 use Rattle.gregorio.specs.declared.source_ending.SourceEnding.TheVariants.{Broken}
-use Rattle.gregorio.specs.Engine.{Brings, NothingWaits, is_running, with_waiting}
+use Rattle.gregorio.specs.Engine.{Brings, IsEnded, NothingWaits, fault_of, is_running, with_waiting}
 use Rattle.gregorio.specs.witness.Engine.{EngineState, Written, book_after, ended_by, head_events_left, items_left, streams_left}
-use Rattle.gregorio.specs.Streams.{Streams, after_bytes}
+use Rattle.gregorio.specs.Streams.{Streams, after_bytes, ended_with}
 use Rattle.gregorio.specs.Outcome.{is_error_finding, is_whole, status_by}
 use Rattle.gregorio.specs.machine.ScoreWriter.{ScoreWriterState, IsOver, IsReserved, IsSteady}
 use Rattle.gregorio.specs.machine.Engine.{WritesItems, streams_of_items}
 use Rattle.gregorio.proofs.pieces.BytesAreJoined.{with_both_after}
 use Rattle.gregorio.specs.declared.run_ending.RunEnding.{RunEnding}
+use Rattle.gregorio_jobs.specs.declared.job.Status.{Status}
 use Rattle.gregorio_jobs.specs.declared.job.Status.TheVariants.{ReadFault}
 use Rattle.gregorio.proofs.StreamsOfOutputs.{EndsAtLast, outputs_are_said, over_is_last, said}
 
@@ -55,6 +56,18 @@ goes_on ended running = grind arith
 pub none_wait : (s : EngineState) → NothingWaits s → (rest : Streams) → with_waiting s rest ≡ rest
 none_wait s waits rest = ap (λ (o : List ℕ). after_bytes o s.messages rest) waits.output ∙ ap (λ (l : List ℕ). after_bytes [] l rest) waits.messages
 
+-- an engine that is over already stays as it is
+pub over_already : (s : EngineState) (ending : SourceEnding) (status : Status) → NothingWaits s → is_running s ≡ false
+    → ((bytes : List ℕ) (later : SourceEnding) → streams_left s later bytes ≡ ended_with status (fault_of s)) → IsEnded s ending status s
+over_already s ending status waits over says = record {
+  law = says [] ending ∙ sym (none_wait s waits (ended_with status (fault_of s)));
+  last = says;
+  over = over;
+  job = λ job limits runs. runs;
+  again = λ e. refl;
+  hasher = refl;
+}
+
 -- what bytes bring and bytes after them is what both bring
 pub brings_both : (old mid new : EngineState) (xs ys : List ℕ) → Brings old xs mid → Brings mid ys new → Brings old (xs ++ ys) new
 brings_both old mid new xs ys first second more ending = grind (arith, append_assoc)
@@ -66,7 +79,7 @@ front_of_front count most piece within = let l = length-take most piece in take-
 pub found_over : (o : Option RunEnding) (w : Written) (score : ScoreStageState) → is_some o ≡ true → IfSome o (λ how. IsOver w score how) → (how : RunEnding) × IsOver w score how
 found_over o w score is over = grind arith
 
--- where the run is over, nothing is written
+-- if the run is over, nothing is written
 pub over_left : (s : EngineState) (how : RunEnding) → IsOver s.written s.score how → (ending : SourceEnding) (bytes : List ℕ) → streams_left s ending bytes ≡ ended_by how
 over_left s how over ending bytes = let items = items_left s ending bytes in over_is_last s.written s.score how over (book_after s.heads items) (head_events_left s.heads ending items)
 
@@ -76,7 +89,7 @@ stopped_brings s how over piece more ending = ap (with_waiting s) (over_left s h
 
 -- ---- an input that breaks off
 
--- what a stage of scores gives where its inputs cease
+-- what a stage of scores gives if its inputs cease
 pub record GivesNoLast (outputs : List ScoreOutput) : Type 0 where
   pub findings : findings_in outputs ≡ []
   pub stop : fault_in outputs ≡ None

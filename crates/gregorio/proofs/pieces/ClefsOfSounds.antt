@@ -1,4 +1,4 @@
--- Where no note and no clef has come, no clef is in force.
+-- If no note and no clef has come, no clef is in force.
 use Rattle.std.proofs.Common.{◌≡◌, List, [], ◌∷◌, Bool, true, false, Option, None, is_none, if◌then◌else◌, refl, ap, sym, subst, ◌∙◌, arith}
 use Rattle.std.proofs.lemmas.Bool.{or_parts}
 use Rattle.gabc_headers.specs.declared.head_event.HeadEvent.{HeadEvent}

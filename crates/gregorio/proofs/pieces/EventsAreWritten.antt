@@ -87,7 +87,7 @@ pub writes_all : (events : List HeadEvent) (read : List (List ℕ × List ℕ)) 
 writes_all [] read old new all = subst (λ (s : ScoreWriterState). WritesAll old [] read s) all (writes_none old read)
 writes_all (x ∷ events) read old new all = writes_next x events read old all.0 new (writes_event x read old all.0 all.1.0) (writes_all events read all.0 new all.1.1)
 
--- where the headers are not written at an event, and none come after it
+-- if the headers are not written at an event, and none come after it
 unheaded_later : (headed before heads later now : Bool) → now ≡ (headed || (heads && before)) → (headed || (heads || later)) ≡ false → (now || later) ≡ false
 unheaded_later headed before heads later now is h = grind (arith, or_parts)
 

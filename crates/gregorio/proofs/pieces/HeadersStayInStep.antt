@@ -75,7 +75,7 @@ found_only : (limits : Limits) (fs : List Finding) (old new : ScoreWriterState) 
 found_only limits [] old new yet all = subst (λ (s : ScoreWriterState). HeadsYet limits s) all yet
 found_only limits (f ∷ fs) old new yet all = found_only limits fs all.0 new (found_passed limits f old all.0 all.1.0 yet) all.1.1
 
--- where the stage of headers stands so, the writer is in the same part, and at its beginning
+-- if the stage of headers stands so, the writer is in the same part, and at its beginning
 pub record StepsTo (progress : HeadProgress) (s : ScoreWriterState) : Type 0 where
   pub parts : AreInOnePart progress s.score.part s.writer.written.headed
   pub none : s.writer.written.count ≡ 0
@@ -179,7 +179,7 @@ heads_in_step h old new item unheaded limits all = record {
   runs = λ d e moves ran running. heads_run d e h old new unheaded limits item moves all ran running;
 }
 
--- ---- where they are whole
+-- ---- if they are whole
 
 -- the headers are whole with this character
 pub record HeadersEndAt (limits : Limits) (t : List ℕ) (x : Char) (s : ScoreStageState) : Type 0 where

@@ -1,4 +1,5 @@
--- An item that is read, by way of the stage of headers or after the line `%%` without it, brings what was to come for it.
+-- An item that is read, by way of the stage of headers or after the line `%%` without it, brings
+-- what was to come for it.
 use Rattle.std.proofs.Common.{◌≡◌, ℕ, ◌⊎◌, inl, inr, List, [], ◌∷◌, ◌++◌, map, Bool, true, false, cond, Result, Ok, Err, refl, ap, sym, ◌∙◌, subst, append-nil, arith}
 use Rattle.std.specs.List.{list_any}
 use Rattle.std.specs.declared.hash.DefaultHasher.{DefaultHasher}
@@ -137,7 +138,7 @@ stop_in_body last w headed fault book other from_heads more =
 no_book : (item : Result Char Fault) (book read : List (List ℕ × List ℕ)) → IsBookAt (event_of_item item) book read
 no_book item book read = grind arith
 
--- where it is no matter what comes after an event, it is none later
+-- if it is no matter what comes after an event, it is none later
 settled_after : (w new : ScoreWriterState) (item : Result Char Fault) → WritesAt w (event_of_item item) [] new
     → ((book other : List (List ℕ × List ℕ)) (from_heads more : List HeadEvent) → streams_of w book (event_of_item item ∷ from_heads) ≡ streams_of w other (event_of_item item ∷ more)) → IsSettled new
 settled_after w new item a same = grind (arith, after_same, no_book)

@@ -30,9 +30,9 @@ use Rattle.gregorio.specs.machine.ScoreWriter.{IsOver, IsSilent}
 use Rattle.gregorio.proofs.StreamsOfOutputs.{concat_first, said}
 use Rattle.gregorio.proofs.pieces.BytesAreTaken.{GivesNoLast, broken_is_said, goes_on, none_wait, over_left}
 
--- ---- what is held
+-- ---- the held syllable
 
--- where the headers are not written, nothing is
+-- if the headers are not written, nothing is
 held_text : (lines macros : ℕ) (headed : Bool) (w : Written) (outputs : List ScoreOutput) → w.headed ≡ headed → has_end outputs ≡ false → length (syllables_in outputs) ≤ 1
     → All (λ (s : PlacedSyllable). IsWrittenAsOne lines macros s.made) (syllables_in outputs)
     → ((said w outputs).output ≡ []) ⊎ IsHeldText w.format (said w outputs).output
@@ -48,7 +48,7 @@ held_text lines macros true w outputs headed end few one = inr (record {
   is = λ i. if headed i then texts_after w.format w.count w.force (syllables_in outputs) ++ last_text w.format (end i) (count_after w.count (syllables_in outputs)) else [];
 })
 
--- where a run is over, nothing is held
+-- if a run is over, nothing is held
 pub prompt_where_over : (s : EngineState) (how : RunEnding) → IsOver s.written s.score how → IsPrompt s.written.format (streams_left s Broken [])
 prompt_where_over s how is = grind (arith, over_left)
 
@@ -73,7 +73,7 @@ prompt_now s gives few one silent = by s.written.ended refl
 before_last : (piece : List ℕ) (count more : ℕ) → 0 < more → take (count + more - 1) piece ≡ take count piece ++ take (more - 1) (drop count piece)
 before_last piece count more some = ap (λ (n : ℕ). take n piece) (omega (arith, some)) ∙ take-add count (more - 1) piece
 
--- where nothing waited
+-- if nothing waited
 pub prompt_further : (first now : EngineState) (piece : List ℕ) (count more : ℕ) → Brings first (take count piece) now → NothingWaits first → NothingWaits now
     → 0 < more → now.written.format ≡ first.written.format → IsPrompt now.written.format (streams_left now Broken (take (more - 1) (drop count piece)))
     → IsPrompt first.written.format (streams_left first Broken (take (count + more - 1) piece))
@@ -92,7 +92,7 @@ ends_further first now piece count more so_far some fault =
     ap (λ (xs : List ℕ). (streams_left first Broken xs).status) (before_last piece count more some)
     ∙ (ap (λ (s : Streams). s.status) (so_far (take (more - 1) (drop count piece)) Broken) ∙ fault)
 
--- where a loop over a piece stops before its first step, the piece is empty
+-- if a loop over a piece stops before its first step, the piece is empty
 pub took_some : (P : Type 0) (count n : ℕ) → (0 < count) ⊎ P → (P → n ≤ count) → 0 < n → 0 < count
 took_some P count n h stops more = grind arith
 
@@ -105,7 +105,7 @@ not_empty a x later rest e =
     let second = length-append a (x ∷ later) in
     omega (arith, none, first, second)
 
--- where no line is written, and there is no end, the run goes on
+-- if no line is written, and there is no end, the run goes on
 no_fault : (w : Written) (outputs : List ScoreOutput) → lines_of_outputs w outputs ≡ [] → has_end outputs ≡ false → (after_outputs w outputs).ended ≡ w.ended
 no_fault w [] none end = refl
 no_fault w (Found f ∷ outputs) none end = no_fault (after_output w (Found f)) outputs (both_empty (shown_line w.name w.all_warnings f) _ none).1 end
@@ -132,7 +132,7 @@ no_end_left : (limits : Limits) (progress : HeadProgress) (items : List (Result 
 no_end_left limits progress [] = tt
 no_end_left limits progress (x ∷ xs) = grind (arith, no_end_left limits (progress_after limits progress x) xs, no_end_in_both, no_end_of_input)
 
--- a stage of scores gives the end only where it comes in
+-- a stage of scores gives the end only if it comes in
 abbrev pub EndsAtTheEnd : Type 0
 EndsAtTheEnd = (s : ScoreStageState) (xs : List HeadEvent) → HasNoEnd xs → has_end (concat_of (left_of s xs)) ≡ false
 
@@ -154,7 +154,7 @@ told w book (x ∷ from_heads) lists end runs none =
     let lines = both_empty (lines_of_outputs v outputs) rest.messages none in
     told (after_outputs v outputs) book from_heads (drop 1 lists) ends.1 (no_fault v outputs lines.0 ends.0 ∙ runs) lines.1
 
--- Where a run that breaks off writes no message, no fault has stopped it.
+-- If a run that breaks off writes no message, no fault has stopped it.
 pub no_fault_is_kept_back : EndsAtTheEnd → (s : EngineState) → is_running s ≡ true → (bytes : List ℕ) → (streams_left s Broken bytes).messages ≡ []
     → (streams_left s Broken bytes).status ≡ ReadFault
 no_fault_is_kept_back end s runs bytes none = grind (arith, told, no_end_left, goes_on)

@@ -1,4 +1,4 @@
--- The parts of an engine stay in step in its body, and where it begins and ends.
+-- The parts of an engine stay in step in its body, and at its beginning and its end.
 use Rattle.std.proofs.Common.{◌≡◌, ℕ, ◌+◌, ◌^◌, ◌≤◌, ◌<◌, List, [], ◌∷◌, Bool, true, false, is_none, Result, Ok, Err, refl, ap, sym, subst, ◌∙◌, arith}
 use Rattle.std.proofs.lemmas.Bool.{false≢true}
 use Rattle.std.specs.List.{list_any}

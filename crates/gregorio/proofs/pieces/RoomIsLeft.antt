@@ -1,4 +1,4 @@
--- Where no more waits than may there is room for what an item and the end bring.
+-- If no more waits than may, there is room for what an item and the end bring.
 use Rattle.std.proofs.Common.{◌≡◌, ℕ, ◌+◌, ◌*◌, ◌≤◌, List, [], ◌∷◌, ◌++◌, length, map, Bool, true, false, if◌then◌else◌, Result, Ok, Err, ap, append-nil, arith}
 use Rattle.std.proofs.Math.Nat.{mul-le-mul_right}
 use Rattle.gabc_places.specs.declared.code.Fault.{Fault}
@@ -43,7 +43,7 @@ pub record AreFew (format : Format) (limit : ℕ) (ends : Bool) (events : List H
 heads_within : (headed : Bool) (most : ℕ) → (if headed then 0 else most) ≤ most
 heads_within headed most = grind arith
 
--- where no more waits than may before a step
+-- if no more waits than may before a step
 pub room_where_few_wait : (w : ScoreWriterState) → IsReserved w → length w.writer.out.items ≤ most_waiting w.score.limits → length w.writer.messages.items ≤ most_waiting w.score.limits → HasRoom w
 room_where_few_wait w reserved few few_lines = record { out = omega (arith, reserved.out, few); messages = omega (arith, reserved.messages, few_lines) }
 

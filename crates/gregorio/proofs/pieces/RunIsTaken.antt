@@ -1,4 +1,5 @@
--- A text at which a run of syllables is written brings these, and all parts of an engine stay in step.
+-- A text at which a run of syllables is written brings these, and all parts of an engine stay in
+-- step.
 use Rattle.std.proofs.Common.{◌≡◌, ℕ, ◌+◌, ◌≤◌, List, [], ◌∷◌, ◌++◌, length, map, take, true, false, Result, Ok, ap, sym, subst, ◌∙◌, length-append, arith}
 use Rattle.std.proofs.Math.Seq.{take-append-add}
 use Rattle.std.proofs.lemmas.Bool.{false≢true}
@@ -110,7 +111,7 @@ some_counted : (ss : List PlacedSyllable) (v : Written) → v.headed ≡ true �
 some_counted [] v headed some = some
 some_counted (s ∷ ss) v headed some = some_counted ss (after_output v (Syllable s)) headed (one_counted v s headed)
 
--- where no syllable is counted, none was written
+-- if no syllable is counted, none was written
 outset_force : (ss : List PlacedSyllable) (v : Written) → v.headed ≡ true → (v.count ≡ 0 → v.force ≡ nothing_in_force) → (after_outputs v (outputs_of_syllables ss)).count ≡ 0
     → (after_outputs v (outputs_of_syllables ss)).force ≡ nothing_in_force
 outset_force [] v headed was none = was none

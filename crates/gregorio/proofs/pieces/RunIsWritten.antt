@@ -46,16 +46,16 @@ pub same_force : (ss : List PlacedSyllable) (w : Written) → w.format ≡ Gabc 
 same_force [] w canonical = refl
 same_force (s ∷ ss) w canonical = grind (arith, same_force ss (after_output w (Syllable s)) canonical)
 
--- where nothing sounds in syllables and before them, nothing sounds before them
+-- if nothing sounds in syllables and before them, nothing sounds before them
 earlier_silent : (ss : List PlacedSyllable) (p : Preceding) → (with_placed p ss).sounded ≡ false → p.sounded ≡ false
 earlier_silent [] p silent = silent
 earlier_silent (s ∷ ss) p silent = (or_parts p.sounded (sounds s.made) (earlier_silent ss (with_placed p (s ∷ [])) silent)).0
 
--- where a syllable without a note or a clef leaves the clef in force
+-- that a syllable without a note or a clef leaves the clef in force
 abbrev pub ClefStays : Type 0
 ClefStays = (outset : InForce) (s : PlacedSyllable) → sounds s.made ≡ false → (passed outset (steps_of_syllable s)).clef ≡ outset.clef
 
--- where nothing sounds in syllables, they leave it
+-- if nothing sounds in syllables, they leave it
 same_clef : ClefStays → (ss : List PlacedSyllable) (w : Written) (p : Preceding) → (with_placed p ss).sounded ≡ false → (after_outputs w (outputs_of_syllables ss)).force.clef ≡ w.force.clef
 same_clef stays [] w p silent = refl
 same_clef stays (s ∷ ss) w p silent =

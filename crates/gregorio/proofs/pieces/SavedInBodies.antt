@@ -30,7 +30,7 @@ use Rattle.gregorio.proofs.pieces.SavedInHeaders.{limits_saved, written_saved}
 use Rattle.gregorio.proofs.pieces.StatesAreWhole.{score_in_body}
 use Rattle.gregorio.proofs.pieces.StreamsAgree.{no_matter_which_book_after, streams_agree}
 
--- ---- the syllable that is held
+-- ---- the held syllable
 
 module _ (p q : Preceding) where
   abbrev HasText : Preceding → Option UnplacedSyllable → Type 0

@@ -39,11 +39,11 @@ use Rattle.gregorio.proofs.pieces.StreamsAgree.{no_matter_which_book, streams_ag
 pub limits_saved : (one other : EngineState) → state_of one ≡ state_of other → one.score.limits ≡ other.score.limits
 limits_saved one other same = same_limits one.score.limits other.score.limits (ap (λ (s : StateFields). s.header_limit) same) (ap (λ (s : StateFields). s.syllable_limit) same) (ap (λ (s : StateFields). s.input_limit) same)
 
--- where they do not end a run
+-- if they do not end a run
 none_both : (a b : Option RunEnding) → is_none a ≡ true → is_none b ≡ true → a ≡ b
 none_both a b h k = grind arith
 
--- what is written, where as much is written and the same is in force
+-- what is written, if as much is written and the same is in force
 pub written_saved : (one other : EngineState) → state_of one ≡ state_of other → one.written.name ≡ other.written.name → is_none one.written.ended ≡ true → is_none other.written.ended ≡ true
     → one.written.headed ≡ other.written.headed → one.written.count ≡ other.written.count → one.written.force ≡ other.written.force → one.written ≡ other.written
 written_saved one other same name runs other_runs headed count force = grind (arith, none_both)

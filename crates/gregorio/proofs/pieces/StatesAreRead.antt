@@ -26,10 +26,10 @@ use Rattle.gregorio.specs.machine.ReadsHeaders.{IsReadSoFar}
 use Rattle.gregorio.specs.witness.CanRun.{CanRun}
 use Rattle.gregorio.proofs.setting_down.KeptAsReported.{KeptAgain, KeptShort, ReadInText, is_reported_so, kept_read}
 
--- ---- the syllable that is held
+-- ---- the held syllable
 
 module _ (force : InForce) (s : ScoreStageState) where
-  -- what it says where this is held
+  -- what it says if this is held
   abbrev fields_with : Option UnplacedSyllable → ScoreFields
   fields_with held = record (score_fields force s) {
     syllables = s.before.syllables + held_count held;
@@ -79,7 +79,7 @@ module _ (e : EngineState) where
   pub state_is_read : CanRun e → AreStateFields (state_of e) → (e.written.headed ≡ true → IsScoreRead e.score.limits (score_fields e.written.force e.score)) → IsPhaseRead e.score.limits (state_of e) (state_of e).phase
   state_is_read may fields score = grind (arith, phase_is_read)
 
-  -- where the headers are written, the held text and the kept text are texts
+  -- if the headers are written, the held text and the kept text are texts
   texts_in : (p : HeadProgress) → e.written.headed ≡ true → AreInOnePart p e.score.part e.written.headed → ArePhaseFields (state_of e) (phase_fields p e.written.force e.score)
       → IsUtf8 (held_text e.score.before (held_of e.score)) × IsUtf8 (reading_of e.score)
   texts_in (reading t) headed parts fields = absurd (false≢true (sym parts.written_so ∙ headed))

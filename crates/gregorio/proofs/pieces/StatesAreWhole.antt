@@ -47,9 +47,9 @@ text_bytes (c ∷ t) text =
       plain = subst (All IsPlain) (sym spelled) (All-cons IsPlain c (chars (encode_utf8_all t)) here.plain rest.plain);
     }
 
--- ---- the syllable that is held
+-- ---- the held syllable
 
--- a syllable that is held is whole
+-- a held syllable is whole
 held_is_whole : (part : ScorePart) (made : List UnplacedSyllable) → held_count (held_in_body part made) ≤ length made
 held_is_whole part made = grind arith
 
@@ -80,7 +80,7 @@ module _ (limits : Limits) (p : Preceding) where
   first_begins : (held : Option UnplacedSyllable) → (held ≡ None → p.syllables ≡ 0) → p.syllables + held_count held ≡ 1 → BeginsWithLf (held_text p held)
   first_begins held any one = grind (arith, any)
 
--- where at most one syllable is whole, none stands before the one that is held
+-- if at most one syllable is whole, none stands before the held one
 none_before : (n : ℕ) (held : Option UnplacedSyllable) → (held ≡ None → n ≡ 0) → n + held_count held ≤ 1 → n ≡ 0
 none_before n held none few = grind arith
 

@@ -56,7 +56,8 @@ one_book : (limits : Limits) (hasher another : DefaultHasher) (progress : HeadPr
     → (stage_past (record { limits = limits; progress = progress; book = book_at progress old; hasher = hasher }) items).book ≡ (stage_past (record { limits = limits; progress = progress; book = book_at progress other; hasher = another }) items).book
 one_book limits hasher another progress old other items h = grind (arith, any_hasher)
 
--- of two stages that differ in their books alone: both have one book after these, or no headers are whole among what they give
+-- of two stages that differ in their books alone: both have one book after these, or no headers are
+-- whole among what they give
 abbrev OneBookOrNone : Limits → DefaultHasher → DefaultHasher → HeadProgress → List (List ℕ × List ℕ) → List (List ℕ × List ℕ) → List (Result Char Fault) → Type 0
 OneBookOrNone limits hasher another progress old other items =
     ((stage_past (record { limits = limits; progress = progress; book = old; hasher = hasher }) items).book ≡ (stage_past (record { limits = limits; progress = progress; book = other; hasher = another }) items).book)
@@ -90,7 +91,7 @@ module _ (w : Written) (limits : Limits) (hasher another : DefaultHasher) (progr
   pub no_matter_which_book : streams_from w (book_after one items) given lists ≡ streams_from w (book_after two items) given lists
   no_matter_which_book = either_book (books_or_none limits hasher another progress old other items)
 
--- Where the headers are written, the book makes none.
+-- If the headers are written, the book makes none.
 pub no_matter_which_book_after : (w : Written) (book other : List (List ℕ × List ℕ)) (from_heads : List HeadEvent) (lists : List (List ScoreOutput)) → w.headed ≡ true
     → streams_from w book from_heads lists ≡ streams_from w other from_heads lists
 no_matter_which_book_after w book other from_heads lists headed = in_body w book from_heads lists headed ∙ sym (in_body w other from_heads lists headed)
@@ -104,8 +105,9 @@ NoMatterWhichBook one other ending bytes =
     let from_heads = head_events_left one.heads ending items in
     streams_from one.written (book_after one.heads items) from_heads (left_of one.score from_heads) ≡ streams_from one.written (book_after other.heads items) from_heads (left_of one.score from_heads)
 
--- Two engines have the same streams left: their decoders emit the same, and their stages of headers; their books make no difference; of what the scores give
--- once these come, the same is written; and the same is written before.
+-- Two engines have the same streams left: their decoders emit the same, and their stages of
+-- headers; their books make no difference; of what the scores give once these come, the same is
+-- written; and the same is written before.
 pub streams_agree : (one other : EngineState) (ending : SourceEnding) (bytes : List ℕ) → one.written ≡ other.written → decoder.events_left one.decoder bytes ≡ decoder.events_left other.decoder bytes
     → ((items : List (Result Char Fault)) → events_left one.heads.limits one.heads.progress items ≡ events_left other.heads.limits other.heads.progress items) → NoMatterWhichBook one other ending bytes
     → WriteTheSame one.score other.score (head_events_left one.heads ending (items_left one ending bytes)) → streams_left one ending bytes ≡ streams_left other ending bytes

@@ -152,7 +152,7 @@ module _ (h now : HeaderStageState) (old mid new : ScoreWriterState) (item : Res
             (stands_in_front h.limits h.progress item mid.score end).front within);
       }
 
--- ---- before the first byte, and where the run is over
+-- ---- before the first byte, and after the run is over
 
 pub fresh_tells : (limits : Limits) (d : DecoderState) (s : ScoreWriterState) → d ≡ fresh_decoder limits.input → s.writer.written.headed ≡ false → IsTelling d s
 fresh_tells limits d s is unheaded = grind arith

@@ -100,14 +100,14 @@ module _ (law : IsFoundAfter) (limits : Limits) (t : List ℕ) (d e : DecoderSta
 pub heads_read_on : IsFoundAfter → (h : HeaderStageState) (old new : ScoreWriterState) (item : Result Char Fault) → old.writer.written.headed ≡ false → PassesAll old (events_of_input h.limits h.progress item) new → ReadsOn h old (item ∷ []) (stage_after h item) new
 heads_read_on law h old new item unheaded all d e moves ran reads running = grind (arith, running_before, in_heads, read_item)
 
--- where the writer stays and its stage alone is changed
+-- if the writer stays and its stage alone is changed
 pub reads_begun : (h : HeaderStageState) (old mid new : ScoreWriterState) (item : Result Char Fault) → new.writer ≡ mid.writer → ReadsOn h old (item ∷ []) (stage_after h item) mid
     → ReadsOn h old (item ∷ []) (stage_after h item) new
 reads_begun h old mid new item same reads d e moves ran were = grind arith
 
--- ---- after the headers, and where nothing comes
+-- ---- after the headers, and if nothing comes
 
--- where they are written nothing of them is read any more
+-- if they are written, nothing of them is read any more
 pub headed_read : (limits : Limits) (progress : HeadProgress) (part : ScorePart) (headed : Bool) (place : Place) (error : Bool) → headed ≡ true → AreInOnePart progress part headed → IsReadSoFar limits progress place error
 headed_read limits (reading t) part headed place error is parts = absurd (false≢true (sym parts.written_so ∙ is))
 headed_read limits _ part headed place error is parts = tt

@@ -1,4 +1,5 @@
--- What two scores say is written alike, where one syllable stands in the place of another that is written alike.
+-- What two scores say is written alike, if one syllable stands in the place of another that is
+-- written alike.
 use Rattle.std.proofs.Common.{◌≡◌, ℕ, List, [], ◌∷◌, ◌++◌, drop, if◌then◌else◌, inl, inr, Option, refl, ap, sym, ◌∙◌, arith}
 use Rattle.gabc_places.specs.StageLaw.{concat_of}
 use Rattle.gabc_headers.specs.declared.head_event.HeadEvent.{HeadEvent}
@@ -85,7 +86,7 @@ module _ (m n : UnplacedSyllable) (alike : (position : Position) → IsWrittenAl
       let first : Wrote = same_outputs (first_list lists) (first_list others) (same_first lists others h) (after_heads w (writes_heads w x)) i in
       after_bytes (heads ++ first.0) first.1 (lists_are_written_alike first.2 book from_heads (drop 1 lists) (drop 1 others) (same_rest lists others h) i)
 
--- What is given is written alike, where the syllables that are held are.
+-- What is given is written alike, if the held syllables are.
 pub given_is_written_alike : (held other : Option UnplacedSyllable) → AreWrittenAlike held other → (w : Written) (book : List (List ℕ × List ℕ)) (from_heads : List HeadEvent)
     (lists others : List (List ScoreOutput)) → GiveTheSame held other lists others → streams_from w book from_heads lists ≡ streams_from w book from_heads others
 given_is_written_alike held other alike w book from_heads lists others h = grind (arith, lists_are_written_alike)

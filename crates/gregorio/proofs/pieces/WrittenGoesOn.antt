@@ -84,11 +84,11 @@ force_past_all [] old new all h = subst (λ (s : ScoreWriterState). HasForce s.w
 force_past_all (x ∷ events) old new all h =
     force_past_all events all.0 new all.1.1 (force_past old.score (written_at old.writer.written x) x all.0 all.1.0 (forced_at old.writer.written x h))
 
--- what no call changes, where this was written of outputs
+-- what no call changes, if this was written of outputs
 pub steady_past : (old new : ScoreWriterState) (w : RunWriterState) (outputs : List ScoreOutput) → IsSteady old (record { score = new.score; writer = w }) → new.writer ≡ past_outputs w outputs → IsSteady old new
 steady_past old new w outputs s e = grind (arith, job_stays)
 
--- where an event is not that of the headers, they are not written
+-- if an event is not that of the headers, they are not written
 pub no_heads : (x : HeadEvent) → ((lines macros canonical : ℕ) → x ≡ head_event.Heads lines macros canonical → ⊥) → is_heads x ≡ false
 no_heads x other = grind arith
 

@@ -20,7 +20,7 @@ use Rattle.gabc_score.specs.witness.ReadAgain.{CanBeReadAgain}
 use Rattle.gabc_score.specs.witness.ScoreStage.{ScoreStageState}
 use Rattle.gregorio_state.specs.Fields.{ScoreFields}
 use Rattle.gregorio.specs.SavedState.{IsKeptRead}
-use Rattle.gregorio.specs.machine.SettingDown.{HasRead, IsReportedSo, openers_told}
+use Rattle.gregorio.specs.machine.SettingDown.{HasRead, IsReportedSo, openers_reported}
 
 -- the two laws of kept texts
 abbrev pub KeptAgain : Type 0
@@ -39,13 +39,13 @@ module _ (limits : Limits) (f : ScoreFields) (utf8 : IsUtf8 f.kept) where
 
   pub kept_read : KeptAgain → KeptShort → IsReportedSo limits f → IsKeptRead limits f
   kept_read again short r = record {
-    again = subst (λ (n : ℕ). IsKeptAgain n f.macros (chars f.kept) (openers_told f) f.in_comment) r.lines
-        (subst (λ (n : ℕ). IsKeptAgain r.stage.body.nabc_lines n (chars f.kept) (openers_told f) f.in_comment) r.macros (again r.stage (chars f.kept) (openers_told f) f.in_comment scalar r.keeps tells));
-    short = let size = ap length (encodes-chars f.kept utf8) in let few = short r.stage (chars f.kept) (openers_told f) f.in_comment r.keeps tells in let same = ap (λ (l : Limits). l.syllable) r.limits_are in omega (arith, size, few, same);
+    again = subst (λ (n : ℕ). IsKeptAgain n f.macros (chars f.kept) (openers_reported f) f.in_comment) r.lines
+        (subst (λ (n : ℕ). IsKeptAgain r.stage.body.nabc_lines n (chars f.kept) (openers_reported f) f.in_comment) r.macros (again r.stage (chars f.kept) (openers_reported f) f.in_comment scalar r.keeps tells));
+    short = let size = ap length (encodes-chars f.kept utf8) in let few = short r.stage (chars f.kept) (openers_reported f) f.in_comment r.keeps tells in let same = ap (λ (l : Limits). l.syllable) r.limits_are in omega (arith, size, few, same);
   }
     where
-      tells : ReportsReading r.stage (encode_utf8_all (chars f.kept)) (openers_told f) f.in_comment
-      tells = subst (λ (kept : List ℕ). ReportsReading r.stage kept (openers_told f) f.in_comment) (sym (encodes-chars f.kept utf8)) r.tells
+      tells : ReportsReading r.stage (encode_utf8_all (chars f.kept)) (openers_reported f) f.in_comment
+      tells = subst (λ (kept : List ℕ). ReportsReading r.stage kept (openers_reported f) f.in_comment) (sym (encodes-chars f.kept utf8)) r.tells
 
   pub reported_so : Reported → IsKeptRead limits f → IsReportedSo limits f
   reported_so reported k = record {
@@ -54,11 +54,11 @@ module _ (limits : Limits) (f : ScoreFields) (utf8 : IsUtf8 f.kept) where
     limits_are = r.limits_are;
     lines = r.lines_are;
     macros = r.macros_are;
-    tells = subst (λ (kept : List ℕ). ReportsReading r.stage kept (openers_told f) f.in_comment) (encodes-chars f.kept utf8) r.tells;
+    tells = subst (λ (kept : List ℕ). ReportsReading r.stage kept (openers_reported f) f.in_comment) (encodes-chars f.kept utf8) r.tells;
   }
     where
-      r : IsReported limits f.nabc_lines f.macros (chars f.kept) (openers_told f) f.in_comment
-      r = reported limits f.nabc_lines f.macros (chars f.kept) (openers_told f) f.in_comment scalar k.again (let size = ap length (encodes-chars f.kept utf8) in let short = k.short in omega (arith, size, short))
+      r : IsReported limits f.nabc_lines f.macros (chars f.kept) (openers_reported f) f.in_comment
+      r = reported limits f.nabc_lines f.macros (chars f.kept) (openers_reported f) f.in_comment scalar k.again (let size = ap length (encodes-chars f.kept utf8) in let short = k.short in omega (arith, size, short))
 
 -- ---- what a stage in the body reports
 
@@ -66,7 +66,7 @@ module _ (limits : Limits) (f : ScoreFields) (utf8 : IsUtf8 f.kept) where
 nothing_kept : (s : ScoreStageState) → CanBeReadAgain s → s.body.part ≡ part.Comment → s.held.gathered.builder.kept ≡ []
 nothing_kept s can is = let none = rw is at can.told.keeps in rw none at can.told.is
 
--- the same stage where it has read nothing
+-- the same stage before it has read anything
 abbrev at_outset : ScoreStageState → ScoreStageState
 at_outset s = record s {
   part = score_part.Body;
@@ -85,7 +85,7 @@ module _ (f : ScoreFields) (s : ScoreStageState) (limits : Limits) (limits_are :
       let in_text = law (at_outset s) refl (record { front = front; none_before = refl; none_held = refl; nothing_read = refl }) in
       let comment : s.body.part ≡ part.Comment = front_is s.body.part front in
       let kept : [] ≡ f.kept = sym (nothing_kept s can comment) ∙ sym (reads_in_body s.part s.held.gathered.builder.kept body) ∙ read.kept in
-      let openers : no_openers ≡ openers_told f = sym (ap openers_of comment) ∙ read.openers_are in
+      let openers : no_openers ≡ openers_reported f = sym (ap openers_of comment) ∙ read.openers_are in
       let comment_open : true ≡ f.in_comment = sym (ap is_in_comment comment) ∙ read.comment in
       record {
         stage = in_text.told;
@@ -94,7 +94,7 @@ module _ (f : ScoreFields) (s : ScoreStageState) (limits : Limits) (limits_are :
         lines = in_text.lines ∙ lines;
         macros = in_text.macros ∙ macros;
         tells =
-            subst (λ (k : List ℕ). ReportsReading in_text.told k (openers_told f) f.in_comment) kept
+            subst (λ (k : List ℕ). ReportsReading in_text.told k (openers_reported f) f.in_comment) kept
             (subst (λ (o : Openers). ReportsReading in_text.told [] o f.in_comment) openers (subst (λ (b : Bool). ReportsReading in_text.told [] no_openers b) comment_open in_text.tells));
       }
   by_front false front = record {

@@ -15,22 +15,22 @@ use Rattle.gabc_score.specs.witness.ScoreStage.{ScoreStageState}
 use Rattle.gregorio_state.specs.Conditions.{AreOpeners}
 use Rattle.gregorio_state.specs.Fields.{ScoreFields}
 use Rattle.gregorio.specs.SavedState.{before_held}
-use Rattle.gregorio.specs.machine.SettingDown.{HasRead, HoldsHeld, IsReportedSo, ReadsOn, openers_told}
-use Rattle.gregorio.proofs.setting_down.HeldIsRead.{before_told, told_in_body}
+use Rattle.gregorio.specs.machine.SettingDown.{HasRead, HoldsHeld, IsReportedSo, ReadsOn, openers_reported}
+use Rattle.gregorio.proofs.setting_down.HeldTextIsReadAgain.{before_told, told_in_body}
 use Rattle.gregorio.proofs.setting_down.KeptAsReported.{ReadInText, is_reported_so}
 
 module _ (f : ScoreFields) (old : ScoreStageState) (holds : HoldsHeld f old) where
   stands_before : is_in_comment old.body.part ≡ false → ComesBefore old
   stands_before outside = grind arith
 
-  module _ (o : Openers) (open_at : o ≡ openers_told f) (new : ScoreStageState) (result : Bool) where
-    -- what is read again where a stage reports of the kept text
+  module _ (o : Openers) (open_at : o ≡ openers_reported f) (new : ScoreStageState) (result : Bool) where
+    -- what is read again if a stage reports of the kept text
     abbrev ReadsAgain : Type 0
     ReadsAgain = (told : ScoreStageState) → CanBeReadAgain told → told.limits ≡ old.limits → before_of told ≡ before_of old → ReportsReading told f.kept o f.in_comment → ComesBefore old
         → (result ≡ true) × ReportsReading new f.kept o f.in_comment
 
-    -- where the kept text is read so, all of it is kept
-    pub is_kept_again : is_in_comment old.body.part ≡ false → ReadsAgain → IsReportedSo old.limits f → (result ≡ true) × ReportsReading new f.kept (openers_told f) f.in_comment
+    -- if the kept text is read so, all of it is kept
+    pub is_kept_again : is_in_comment old.body.part ≡ false → ReadsAgain → IsReportedSo old.limits f → (result ≡ true) × ReportsReading new f.kept (openers_reported f) f.in_comment
     is_kept_again outside again kept =
         let h = again told (record { body = kept.keeps.body; told = kept.keeps.told }) kept.limits_are same_before (subst (λ (x : Openers). ReportsReading told f.kept x f.in_comment) (sym open_at) tells) (stands_before outside) in
         (h.0, subst (λ (x : Openers). ReportsReading new f.kept x f.in_comment) open_at h.1)
@@ -51,11 +51,11 @@ module _ (f : ScoreFields) (old : ScoreStageState) (holds : HoldsHeld f old) whe
         same_before : before_of told ≡ before_of old
         same_before = ap (λ (p : ScorePart). in_body p (before_with told.body told.before)) kept.keeps.body ∙ ap (λ (b : Before). Some b) before_there ∙ sym holds.after.before_is
 
-        tells : ReportsReading told f.kept (openers_told f) f.in_comment
+        tells : ReportsReading told f.kept (openers_reported f) f.in_comment
         tells = record { front = kept.tells.front; reading = kept.tells.reading; openers_are = kept.tells.openers_are; comment_is = kept.tells.comment_is }
 
   -- a stage that reports so has read it
-  pub has_read : (new : ScoreStageState) → ReportsReading new f.kept (openers_told f) f.in_comment → HasRead f new
+  pub has_read : (new : ScoreStageState) → ReportsReading new f.kept (openers_reported f) f.in_comment → HasRead f new
   has_read new tells = record { kept = tells.reading; openers_are = tells.openers_are; comment = tells.comment_is }
 
   module _ (place : Place) (new : ScoreStageState) (limits : new.limits ≡ old.limits) (same : ReportsTheSameBut old new place) where
@@ -74,7 +74,7 @@ module _ (f : ScoreFields) (old : ScoreStageState) (holds : HoldsHeld f old) whe
     pub new_body : new.part ≡ score_part.Body
     new_body = body_of new.part (before_with new.body new.before) (before_held f) new_before_of
 
-    -- where it is read so, it reports so
+    -- if it is read so, it reports so
     pub reports : HasRead f new → CanBeReadAgain new → ReadInText → IsReportedSo old.limits f
     reports read can law =
         is_reported_so f new old.limits limits new_body (ap (λ (b : Before). b.nabc_lines) new_before) (ap (λ (b : Before). b.macros) new_before) read can law

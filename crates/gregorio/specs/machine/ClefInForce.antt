@@ -7,7 +7,7 @@ use Rattle.gabc_score.specs.declared.score_machine.ScorePart.TheVariants as scor
 use Rattle.gabc_score.specs.witness.ScoreStage.{ScoreStageState}
 use Rattle.gregorio.specs.witness.Engine.{Written}
 
--- before the body there is none, and in the body none where nothing has sounded
+-- before the body there is none, and in the body none if nothing has sounded
 abbrev pub IsClefIn : ScorePart → Bool → Option Clef → Type 0
 IsClefIn score_part.Heads sounded clef = clef ≡ None
 IsClefIn score_part.Body sounded clef = sounded ≡ false → clef ≡ None

@@ -1,5 +1,5 @@
 -- What the parts of a run do to its source and its sinks.
-use Rattle.std.specs.Prelude.{◌≡◌, ◌≢◌, ℕ, ◌+◌, ◌<◌, ◌≤◌, List, [], ◌++◌, length, take, ◌⊎◌}
+use Rattle.std.specs.Prelude.{◌≡◌, ℕ, ◌+◌, ◌<◌, ◌≤◌, List, [], ◌++◌, length, take, ◌⊎◌}
 use Rattle.std.specs.Io.KnownBytes.{Appends, Consumes}
 use Rattle.gabc_places.specs.Calls.{GoesOn, NoneLate}
 use Rattle.gabc_places.specs.declared.limits.Limits.{Limits}
@@ -9,11 +9,9 @@ use Rattle.gregorio.specs.witness.Engine.{EngineState, streams_left}
 use Rattle.gregorio.specs.Engine.{IsPrompt}
 use Rattle.gregorio.specs.Streams.{Streams, after_bytes, streams_of_outcome}
 use Rattle.gregorio.specs.Outcome.{outcome_of}
-use Rattle.gregorio.specs.Run.{Compiles, InTime, IsPointOf, OneFails, Use}
+use Rattle.gregorio.specs.Run.{IsPointOf, OneFails, Use}
 use Rattle.gregorio.specs.SourceBytes.{ReadsSource}
 use Rattle.gregorio_jobs.specs.declared.job.Job.{Job}
-use Rattle.gregorio_jobs.specs.declared.job.Status.{Status}
-use Rattle.gregorio_jobs.specs.declared.job.Status.TheVariants.{ReadFault, WriteFault}
 
 -- Both sinks took all of these bytes, and did not fail.
 pub record AreSent (out messages : Use) (output lines : List ℕ) : Type 0 where
@@ -102,11 +100,3 @@ pub record IsFedInPart (limit : ℕ) (source out messages : Use) (old : EngineSt
 pub record SaysOutcomes (job : Job) (limits : Limits) (e : EngineState) : Type 0 where
   pub format : e.written.format ≡ job.format
   pub all : (bytes : List ℕ) (ending : SourceEnding) → streams_left e ending bytes ≡ streams_of_outcome job (outcome_of limits ending bytes)
-
--- A whole run, and which ends failed.
-pub record IsRun (job : Job) (limits : Limits) (source out messages : Use) (status : Status) : Type 0 where
-  pub compiles : Compiles job limits source out messages status
-  pub read_fault : status ≡ ReadFault → source.calls_old.failures < source.calls_new.failures
-  pub write_fault : status ≡ WriteFault → (out.calls_old.failures < out.calls_new.failures) ⊎ (messages.calls_old.failures < messages.calls_new.failures)
-  pub steady : status ≢ WriteFault → (out.calls_new.failures ≡ out.calls_old.failures) × (messages.calls_new.failures ≡ messages.calls_old.failures)
-  pub in_time : InTime source out messages

@@ -20,7 +20,7 @@ use Rattle.gregorio.specs.machine.ScoreWriter.{FitsEnd, HasRoom, ScoreWriterStat
 
 -- ---- events of the headers, one after the other
 
--- where the headers are whole among these, the book is the one that was read
+-- if the headers are whole among these, the book is the one that was read
 abbrev pub AreBooksAt : List HeadEvent → List (List ℕ × List ℕ) → List (List ℕ × List ℕ) → Type 0
 AreBooksAt [] book read = Unit {0}
 AreBooksAt (x ∷ events) book read = IsBookAt x book read × AreBooksAt events book read
@@ -34,7 +34,7 @@ pub record WritesAll (old : ScoreWriterState) (events : List HeadEvent) (read : 
   pub messages : new.writer.messages ≡ extended_by old.writer.messages lines
   pub law : (book : List (List ℕ × List ℕ)) (from_heads : List HeadEvent) → AreBooksAt events book read → streams_of old book (events ++ from_heads) ≡ after_bytes output lines (streams_of new book from_heads)
 
--- after these the headers are written at most where they were before or are whole among these
+-- after these the headers are written at most if they were before or are whole among these
 abbrev pub headed_past : Bool → List HeadEvent → Bool
 headed_past headed events = headed || list_any is_heads events
 
@@ -80,8 +80,8 @@ IsBookRead (after_headers book) read = book ≡ read
 IsBookRead (reading t) read = Unit {0}
 IsBookRead over read = Unit {0}
 
--- The stage of headers and the writer have the same limits. Where the headers are written, the
--- stage of headers is after the line `%%`, or it is no matter what comes.
+-- The stage of headers and the writer have the same limits. If the headers are written, the stage
+-- of headers is after the line `%%`, or it is no matter what comes.
 pub record GoTogether (h : HeaderStageState) (w : ScoreWriterState) : Type 0 where
   pub limits : h.limits ≡ w.score.limits
   pub headed : w.writer.written.headed ≡ true → IsAfterHeaders h.progress ⊎ IsSettled w
@@ -89,7 +89,7 @@ pub record GoTogether (h : HeaderStageState) (w : ScoreWriterState) : Type 0 whe
   pub short : IsShortBook h.limits h.book
 
 -- What is wanted of the parts before an item: they go together, there is room for what it brings,
--- and where the headers are not written the score is in them.
+-- and if the headers are not written, the score is in them.
 pub record MayRead (h : HeaderStageState) (from_heads : BoundedList HeadEvent) (w : ScoreWriterState) : Type 0 where
   pub together : GoTogether h w
   pub few : 2 ≤ from_heads.limit

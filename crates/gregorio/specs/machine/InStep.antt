@@ -45,7 +45,7 @@ pub record PassesOn (old : ScoreStageState) (w : Written) (x : HeadEvent) (new :
   pub in_heads : old.part ≡ score_part.Heads → outputs ≡ given_in_heads x
   pub tells : TellsOn old x new.score
 
--- what is written where the headers are, if they are at this event
+-- what is written after the headers, if they are at this event
 abbrev pub written_at : Written → HeadEvent → Written
 written_at w x = after_heads w (writes_heads w x)
 
@@ -82,8 +82,8 @@ AreInOnePart (after_headers book) part headed = StandsIn score_part.Body true pa
 AreInOnePart over part headed = ⊥
 
 -- An engine that runs: its decoder does, its stages are in one part, as many syllables are written
--- as stand before the one that is held, and no more are whole than bytes were taken. In the body a
--- text has counted the place where the decoder stands.
+-- as stand before the held one, and no more are whole than bytes were taken. In the body a text has
+-- counted the place where the decoder stands.
 pub record RunsInStep (d : DecoderState) (h : HeaderStageState) (s : ScoreStageState) (w : Written) : Type 0 where
   pub runs : d.ended ≡ false
   pub limit : d.limit ≡ s.limits.input

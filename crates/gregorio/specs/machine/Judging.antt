@@ -1,5 +1,5 @@
 -- Limits under which a state of another run is judged.
-use Rattle.std.specs.Prelude.{◌≡◌, ◌⊎◌, ◌*◌, ℕ, ◌≤◌, length}
+use Rattle.std.specs.Prelude.{◌≡◌, ◌⊎◌, ℕ, ◌≤◌, length}
 use Rattle.gabc_places.specs.declared.limits.Limits.{Limits}
 use Rattle.gregorio_state.specs.Fields.{ScoreFields}
 
@@ -7,9 +7,9 @@ use Rattle.gregorio_state.specs.Fields.{ScoreFields}
 abbrev pub IsEnough : Limits → ℕ → Limits → Type 0
 IsEnough limits len small = (small ≡ limits) ⊎ ((len ≤ limits.header) × (len ≤ small.header))
 
--- They let the two texts of a score have as many bytes as are kept of them.
+-- They let the two texts of a score have as many bytes as they have.
 pub record LetsTexts (f : ScoreFields) (limits : Limits) : Type 0 where
-  pub held : 5 * length f.held ≤ limits.syllable
+  pub held : length f.held ≤ limits.syllable
   pub kept : length f.kept ≤ limits.syllable
 
 -- Both let the texts of a score be, and the inputs may be as long.

@@ -18,7 +18,7 @@ use Rattle.gregorio.specs.machine.RunWriter.{RunWriterState, line_room, most_wai
 use Rattle.gregorio.specs.machine.ScoreWriter.{fresh_writer}
 
 -- what was written: in the headers nothing, and in the score the headers and all syllables but the
--- one that is held
+-- held one
 abbrev pub written_by : Job → StateFields → PhaseFields → Written
 written_by job s (InHeaders text) = record (fresh_writer job) { errors = s.has_error }
 written_by job s (InScore f) = record (fresh_writer job) { headed = true; count = f.syllables - 1; force = f.in_force; errors = s.has_error }

@@ -19,18 +19,18 @@ pub record RunWriterState : Type 0 where
   pub out : BoundedList ℕ
   pub messages : BoundedList ℕ
 
--- where it has written this text and these lines
+-- the same after this text and these lines
 abbrev pub with_bytes : RunWriterState → List ℕ → List ℕ → RunWriterState
 with_bytes w text lines = record w { out = extended_by w.out text; messages = extended_by w.messages lines }
 
--- where it has written this book, if it writes it
+-- the same after this book, if it writes it
 abbrev pub with_book : RunWriterState → List (List ℕ × List ℕ) → Bool → RunWriterState
 with_book w book writes = record w { written = after_heads w.written writes; out = extended_by w.out (text_of_heads w.written book writes) }
 
 abbrev pub with_heads : RunWriterState → List (List ℕ × List ℕ) → RunWriterState
 with_heads w book = with_book w book (is_before_heads w.written)
 
--- where it has written the headers, if they are at this event
+-- the same after the headers, if they are at this event
 abbrev pub heads_at : RunWriterState → HeadEvent → List (List ℕ × List ℕ) → RunWriterState
 heads_at w x book = with_book w book (writes_heads w.written x)
 
@@ -43,21 +43,21 @@ past_output w o = record (with_bytes w (text_of_output w.written o) (lines_of_ou
 abbrev pub past_outputs : RunWriterState → List ScoreOutput → RunWriterState
 past_outputs w outputs = record (with_bytes w (texts_of_outputs w.written outputs) (lines_of_outputs w.written outputs)) { written = after_outputs w.written outputs }
 
--- where its source has failed, if the run is not over
+-- the same after its source has failed, if the run is not over
 abbrev pub past_end : RunWriterState → RunWriterState
 past_end w = record w { written = record w.written { ended = Some (ceased_ending w.written.ended) }; out = extended_by w.out (ceased_text w.written.ended w.written) }
 
 -- ---- the syllables of a run
 
--- what a score says where it gives these syllables and nothing else
+-- what a score says if it gives these syllables and nothing else
 abbrev pub outputs_of_syllables : List PlacedSyllable → List ScoreOutput
 outputs_of_syllables ss = map (λ (s : PlacedSyllable). Syllable s) ss
 
--- where it has written these syllables
+-- the same after these syllables
 abbrev pub past_syllables : RunWriterState → List PlacedSyllable → RunWriterState
 past_syllables w ss = past_outputs w (outputs_of_syllables ss)
 
--- where it has written this text of `count` syllables more; the last value of a `u64` stays
+-- the same after this text of `count` syllables more; the last value of a `u64` stays
 abbrev pub with_joined : RunWriterState → List ℕ → ℕ → RunWriterState
 with_joined w text count = record w { written = record w.written { count = min (w.written.count + count) (2 ^ 64 - 1) }; out = extended_by w.out text }
 

@@ -30,7 +30,7 @@ pub record ScoreWriterState : Type 0 where
   pub score : ScoreStageState
   pub writer : RunWriterState
 
--- what an event says, where this stage lends its syllable
+-- what an event says, if this stage lends its syllable
 abbrev pub output_of_event : ScoreStageState → ScoreEvent → ScoreOutput
 output_of_event s (event.Found f) = Found f
 output_of_event s (event.Stop fault) = Stop fault
@@ -40,13 +40,13 @@ output_of_event s event.End = End
 abbrev pub outputs_of_events : ScoreStageState → List ScoreEvent → List ScoreOutput
 outputs_of_events s events = map (output_of_event s) events
 
--- what it will still write, where these come and the headers are this book
+-- what it will still write, if these come and the headers are this book
 abbrev pub streams_of : ScoreWriterState → List (List ℕ × List ℕ) → List HeadEvent → Streams
 streams_of s book from_heads = streams_from s.writer.written book from_heads (left_of s.score from_heads)
 
 -- ---- a call
 
--- where the headers are whole, the book is the one that was read
+-- if the headers are whole, the book is the one that was read
 abbrev pub IsBookAt : HeadEvent → List (List ℕ × List ℕ) → List (List ℕ × List ℕ) → Type 0
 IsBookAt (head_event.Heads lines macros canonical) book read = book ≡ read
 IsBookAt _ book read = Unit {0}
@@ -82,7 +82,7 @@ pub record IsOver (written : Written) (score : ScoreStageState) (how : RunEnding
   pub ended : written.ended ≡ Some how
   pub silent : IsSilent score
 
--- Between two calls there is room for the events of one, and where the run is over the stage gives
+-- Between two calls there is room for the events of one, and if the run is over, the stage gives
 -- nothing.
 pub record IsScoreWriter (score : ScoreStageState) (events : BoundedList ScoreEvent) (writer : RunWriterState) : Type 0 where
   pub room : 16 ≤ events.limit

@@ -14,8 +14,8 @@ use Rattle.gregorio.specs.Saved.{held_count, held_text}
 use Rattle.gregorio.specs.SavedState.{before_held}
 
 -- the places of what is open
-abbrev pub openers_told : ScoreFields → Openers
-openers_told f = record { notes = f.notes_opener; inner = f.inner_opener }
+abbrev pub openers_reported : ScoreFields → Openers
+openers_reported f = record { notes = f.notes_opener; inner = f.inner_opener }
 
 -- It stands after what stands before the syllable of the held text, and holds none yet.
 pub record IsResumed (limits : Limits) (f : ScoreFields) (stage : ScoreStageState) : Type 0 where
@@ -38,7 +38,7 @@ pub record HoldsHeld (f : ScoreFields) (stage : ScoreStageState) : Type 0 where
 -- In the body it has read this of a syllable.
 pub record HasRead (f : ScoreFields) (stage : ScoreStageState) : Type 0 where
   pub kept : reading_of stage ≡ f.kept
-  pub openers_are : openers_of stage.body.part ≡ openers_told f
+  pub openers_are : openers_of stage.body.part ≡ openers_reported f
   pub comment : is_in_comment stage.body.part ≡ f.in_comment
 
 -- Some stage under these limits that reads a syllable after the comment in front reports the kept
@@ -49,7 +49,7 @@ pub record IsReportedSo (limits : Limits) (f : ScoreFields) : Type 0 where
   pub limits_are : stage.limits ≡ limits
   pub lines : stage.body.nabc_lines ≡ f.nabc_lines
   pub macros : stage.body.macros ≡ f.macros
-  pub tells : ReportsReading stage f.kept (openers_told f) f.in_comment
+  pub tells : ReportsReading stage f.kept (openers_reported f) f.in_comment
 
 -- It has read the kept text, after the comment in front, and the next character stands there.
 pub record ReadsOn (place : Place) (f : ScoreFields) (stage : ScoreStageState) : Type 0 where

@@ -13,7 +13,7 @@ pub record Takes (old : EngineState) (bytes : List ℕ) (new : EngineState) : Ty
   pub job : StillRuns old new
   pub hasher : new.heads.hasher ≡ old.heads.hasher
 
--- It took `count` bytes from the front of a piece. Where the run is over then, no fault was known
+-- It took `count` bytes from the front of a piece. If the run is over then, no fault was known
 -- before the last of them.
 pub record TakesFrom (old : EngineState) (piece : List ℕ) (count : ℕ) (new : EngineState) : Type 0 where
   pub within : count ≤ length piece

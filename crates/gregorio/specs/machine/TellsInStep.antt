@@ -15,7 +15,7 @@ use Rattle.gregorio.specs.witness.Engine.{Written}
 use Rattle.gregorio.specs.machine.InStep.{RunsInStep}
 use Rattle.gregorio.specs.machine.ScoreWriter.{ScoreWriterState}
 
--- ---- where the body begins
+-- ---- the beginning of the body
 
 -- the score is in the headers, and no syllable is written
 pub record InHeads (w : ScoreWriterState) : Type 0 where
@@ -26,7 +26,7 @@ pub record InHeads (w : ScoreWriterState) : Type 0 where
 abbrev pub IsInHeads : ScoreWriterState → Type 0
 IsInHeads w = is_none w.writer.written.ended ≡ true → w.writer.written.headed ≡ false → InHeads w
 
--- the score, where the body begins after this character if the headers are written
+-- the score, whose body begins after this character if the headers are written
 abbrev pub begun : Result Char Fault → Bool → ScoreStageState → ScoreStageState
 begun (Ok x) true s = moved_to (saturating_next_place x.place x.c) s
 begun (Ok x) false s = s

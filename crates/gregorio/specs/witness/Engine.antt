@@ -74,7 +74,7 @@ fault_of_ending run_ending.Errors = None
 fault_of_ending (run_ending.Fatal fault) = Some fault
 fault_of_ending run_ending.ReadFault = None
 
--- the ending of a run that was read to its end, where an error was found or not
+-- the ending of a run that was read to its end, by whether an error was found
 abbrev pub ending_of_whole : Bool → RunEnding
 ending_of_whole true = run_ending.Errors
 ending_of_whole false = run_ending.Whole
@@ -134,7 +134,7 @@ is_before_heads w = not (w.headed || is_some w.ended)
 abbrev pub writes_heads : Written → HeadEvent → Bool
 writes_heads w x = is_heads x && is_before_heads w
 
--- where they are written, the headers are this book
+-- if they are written, the headers are this book
 abbrev pub text_of_heads : Written → List (List ℕ × List ℕ) → Bool → List ℕ
 text_of_heads w book writes = if writes then heads_text w.format book else []
 
@@ -143,7 +143,7 @@ after_heads w writes = record w { headed = w.headed || writes }
 
 -- ---- what comes
 
--- Where the input ceases, and neither a stop nor the end has come, its source has failed.
+-- If the input ceases, and neither a stop nor the end has come, its source has failed.
 abbrev pub ceased_text : Option RunEnding → Written → List ℕ
 ceased_text None w = if_headed w (last_text w.format false w.count)
 ceased_text (Some how) w = []
@@ -163,8 +163,8 @@ abbrev pub first_list : List (List ScoreOutput) → List ScoreOutput
 first_list [] = []
 first_list (outputs ∷ lists) = outputs
 
--- The streams where these come from the stage of headers, and of each of them, and of their end,
--- the score says one of the lists.
+-- The streams if these come from the stage of headers, and of each of them, and of their end, the
+-- score says one of the lists.
 abbrev pub streams_from : Written → List (List ℕ × List ℕ) → List HeadEvent → List (List ScoreOutput) → Streams
 streams_from w book [] lists = streams_in w (concat_of lists)
 streams_from w book (x ∷ from_heads) lists =

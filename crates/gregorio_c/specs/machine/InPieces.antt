@@ -10,7 +10,7 @@ use Rattle.gregorio_c.specs.Steps.{Writes, goes_on}
 use Rattle.gregorio_c.specs.declared.in_pieces.Fed.{Fed}
 use Rattle.gregorio_c.specs.declared.in_pieces.Fed.TheVariants.{On, Over}
 
--- where a run stands that answered this number, and whose state has n bytes then
+-- the state of a run that answered this number, and whose saved state has n bytes then
 abbrev pub fed_as : ℕ → ℕ → Fed
 fed_as number len = if number == goes_on then On len else Over number
 

@@ -4,11 +4,8 @@ use Rattle.gabc_places.specs.declared.limits.Limits.{Limits}
 use Rattle.gabc_places.specs.Limits.{AreUsual}
 use Rattle.gregorio.specs.Streams.{Streams}
 use Rattle.gregorio_c.specs.declared.compiled.Run.{Run}
-use Rattle.gregorio_c.specs.declared.message.Message.{Message}
-use Rattle.gregorio_c.specs.declared.messages.Counted.{Counted}
 use Rattle.gregorio_c.specs.declared.request.Request.{Request}
 use Rattle.gregorio_c.specs.machine.FirstBytes.{Keeps}
-use Rattle.gregorio_c.specs.machine.LineReader.{AreCounted, AreFirst, before_line, messages_in}
 use Rattle.gregorio_c.specs.machine.Streams.{streams_of_score}
 
 -- it wrote these texts, ended so, and all bytes are counted
@@ -20,14 +17,7 @@ pub record HasWritten (run : Run) (streams : Streams) : Type 0 where
   pub output_counted : run.output.counter < 2 ^ 64 - 1
   pub messages_counted : run.messages.counter < 2 ^ 64 - 1
 
--- n messages are read of its lines, these are the first of them, and it ended so
-pub record AreToldBy (counted : Counted) (first : List Message) (streams : Streams) : Type 0 where
-  pub first_are : AreFirst (messages_in before_line streams.messages) first
-  pub are_counted : AreCounted counted.count streams.messages
-  pub status : counted.status ≡ streams.status
-  pub fault : counted.fault ≡ streams.fault
-
--- a run over a score under these limits writes what one under the usual ones does
+-- a run over a score under these limits writes what one under the default ones does
 pub record IsAsUsual (request : Request) (limits : Limits) (score : List ℕ) : Type 0 where
   pub usual : Limits
   pub is_usual : AreUsual usual.header usual.syllable usual.input

@@ -6,7 +6,7 @@ use Rattle.gabc_notes.specs.declared.item.Item.{Item}
 use Rattle.gabc_notes.specs.declared.note.Note.{Note}
 use Rattle.gabc_neumes.specs.Elements.{is_in_segment, notes_in}
 use Rattle.gabc_neumes.proofs.glyphs_of_notes.SearchOfGlyph.{Searched, fresh, searched_start, searched_with, searched_stops, searched_end, search_grows, IsFound, found_of}
-use Rattle.gabc_neumes.proofs.runs_of_items.NotesAmongItems.{ahead_end, ahead_note, ahead_none}
+use Rattle.gabc_neumes.proofs.runs_of_items.NotesOfFirstSegment.{ahead_end, ahead_note, ahead_none}
 use Rattle.gabc_neumes.proofs.glyphs.glyph_from.Goals as goal
 
 -- the notes of the segment that begins the items

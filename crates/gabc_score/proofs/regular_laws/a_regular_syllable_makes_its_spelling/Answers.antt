@@ -15,4 +15,4 @@ returns c lines macros at r before h fits since =
     let codes_are = unit_text view.starts text.says after.says text.kept after.kept c.canonical_is_printed.ensures c.kept_again.ensures.snippet c.kept_again-2.ensures.snippet lines at r h in
     let g = one (subst (λ (t : List ℕ). length (encodes t) < 2 ^ 63) (sym codes_are) fits) before since in
     let spelled = held_spelled view.starts text.says after.says text.kept after.kept c.canonical_is_printed.ensures c.kept_again.ensures.snippet c.kept_again-2.ensures.snippet lines at r h g.made g.holds in
-    record { one = g; nothing = none before; kept_is = spelled.kept_is; starts_is = spelled.starts_is; canonical_is = spelled.canonical_is; text_is = spelled.text_is; snippets_are = spelled.snippets_are }
+    record { one = g; nothing = none before; kept_is = spelled.kept_is; starts_is = spelled.starts_is; canonical_is = spelled.canonical_is; text_is = spelled.text_is; snippets_are = spelled.snippets_are; spans_are = spelled.spans_are }

@@ -1,6 +1,6 @@
 use Rattle.std.proofs.Common.{◌+◌, ◌++◌, List, Some, append-nil, sym, ap, ◌∙◌}
+use Rattle.gabc_nodes.specs.declared.node.Node.{Node}
 use Rattle.gabc_tree.specs.declared.header_lines.Header.{Header}
-use Rattle.gabc_tree.specs.declared.node.Node.{Node}
 use Rattle.gabc_tree.specs.HeaderLines.{ended_at}
 use Rattle.gabc_tree.specs.machine.HeaderLines.{first_mark}
 use Rattle.gabc_tree.proofs.LinesByBytes.{rest_of}

@@ -1,7 +1,7 @@
 use Rattle.std.proofs.Common.{◌≡◌, ◌++◌, ◌∷◌, ◌-◌, ℕ, List, sym, ap, ◌∙◌, length, slice_set, slice_index_or, arith}
 use Rattle.std.proofs.lemmas.List.{length-append}
 use Rattle.std.proofs.Math.Seq.{set-append_seam, get_or-append_seam}
-use Rattle.gabc_tree.specs.declared.node.Node.{Node}
+use Rattle.gabc_nodes.specs.declared.node.Node.{Node}
 use Rattle.gabc_tree.specs.SyllableNodes.{around}
 use Rattle.gabc_tree.specs.Placed.{offset}
 use Rattle.gabc_tree.proofs.holding.hold.Goals as goal

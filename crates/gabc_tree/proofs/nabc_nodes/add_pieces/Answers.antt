@@ -1,7 +1,7 @@
 use Rattle.std.proofs.Common.{◌≡◌, ◌≤◌, ◌+◌, ◌++◌, ℕ, List, [], ◌∷◌, length, drop, length-drop, append_assoc, sym, ap, ◌∙◌, arith}
 use Rattle.std.proofs.lemmas.List.{take_rest}
+use Rattle.gabc_nodes.specs.declared.node.Node.{Node}
 use Rattle.gabc_tree.specs.NabcNodes.{piece_kind, kind_of_piece, piece_len, piece_numbers, piece_node, pieces_from}
-use Rattle.gabc_tree.specs.declared.node.Node.{Node}
 use Rattle.gabc_tree.proofs.PiecesOfDescriptors.{from_piece, node_of_piece}
 use Rattle.gabc_tree.proofs.nabc_nodes.add_pieces.Goals as goal
 

@@ -3,8 +3,8 @@ use Rattle.std.specs.List.{flat_map}
 use Rattle.std.proofs.lemmas.List.Elements.{All-tail}
 use Rattle.gabc_nabc.specs.Parts.{AreWithin}
 use Rattle.gabc_nabc.specs.declared.descriptor.Descriptor.{Descriptor}
+use Rattle.gabc_nodes.specs.declared.node.Node.{Node}
 use Rattle.gabc_tree.specs.NabcNodes.{part_nodes}
-use Rattle.gabc_tree.specs.declared.node.Node.{Node}
 use Rattle.gabc_tree.proofs.nabc_nodes.nabc_nodes.Goals as goal
 
 pub loop-part-preserved : goal.loop-part-preserved

@@ -6,8 +6,8 @@ use Rattle.std.specs.Str.Iter.{chars_rest}
 use Rattle.std.proofs.lemmas.List.{length-append}
 use Rattle.std.specs.Char.{len_utf8}
 use Rattle.std.proofs.lemmas.Str.{chars_past_char, length-encode, len_utf8_bounds}
+use Rattle.gabc_nodes.specs.declared.node.Node.{Node}
 use Rattle.gabc_tree.specs.NotKept.{nodes_from, begun}
-use Rattle.gabc_tree.specs.declared.node.Node.{Node}
 use Rattle.gabc_tree.specs.Placed.{bytes_in}
 use Rattle.gabc_tree.proofs.not_kept_nodes.FewBytes.{few_bytes}
 use Rattle.gabc_tree.specs.machine.NotKept.{joined_after}
@@ -61,4 +61,4 @@ pub returns-clause-nodes : goal.returns-clause-nodes
 returns-clause-nodes c = grind (arith, chars-none)
 
 pub returns-clause-few : goal.returns-clause-few
-returns-clause-few c = subst (λ (ns : List Node). bytes_in ns < 2 ^ 32) (sym (returns-clause-nodes c)) (few_bytes (begun c.args.heads c.args.kept.now c.args.findings.now) c.args.input.now c.utf8.input c.requires)
+returns-clause-few c = subst (λ (ns : List Node). bytes_in ns < 2 ^ 32) (sym (returns-clause-nodes c)) (few_bytes (begun c.args.heads (chars c.args.kept.now) c.args.findings.now) c.args.input.now c.utf8.input c.requires)

@@ -2,8 +2,8 @@ use Rattle.std.proofs.Common.{◌≡◌, ◌≤◌, ◌-◌, ℕ, ◌∷◌, [],
 use Rattle.std.proofs.lemmas.List.Elements.{All-head, All-tail}
 use Rattle.gabc_notes.specs.declared.item.Item.{Item}
 use Rattle.gabc_neumes.specs.declared.glyph.GlyphKind.{GlyphKind}
+use Rattle.gabc_nodes.specs.declared.node.Node.{Node}
 use Rattle.gabc_tree.specs.NoteNodes.{through, last_to, glyph_from}
-use Rattle.gabc_tree.specs.declared.node.Node.{Node}
 use Rattle.gabc_tree.proofs.NodesOfItems.{through_is_short, last_is_within, glyph_from_note, glyph_is_found, node_of_found}
 use Rattle.gabc_tree.proofs.note_nodes.add_glyph.Goals as goal
 

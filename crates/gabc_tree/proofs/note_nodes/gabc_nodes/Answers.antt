@@ -3,9 +3,9 @@ use Rattle.std.proofs.lemmas.List.Elements.{All-tail}
 use Rattle.gabc_notes.specs.Items.{items_of, AreWithin}
 use Rattle.gabc_notes.specs.declared.item.Item.{Item}
 use Rattle.gabc_neumes.specs.InForce.{InForce, step_of, in_force_after, passed}
+use Rattle.gabc_nodes.specs.declared.node.Node.{Node}
 use Rattle.gabc_tree.specs.NoteNodes.{item_nodes}
 use Rattle.gabc_tree.specs.machine.NoteNodes.{grouped, nodes_at}
-use Rattle.gabc_tree.specs.declared.node.Node.{Node}
 use Rattle.gabc_tree.specs.declared.note_nodes.ItemPlace.{ItemPlace}
 use Rattle.gabc_tree.proofs.NodesOfItems.{grouped_nodes, item_step}
 use Rattle.gabc_tree.proofs.note_nodes.gabc_nodes.Goals as goal

@@ -1,13 +1,13 @@
 use Rattle.std.proofs.Common.{◌++◌, ◌∷◌, [], List, sym, ap, ◌∙◌, append_assoc, length}
-use Rattle.gabc_body.specs.Syllable.{placed_of}
 use Rattle.gabc_neumes.specs.InForce.{InForce}
-use Rattle.gabc_tree.specs.declared.node.Node.{Node}
+use Rattle.gabc_nodes.specs.declared.node.Node.{Node}
 use Rattle.gabc_tree.specs.SyllableNodes.{around, inside_nodes, syllable_node}
+use Rattle.gabc_tree.specs.machine.SyllableSlices.{placed_by}
 use Rattle.gabc_tree.proofs.syllable_nodes.syllable_nodes.Goals as goal
 
 pub returns-clause-nodes : goal.returns-clause-nodes
 returns-clause-nodes c =
-    let s = placed_of c.args.syllable.now in
+    let s = placed_by c.args.syllable in
     let front = c.args.out.now.items in
     let inside = inside_nodes c.begin_word.new.alterations s in
     c.hold.ensures front c.node_of.result inside

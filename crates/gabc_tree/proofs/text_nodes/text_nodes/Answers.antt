@@ -1,6 +1,6 @@
 use Rattle.std.proofs.Common.{◌≡◌, ◌++◌, ℕ, List, Option, option_to_list, append-nil, sym, ap, ◌∙◌, subst, arith}
 use Rattle.gabc_text.specs.declared.token_reader.TextToken.{TextToken}
-use Rattle.gabc_tree.specs.declared.node.Node.{Node}
+use Rattle.gabc_nodes.specs.declared.node.Node.{Node}
 use Rattle.gabc_tree.specs.declared.text_nodes.Before.{Before}
 use Rattle.gabc_tree.specs.TextNodes.{joined, text_nodes}
 use Rattle.gabc_tree.specs.machine.TextNodes.{node_after}

@@ -1,6 +1,6 @@
 use Rattle.gabc_score.specs.witness.IsReachable.{IsReachable}
 use Rattle.gabc_score.specs.witness.ScoreStage.{ScoreStageState}
-use Rattle.gabc_write.proofs.reading_again.HeldWithOneText.{IsKnown, goes_on_in_line, hold_alike}
+use Rattle.gabc_write.proofs.reading_again.SyllablesOfOneTextAreEquivalent.{IsKnown, goes_on_in_line, hold_alike}
 use Rattle.gabc_write.proofs.saved_alike.what_is_saved_alike_goes_on_alike.Goals as goal
 
 pub returns : goal.returns

@@ -4,7 +4,7 @@ use Rattle.gabc_places.specs.DecoderMachine.{DecoderState}
 use Rattle.gabc_score.specs.witness.ScoreStage.{ScoreStageState}
 use Rattle.gregorio_state.specs.Fields.{fields_of}
 use Rattle.gregorio.specs.machine.Restored.{StandSo}
-use Rattle.gregorio.proofs.RestoredStands.{goes_on, restored_engine}
+use Rattle.gregorio.proofs.RestoredEngineRuns.{goes_on, restored_engine}
 use Rattle.gregorio.proofs.restoring.engine_with.Goals as goal
 
 pub invariant_of-result : goal.invariant_of-result

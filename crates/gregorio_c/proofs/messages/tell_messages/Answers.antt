@@ -1,38 +1,23 @@
-use Rattle.std.proofs.Common.{ap, length, refl, subst, sym, take, ◌≤◌, ◌∙◌}
-use Rattle.gregorio.specs.declared.source_ending.SourceEnding.TheVariants.{Whole}
-use Rattle.gregorio.specs.Outcome.{outcome_of}
-use Rattle.gregorio.specs.Streams.{Streams}
+use Rattle.std.proofs.Common.{◌≡◌, ◌∙◌, ap, length, sym, subst, arith}
+use Rattle.gabc_places.specs.Filling.{filled}
+use Rattle.gregorio.specs.declared.outcome.Outcome.{Outcome}
+use Rattle.gregorio.specs.Outcome.{status_of}
 use Rattle.gregorio_jobs.specs.Status.{code_of}
 use Rattle.gregorio_c.specs.Answers.{IsPut}
-use Rattle.gregorio_c.specs.machine.LineReader.{AreCounted, before_line, messages_in}
-use Rattle.gregorio_c.proofs.MessagesOfLines.{counted_are_all, counted_are_read}
+use Rattle.gregorio_c.specs.Messages.{messages_by}
 use Rattle.gregorio_c.proofs.messages.tell_messages.Goals as goal
-
-pub write_messages-requires-clause-count : goal.write_messages-requires-clause-count
-write_messages-requires-clause-count c =
-    let score = (outcome_of c.in_ok-counted.counted.limits Whole c.args.score.now).score in
-    let are = c.in_ok-counted.ensures.told.are_counted in
-    counted_are_all c.args.all_warnings score _ are ∙ sym (ap length (counted_are_read c.args.all_warnings score _ are))
-
-pub write_messages-requires-clause-first : goal.write_messages-requires-clause-first
-write_messages-requires-clause-first c =
-    let score = (outcome_of c.in_ok-counted.counted.limits Whole c.args.score.now).score in
-    let told = c.in_ok-counted.ensures.told in
-    let count = counted_are_all c.args.all_warnings score _ told.are_counted ∙ sym (ap length (counted_are_read c.args.all_warnings score _ told.are_counted)) in
-    λ fits. ap (λ n. take n c.count_messages.new.first) count ∙ told.first_are.are (subst (λ n. n ≤ length c.count_messages.new.first) count fits)
 
 pub returns-clause-answered : goal.returns-clause-answered
 returns-clause-answered c =
     let all = c.args.all_warnings in
-    let usual = c.in_ok-counted.ensures.usual in
-    let told = c.in_ok-counted.ensures.told in
-    let outcome = outcome_of usual.usual Whole c.args.score.now in
-    let are = subst (λ (s : Streams). AreCounted c.in_ok-counted.counted.count s.messages) usual.same told.are_counted in
-    let put = subst (λ (s : Streams). IsPut (messages_in before_line s.messages) c.args.messages.now c.write_messages.new.messages) usual.same c.in_ok-write_messages.ensures.messages in
+    let found = c.in_ok-outcome.ensures in
+    let outcome = found.outcome in
+    let same : messages_by all c.in_ok-outcome.outcome.score ≡ messages_by all outcome.score = ap (λ (o : Outcome). messages_by all o.score) found.is in
+    let count : c.fill-len.result ≡ length (messages_by all outcome.score) = omega (arith, c.fill-len.ensures.count, c.if-len.false, ap length same) in
     record {
       outcome = outcome;
-      of = record { limits = usual.usual; usual = usual.is_usual; is = refl };
-      messages = subst (λ items. IsPut items c.args.messages.now c.write_messages.new.messages) (counted_are_read all outcome.score _ are) put;
-      counted = counted_are_all all outcome.score _ are;
-      ends = c.from.ensures ∙ c.code.ensures ∙ ap code_of (told.status ∙ ap (λ (s : Streams). s.status) usual.same);
+      of = found.of;
+      messages = subst (λ new. IsPut (messages_by all outcome.score) c.args.messages.now new) (sym (c.fill.ensures.buf ∙ ap (filled c.args.messages.now c.start_of-start.result) same)) (c.start_of-start.ensures (messages_by all outcome.score) (sym count));
+      counted = count;
+      ends = c.from.ensures ∙ c.code.ensures ∙ ap code_of (c.status.ensures ∙ ap status_of found.is);
     }

@@ -11,7 +11,7 @@ use Rattle.gabc_score.specs.NoNotes.{OnlyFirstHasNotes}
 use Rattle.gabc_body.specs.Syllable.{UnplacedSyllable}
 use Rattle.gabc_body.specs.witness.BodyBuilder.{code_in, end_fault, end_findings, with_all, with_found}
 use Rattle.gabc_body.specs.witness.Gatherer.{Gathered, with_last}
-use Rattle.gabc_score.specs.machine.ScoreMachine.{IsAtRest, IsScoreAt, IsShort}
+use Rattle.gabc_score.specs.machine.ScoreMachine.{has_given, IsAtRest, IsScoreAt, IsShort}
 use Rattle.gabc_score.specs.machine.ScoreStage.{placed_after}
 use Rattle.gabc_score.proofs.building.EventsAreHeld.{never_lent}
 use Rattle.gabc_score.proofs.score_events.EventsStayWithinBounds.{few_found}
@@ -43,11 +43,11 @@ returns-in-Some c =
     let m = c.args.self.now in
     let rests = c.requires.stands.rests.rests in
     let fault = c.in-Some.fault in
-    let given = outputs_of [] (placed_after m.has_lent held) in
+    let given = outputs_of [] (placed_after (has_given m) held) in
     let kept = kept_memory m c.free.new.self.gathered c.hold.new.pair.gathered c.close_last-has_last.new.self.gathered c.hold.new.found c.close.new.self.events rests c.free.ensures.gathered c.hold.ensures.gathered c.close_last-has_last.ensures.gathered c.hold.ensures.found in
     record {
       step = gives_outside (given ++ Stop fault ∷ []) (λ is. absurd (cc (is, c.stop.ensures.part))) (λ heads. absurd (cc (heads, c.requires.stands.part))) (record {
-        lends = held_lends m.limits 2 m.has_lent held m.pair.gathered.made (Stop fault ∷ []) refl (c.close_last-has_last.ensures.held ∙ (c.hold.ensures.held ∙ c.free.ensures.held)) rests.short c.stop.ensures.few (omega arith);
+        lends = held_lends m.limits 2 (has_given m) held m.pair.gathered.made (Stop fault ∷ []) refl (c.close_last-has_last.ensures.held ∙ (c.hold.ensures.held ∙ c.free.ensures.held)) rests.short c.stop.ensures.few (omega arith);
         limits = c.stop.ensures.limits;
         part = leads_out m.part c.stop.new.self.part head_event.End given (Stop fault) c.requires.stands.part c.stop.ensures.part refl;
         last = λ other final. last_after given (Stop fault) refl;
@@ -64,7 +64,7 @@ returns-in-None c =
     let p = c.close_last-has_last.new.self in
     let fs = c.hold.new.found.items in
     let found = fs ++ end_findings c.args.self.now.next c.close_last-has_last.result (p.gathered.eu || p.gathered.nlba) in
-    let lent = placed_after c.args.self.now.has_lent p.gathered.made in
+    let lent = placed_after (has_given c.args.self.now) p.gathered.made in
     let rests = c.requires.stands.rests.rests in
     let limits = c.args.self.now.limits in
     let now = c.close.new.self.events in
@@ -75,18 +75,18 @@ returns-in-None c =
     let made : all.made ≡ old.made = none_made_at_end c.args.self.now.body old now c.close.ensures.events.law in
     let held = ap (λ (k : Gathered). k.made) c.free.ensures.gathered in
     let one : length all.made ≤ 1 = omega (arith, ap (λ (ms : List UnplacedSyllable). length ms) (made ∙ sym held), c.free.ensures.one) in
-    let later : OnlyFirstHasNotes lent = subst (λ (k : Gathered). OnlyFirstHasNotes (placed_after c.args.self.now.has_lent k.made)) (sym is) (last_has_no_notes c.args.self.now.has_lent all one) in
+    let later : OnlyFirstHasNotes lent = subst (λ (k : Gathered). OnlyFirstHasNotes (placed_after (has_given c.args.self.now) k.made)) (sym is) (last_has_no_notes (has_given c.args.self.now) all one) in
     let short : All (IsShort limits.syllable) p.gathered.made = subst (λ (k : Gathered). All (IsShort limits.syllable) k.made) (sym is) (short_at_end limits c.args.self.now.bounds.before old now rests.limit rests.over c.requires.stands.rests.preceded.follows c.requires.stands.rests.within.written rests.short none) in
     let kept = kept_memory c.args.self.now c.free.new.self.gathered g p.gathered c.hold.new.found now rests c.free.ensures.gathered c.hold.ensures.gathered c.close_last-has_last.ensures.gathered c.hold.ensures.found in
     record {
       step = gives_outside (outputs_of found lent ++ End ∷ []) (λ is. absurd (cc is)) (λ heads. absurd (cc (heads, c.requires.stands.part))) (record {
-        lends = lends_these limits 2 found lent (End ∷ []) refl c.give_end.ensures.few later (placed_within limits _ p.gathered.made short);
+        lends = lends_these limits 2 found lent (End ∷ []) refl (rw (sym c.follows-follows.ensures) c.give_end.ensures.few) later (placed_within limits _ p.gathered.made short);
         limits = refl;
         part = leads_out c.args.self.now.part _ head_event.End (outputs_of found lent) End c.requires.stands.part refl refl;
         last = λ other final. last_after (outputs_of found lent) End refl;
         passes = λ other. tt;
         law = search rules;
-        emitted = rw (sym c.slice-found.ensures) c.give_end.ensures.emitted;
+        emitted = rw (sym c.slice-found.ensures, sym c.follows-follows.ensures) c.give_end.ensures.emitted;
       });
       rests = record { room = kept.0; limit = c.give_end.ensures.limit ∙ kept.1 };
     }

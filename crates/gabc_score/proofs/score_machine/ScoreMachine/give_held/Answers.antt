@@ -8,7 +8,7 @@ use Rattle.gabc_score.specs.machine.ScoreMachine.{IsShort}
 use Rattle.gabc_score.proofs.score_events.FewAndShortAreLent.{short_within}
 use Rattle.gabc_score.proofs.score_machine.ScoreMachine.give_held.Goals as goal
 
--- the syllable that is held is within the limits
+-- the held syllable is within the limits
 within_limits : (limits : Limits) (made : List UnplacedSyllable) (first : PlacedSyllable) (position : UnplacedSyllable → PlacedSyllable) → length made ≡ 1 → All (IsShort limits.syllable) made
     → ((m : UnplacedSyllable) → (position m).made ≡ m) → ((m : UnplacedSyllable) → made ≡ m ∷ [] → first ≡ position m) → length (canonical_in_place first) ≤ limits.syllable + 1
 within_limits limits (m ∷ []) first position one short of is =
@@ -21,9 +21,8 @@ pub give-requires : goal.give-requires
 give-requires g c =
     let m = c.args.self.now in
     record {
-      takes = c.takes.ensures c.if-not-takes.false _
-          (subst (λ (s : PlacedSyllable). length (canonical_in_place s) ≤ m.limits.syllable + 1) (sym c.first.ensures.placed)
+      short = subst (λ (s : PlacedSyllable). length (canonical_in_place s) ≤ m.limits.syllable + 1) (sym c.first.ensures.placed)
           (within_limits m.limits m.pair.gathered.made c.place_held.new.self.first
-          (λ (x : UnplacedSyllable). record { made = x; position = position_by (not m.has_lent || x.text.word_start) c.args.next_starts }) c.requires.one c.requires.short (λ x. refl) c.place_held.ensures.first));
+          (λ (x : UnplacedSyllable). record { made = x; position = position_by (not c.follows.result || x.text.word_start) c.args.next_starts }) c.requires.one c.requires.short (λ x. refl) c.place_held.ensures.first);
       stands = c.first.ensures.stands;
     }

@@ -24,8 +24,8 @@ use Rattle.gabc_score.specs.machine.PartOnly.{HoldsTexts}
 use Rattle.gabc_score.specs.machine.ScoreMachine.{IsInBody, IsScoreAt}
 use Rattle.gabc_body.specs.witness.SyllableBuilder.{OpenSyllable}
 use Rattle.gabc_score.specs.witness.BodyStage.{BodyStageState}
-use Rattle.gabc_score.proofs.resuming.HeldIsHeld.{found_alone, is_found}
-use Rattle.gabc_score.proofs.resuming.HeldIsRead.{IsOneByKept}
+use Rattle.gabc_score.proofs.resuming.MachineHoldsByDefinition.{found_alone, is_found}
+use Rattle.gabc_score.proofs.resuming.OneSyllableByCharacters.{IsOneByKept}
 use Rattle.gabc_score.proofs.texts_of_body.BodyAfterHeads.{are_scalars}
 use Rattle.gabc_score.proofs.resuming.NothingIsRead.{begins_again}
 use Rattle.gabc_score.proofs.resuming.ResumedIsOfText.{first_is_place}
@@ -121,7 +121,6 @@ returns-clause-rests c =
       kept = was.kept;
       preceded = was.preceded;
       after = was.after;
-      lent = was.lent;
       code = was.code;
       reading = begins_again _ _ c.read_all.new.self.body.part c.begin_text.new.self.part c.read_all.new.self.bounds.after.spans c.read_all.new.self.pair.gathered
           (rw (ap (λ (b : BodyStageState). b.nabc_lines) c.begin_text.ensures.text, ap (λ (b : BodyStageState). b.macros) c.begin_text.ensures.text) was.reading) nothing (c.begin_text.ensures.keeps _ _);

@@ -17,7 +17,6 @@ returns-clause-rests c =
       kept = search rules;
       preceded = search rules;
       after = search rules;
-      lent = search rules;
       code = search rules;
       reading = comment_reads c.args.body.nabc_lines c.args.body.macros c.args.head c.args.limits.syllable c.args.head c.args.body.part c.after_headers-bounds.result c.start.new.self.gathered c.requires c.after_headers-bounds.ensures gathered;
       units = none_held c.args.body.nabc_lines c.after_headers-bounds.result.before c.start.new.self.gathered.made made;

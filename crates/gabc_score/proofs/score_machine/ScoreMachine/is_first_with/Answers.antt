@@ -5,11 +5,11 @@ use Rattle.gabc_score.specs.RegularSyllable.{SyllableParts, with_lines}
 use Rattle.gabc_score.specs.machine.Run.{IsSteady, sounds_among}
 use Rattle.gabc_score.proofs.score_machine.ScoreMachine.is_first_with.Goals as goal
 
--- where none comes with it
+-- if none comes with it
 silent : (lines : ℕ) (first : Option ItemKind) (r : SyllableParts) (b : Bool) → b ≡ sounds_among (with_lines lines 0 r.nexts r.final) → b ≡ false → IsSteady lines first r
 silent lines first r b e none = ap (λ x. is_some first || x) (sym e ∙ none) ∙ or-false (is_some first)
 
--- where one has come
+-- if one has come
 sounded : (lines : ℕ) (first : Option ItemKind) (r : SyllableParts) → is_some first ≡ true → IsSteady lines first r
 sounded lines first r some = ap (λ x. x || sounds_among (with_lines lines 0 r.nexts r.final)) some ∙ sym some
 

@@ -1,5 +1,4 @@
-use Rattle.std.proofs.Common.{Bool, List, length, nat_lt, refl, sym, ap, subst, ◌∙◌, arith}
-use Rattle.std.proofs.Math.Bool.{or-false}
+use Rattle.std.proofs.Common.{List, length, nat_lt, refl, sym, ap, subst, ◌∙◌, arith}
 use Rattle.gabc_places.specs.BoundedList.{BoundedList}
 use Rattle.gabc_places.specs.declared.code.Finding.{Finding}
 use Rattle.gabc_body.specs.Syllable.{UnplacedSyllable}
@@ -8,7 +7,7 @@ use Rattle.gabc_score.specs.declared.score_machine.ScorePart.{ScorePart}
 use Rattle.gabc_score.specs.declared.score_machine.ScorePart.TheVariants as score_part
 use Rattle.gabc_body.specs.witness.BodyBuilder.{code_in, with_all}
 use Rattle.gabc_score.specs.machine.ReadAgain.{PassesAgain}
-use Rattle.gabc_score.specs.machine.ScoreMachine.{IsInBody, IsScoreAt}
+use Rattle.gabc_score.specs.machine.ScoreMachine.{IsScoreAt}
 use Rattle.gabc_score.specs.witness.BodyStage.{BodyStageState}
 use Rattle.gabc_score.proofs.resuming.MachinesPassAgain.{none_is, none_coded, none_made, none_turned, none_whole}
 use Rattle.gabc_score.proofs.resuming.PartsReadAgain.{reads_again}
@@ -54,7 +53,6 @@ returns-else-is_some-clause-step c =
         same = record {
           body = c.requires.part;
           bounds = refl;
-          has_lent = refl;
           made = none_made m.pair.gathered g.pair.gathered g.body.events a.gathered
               (ap (λ (ms : List UnplacedSyllable). nat_lt (length ms) (length g.pair.gathered.made)) (sym a.held) ∙ sym c.is_whole.ensures.made ∙ c.if-is_whole.false);
         };
@@ -73,11 +71,10 @@ returns-else-is_some-clause-rests c =
     let room = room_gathered c.requires.rests a in
     subst (λ (k : ScoreMachine). IsScoreAt k.part k) (ap (λ (k : ScoreMachine). record k { found = c.clear.new.self }) (sym same))
     (subst (λ (p : ScorePart). IsScoreAt p n) (sym c.requires.part)
-    (subst (λ (lent : Bool). IsInBody (record n { has_lent = lent })) (or-false m.has_lent)
     (rests_past c.requires.part c.requires.rests a
     (ap (λ (k : ScoreMachine). code_in k.limits g.pair.gathered) (sym same) ∙ (sym c.code.ensures.code ∙ none_is c.code.result (sym c.is_some.ensures ∙ c.if-is_some.false)))
     (none_turned a (sym c.is_whole.ensures.made ∙ c.if-is_whole.false) (sym c.is_whole.ensures.used ∙ c.if-is_whole.false))
-    c.clear.new.self m.next (ap (λ (r : BoundedList Finding). r.items) c.clear.ensures) (omega (arith, cleared, room)))))
+    c.clear.new.self m.next (ap (λ (r : BoundedList Finding). r.items) c.clear.ensures) (omega (arith, cleared, room))))
 
 pub returns-then-is_whole-clause-rests : goal.returns-then-is_whole-clause-rests
 returns-then-is_whole-clause-rests c =

@@ -1,5 +1,6 @@
 use Rattle.std.proofs.Common.{rules, ◌++◌, [], ◌∷◌, refl, arith}
 use Rattle.gabc_body.specs.ScoreEvents.{Found, Stop, outputs_of}
+use Rattle.gabc_score.specs.machine.ScoreMachine.{has_given}
 use Rattle.gabc_score.specs.machine.ScoreStage.{placed_after}
 use Rattle.gabc_score.proofs.score_events.CharactersAreRead.{character_gives, character_rests}
 use Rattle.gabc_score.proofs.score_events.FewAndShortAreLent.{held_lends, lends_none}
@@ -36,9 +37,9 @@ pub returns-in-Stop : goal.returns-in-Stop
 returns-in-Stop c = record {
   step =
       let held = c.free.new.self.held in
-      let given = outputs_of [] (placed_after c.args.self.now.has_lent held) in
+      let given = outputs_of [] (placed_after (has_given c.args.self.now) held) in
       gives_outside (given ++ Stop c.in-Stop.fault ∷ []) (λ body. absurd (cc (body, c.stop.ensures.part))) (λ heads. absurd (cc (heads, c.requires.stands.part))) (record {
-        lends = rw c.in-Stop.is (held_lends c.args.self.now.limits 1 c.args.self.now.has_lent held c.args.self.now.pair.gathered.made (Stop c.in-Stop.fault ∷ []) refl c.free.ensures.held c.requires.stands.rests.rests.short c.stop.ensures.few (omega arith));
+        lends = rw c.in-Stop.is (held_lends c.args.self.now.limits 1 (has_given c.args.self.now) held c.args.self.now.pair.gathered.made (Stop c.in-Stop.fault ∷ []) refl c.free.ensures.held c.requires.stands.rests.rests.short c.stop.ensures.few (omega arith));
         limits = c.stop.ensures.limits;
         part = leads_out c.args.self.now.part c.stop.new.self.part _ given (Stop c.in-Stop.fault) c.requires.stands.part c.stop.ensures.part refl;
         last = λ other final. last_after given (Stop c.in-Stop.fault) refl;

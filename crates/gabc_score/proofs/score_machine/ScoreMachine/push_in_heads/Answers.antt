@@ -84,7 +84,6 @@ returns-in-Heads c =
         kept = search rules;
         preceded = search rules;
         after = search rules;
-        lent = search rules;
         code = search rules;
         reading = comment_reads c.restart.new.self.nabc_lines c.restart.new.self.macros c.in-Heads.canonical c.args.self.now.limits.syllable c.in-Heads.canonical c.restart.new.self.part c.after_headers-self.result c.start.new.self.gathered
             (ap (λ (s : BodyStageState). s.part) c.restart.ensures) c.after_headers-self.ensures gathered;

@@ -1,4 +1,4 @@
-use Rattle.std.proofs.Common.{rules, ◌≡◌, ◌||◌, Bool, length, Option, sym, ap, subst, ◌∙◌, arith}
+use Rattle.std.proofs.Common.{◌≡◌, length, Option, sym, ap, subst, ◌∙◌, arith}
 use Rattle.std.proofs.lemmas.Bool.{eqb-true}
 use Rattle.std.proofs.lemmas.List.{nil_from_length}
 use Rattle.gabc_places.specs.BoundedList.{BoundedList, extended_by}
@@ -12,6 +12,7 @@ use Rattle.gabc_score.specs.declared.score_machine.ScoreMachine.{ScoreMachine}
 use Rattle.gabc_score.specs.declared.bounds.Bounds.{Bounds}
 use Rattle.gabc_body.specs.witness.BodyBuilder.{code_in}
 use Rattle.gabc_score.specs.machine.ReadsChar.{ReadsChar, StopsWith, GivesPoint, stops, goes, found_past, past_char}
+use Rattle.gabc_score.specs.machine.ScoreMachine.{has_given}
 use Rattle.gabc_score.specs.machine.SlotPair.{SlotPairState}
 use Rattle.gabc_score.proofs.building.EventsAreHeld.{never_lent}
 use Rattle.gabc_score.proofs.score_events.CharactersAreRead.{few_gathered, room_gathered}
@@ -22,9 +23,9 @@ use Rattle.gabc_score.proofs.score_machine.ScoreMachine.read.Goals as goal
 found_is : (found new : BoundedList Finding) {was was_is now now_is : Option ItemKind} (place : Place) → was ≡ was_is → now ≡ now_is → new ≡ extended_by found (found_first was now place) → new ≡ extended_by found (found_first was_is now_is place)
 found_is found new {was_is = was_is} {now} place w n e = e ∙ ap (λ k. extended_by found (found_first k now place)) w ∙ ap (λ k. extended_by found (found_first was_is k place)) n
 
-stands_past : (g : ScoreMachine) (q : SlotPairState) (r : BoundedList Finding) {next next_is : Place} {lent lent_is : Bool} {bounds bounds_is : Bounds} → next ≡ next_is → lent ≡ lent_is → bounds ≡ bounds_is
-    → record g { pair = q; found = r; next = next_is; has_lent = lent_is; bounds = bounds_is } ≡ record g { pair = q; found = r; next = next; has_lent = lent; bounds = bounds }
-stands_past g q r n l b = grind arith
+stands_past : (g : ScoreMachine) (q : SlotPairState) (r : BoundedList Finding) {next next_is : Place} {bounds bounds_is : Bounds} → next ≡ next_is → bounds ≡ bounds_is
+    → record g { pair = q; found = r; next = next_is; bounds = bounds_is } ≡ record g { pair = q; found = r; next = next; bounds = bounds }
+stands_past g q r n b = grind arith
 
 pub find_first-requires : goal.find_first-requires
 find_first-requires c =
@@ -49,20 +50,19 @@ returns-in-Some c =
     (subst (λ (f : BoundedList Finding). StopsWith (record g { found = f }) (fault_at c.args.x.place c.in-Some.code) c.stop.new.self c.args.out.now c.stop.new.out)
     (found_is g.found c.find_first.new.found c.args.x.place c.sounded-was.ensures c.sounded.ensures c.find_first.ensures) c.stop.ensures))
 
-pub returns-after-self : goal.returns-after-self
-returns-after-self c =
+pub returns-in-None : goal.returns-in-None
+returns-in-None c =
     let g = c.gather.new.self in
     let same = c.gather.ensures.same in
     let m = c.args.self.now in
     let give = c.give_point-gave in
-    let lent : c.if-self.self ≡ (g.has_lent || give.result) = search rules in
     subst (ReadsChar m c.args.x c.args.out.now give.new.out)
-    (ap (λ (k : ScoreMachine). past_char k c.args.x g.body c.is_whole-is_whole.result give.result give.new.pair give.new.found) (sym same) ∙ stands_past g give.new.pair give.new.found c.saturating_after-self-in-None.ensures lent c.pass.ensures)
+    (ap (λ (k : ScoreMachine). past_char k c.args.x g.body c.is_whole-is_whole.result give.result give.new.pair give.new.found) (sym same) ∙ stands_past g give.new.pair give.new.found c.saturating_after-self-in-None.ensures c.pass.ensures)
     (goes c.gather.ensures.gathers (record {
       none = ap (λ (k : ScoreMachine). code_in k.limits g.pair.gathered) (sym same) ∙ (sym c.code.ensures.code ∙ c.in-None.is);
       whole_is = c.is_whole-is_whole.ensures.made;
-      given = subst (λ (k : ScoreMachine). GivesPoint k.has_lent g.pair (found_past m c.args.x g.pair g.found) give.result give.new.pair give.new.found c.args.out.now give.new.out) same
-          (subst (λ (f : BoundedList Finding). GivesPoint g.has_lent g.pair f give.result give.new.pair give.new.found c.args.out.now give.new.out) (found_is g.found c.find_first.new.found c.args.x.place c.sounded-was.ensures c.sounded.ensures c.find_first.ensures) give.ensures);
+      given = subst (λ (k : ScoreMachine). GivesPoint (has_given k) g.pair (found_past m c.args.x g.pair g.found) give.result give.new.pair give.new.found c.args.out.now give.new.out) same
+          (subst (λ (f : BoundedList Finding). GivesPoint (has_given g) g.pair f give.result give.new.pair give.new.found c.args.out.now give.new.out) (found_is g.found c.find_first.new.found c.args.x.place c.sounded-was.ensures c.sounded.ensures c.find_first.ensures) (rw (sym c.follows-follows.ensures) give.ensures));
     }))
 
 pub returns-then-is_empty : goal.returns-then-is_empty

@@ -1,4 +1,4 @@
-use Rattle.std.proofs.Common.{◌≡◌, nat_lt, length, sym, ap, subst, ◌∙◌, arith}
+use Rattle.std.proofs.Common.{◌≡◌, length, sym, ap, subst, ◌∙◌, arith}
 use Rattle.std.specs.List.{All}
 use Rattle.std.proofs.lemmas.Bool.{true≢false}
 use Rattle.std.proofs.lemmas.List.Elements.{All-nil}
@@ -46,7 +46,6 @@ returns-clause-rests c =
       kept = omega (arith, kept);
       preceded = subst (λ (p : Preceding). IsPreceded p c.follow.new.self.gathered) (sym before) (subst (IsPreceded (preceding_of b)) (sym gathered) (preceded_after b limit));
       after = ap (λ (g : Gathered). with_each c.of-preceding.result g.made) (sym gathered);
-      lent = ap (λ (p : Preceding). nat_lt 0 p.syllables) (sym before);
       code = ap (code_in c.args.limits) gathered ∙ nothing_passes c.args.limits b limit;
       reading = subst (λ (p : Preceding). IsReading c.begin_text.new.self.nabc_lines c.begin_text.new.self.macros c.begin_text.new.self.part p.spans c.follow.new.self.gathered) (sym before)
           (subst (IsReading c.begin_text.new.self.nabc_lines c.begin_text.new.self.macros c.begin_text.new.self.part b.spans) (sym gathered) (reads_after _ _ limit c.begin_text.new.self.part b (c.begin_text.ensures.keeps _ _)));

@@ -15,7 +15,7 @@ use Rattle.gregorio.specs.machine.ScoreWriter.{ScoreWriterState, FitsEnd, FitsEv
 use Rattle.gregorio.proofs.pieces.HeadersAreRead.{given_of_end}
 use Rattle.gregorio.proofs.pieces.RoomIsLeft.{leaves_room, room_before_end}
 use Rattle.gregorio.proofs.pieces.InputsAreEnded.{ended_as, ends_given, ends_items, ends_now, no_character_at_end, over_is_engine, over_says, over_stage}
-use Rattle.gregorio.proofs.pieces.BytesAreTaken.{none_wait, still_reserved}
+use Rattle.gregorio.proofs.pieces.BytesAreTaken.{over_already, still_reserved}
 use Rattle.gregorio.proofs.pieces.EventsAreWritten.{passes_all, steady_all, steady_both, writes_all}
 use Rattle.gregorio.proofs.pieces.SavedInHeaders.{shown, still_runs}
 use Rattle.gregorio.proofs.pieces.WrittenGoesOn.{force_past_all}
@@ -42,34 +42,10 @@ finish-requires-2 c =
           (room_at_end c.self.inside.decoder h w c.end-item.result c.slice.result.now c.end-item.ensures.item c.read_decoded.ensures.reads.room from_heads));
     }
 
-pub returns-clause-law : goal.returns-clause-law
-returns-clause-law c =
-    let d = c.self.inside.decoder in
-    let h = c.self.inside.heads in
-    let w = c.self.inside.writer in
-    let now = c.read_decoded.new.heads in
-    let mid = c.read_decoded.new.writer in
-    let new = c.finish-2.new.self in
-    let how = c.finish-2.result in
-    let none : NothingWaits (shown d h w) = subst NothingWaits (sym c.self.view_is) c.requires.waits in
-    let from_heads = given_of_end now c.read_decoded.new.from_heads c.clear.new.self c.finish.new.out c.slice.result.now c.clear.ensures c.finish.ensures.ends c.slice.ensures in
-    let writes = writes_all c.slice.result.now c.finish.new.self.book mid c.pass_on.new.writer c.pass_on.ensures.takes in
-    let ends = ends_items d h now w mid new how (option_to_list c.end-item.result) c.end-item.ensures.item c.read_decoded.ensures.reads.writes
-    (ends_given now mid c.pass_on.new.writer new how c.slice.result.now c.finish.new.self.book from_heads writes c.finish-2.ensures.writes) in
-    ap (λ (s : EngineState). streams_left s Whole []) (sym c.self.view_is)
-    ∙ (ends_now _ w new how ends none.output none.messages
-    ∙ ap (after_bytes new.writer.out.items new.writer.messages.items) (ended_as how c.status-2.result new.writer.written.ended c.status-2.ensures c.finish-2.ensures.over.ended))
-
-pub returns-in-Some-clause-last : goal.returns-in-Some-clause-last
-returns-in-Some-clause-last c = λ bytes ending.
+pub returns-in-Some : goal.returns-in-Some
+returns-in-Some c = over_already c.args.self.now Whole c.status.result c.requires.waits (grind arith) (λ bytes ending.
     subst (λ (s : EngineState). streams_left s ending bytes ≡ ended_with c.status.result (fault_of s)) c.self.view_is
-    (over_says (shown c.self.inside.decoder c.self.inside.heads c.self.inside.writer) c.in-Some.ended c.status.result c.in-Some.ensures.over c.status.ensures bytes ending)
-
-pub returns-in-Some-clause-law : goal.returns-in-Some-clause-law
-returns-in-Some-clause-law c =
-    subst (λ (s : EngineState). streams_left s Whole [] ≡ ended_with c.status.result (fault_of s)) c.self.view_is
-    (over_says (shown c.self.inside.decoder c.self.inside.heads c.self.inside.writer) c.in-Some.ended c.status.result c.in-Some.ensures.over c.status.ensures [] Whole)
-    ∙ sym (none_wait c.args.self.now c.requires.waits (ended_with c.status.result (fault_of c.args.self.now)))
+    (over_says (shown c.self.inside.decoder c.self.inside.heads c.self.inside.writer) c.in-Some.ended c.status.result c.in-Some.ensures.over c.status.ensures bytes ending))
 
 pub invariant_of-self : goal.invariant_of-self
 invariant_of-self c =
@@ -88,12 +64,27 @@ invariant_of-self c =
     (still_reserved w new (steady_both w mid new read.steady steady) c.self.invariant.reserved)
     (c.finish-2.ensures.force (force_past_all events mid c.pass_on.new.writer (passes_all events _ mid c.pass_on.new.writer takes) (read.step.force c.self.invariant.step.force))) over
 
-pub returns-clause-job : goal.returns-clause-job
-returns-clause-job c = grind (arith, steady_both, steady_all, still_runs)
-
-pub returns-clause-last : goal.returns-clause-last
-returns-clause-last c =
-    over_says (shown c.end-item.new.self c.finish.new.self c.finish-2.new.self) c.finish-2.result c.status-2.result c.finish-2.ensures.over c.status-2.ensures
-
-pub returns-clause-hasher : goal.returns-clause-hasher
-returns-clause-hasher c = grind arith
+pub returns : goal.returns
+returns c =
+    let d = c.self.inside.decoder in
+    let h = c.self.inside.heads in
+    let w = c.self.inside.writer in
+    let now = c.read_decoded.new.heads in
+    let mid = c.read_decoded.new.writer in
+    let new = c.finish-2.new.self in
+    let how = c.finish-2.result in
+    let none : NothingWaits (shown d h w) = subst NothingWaits (sym c.self.view_is) c.requires.waits in
+    let from_heads = given_of_end now c.read_decoded.new.from_heads c.clear.new.self c.finish.new.out c.slice.result.now c.clear.ensures c.finish.ensures.ends c.slice.ensures in
+    let writes = writes_all c.slice.result.now c.finish.new.self.book mid c.pass_on.new.writer c.pass_on.ensures.takes in
+    let ends = ends_items d h now w mid new how (option_to_list c.end-item.result) c.end-item.ensures.item c.read_decoded.ensures.reads.writes
+    (ends_given now mid c.pass_on.new.writer new how c.slice.result.now c.finish.new.self.book from_heads writes c.finish-2.ensures.writes) in
+    record {
+      law = ap (λ (s : EngineState). streams_left s Whole []) (sym c.self.view_is)
+          ∙ (ends_now _ w new how ends none.output none.messages
+          ∙ ap (after_bytes new.writer.out.items new.writer.messages.items) (ended_as how c.status-2.result new.writer.written.ended c.status-2.ensures c.finish-2.ensures.over.ended));
+      last = over_says (shown c.end-item.new.self c.finish.new.self new) how c.status-2.result c.finish-2.ensures.over c.status-2.ensures;
+      over = grind arith;
+      job = grind (arith, steady_both, steady_all, still_runs);
+      again = grind arith;
+      hasher = grind arith;
+    }

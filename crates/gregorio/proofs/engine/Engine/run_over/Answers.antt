@@ -10,7 +10,7 @@ returns g c =
     record {
       out = c.end_by.ensures.out ∙ put.output;
       messages = c.end_by.ensures.messages ∙ put.lines;
-      status = c.end_by.ensures.status ∙ put.status;
+      ends = c.end_by.ensures.ends ∙ put.status;
       fault = c.end_by.ensures.fault ∙ put.fault;
       job = λ job limits runs. c.end_by.ensures.job job limits (c.feed_all.ensures.job job limits runs);
       waits = c.end_by.ensures.waits;

@@ -1,0 +1,47 @@
+//! The nodes of a tree.
+
+use crate::kind::Kind;
+
+/// A node: its bytes, how many nodes lie in it, what it is, and what its kind says of it in
+/// numbers.
+///
+/// Those of its bytes that lie in no node inside it are its own. In a tree `begin` and `end` count
+/// bytes of the input, from 0. While a tree is built they count bytes of a kept text.
+#[derive(Clone, Copy, Debug, PartialEq, Eq)]
+pub struct Node {
+    /// Its first byte.
+    pub begin: u32,
+    /// The byte after its last one.
+    pub end: u32,
+    /// How many nodes lie in it. They stand directly after it.
+    pub inner: u32,
+    /// What it is.
+    pub kind: Kind,
+    /// The first number that its kind says.
+    pub a: u16,
+    /// The second.
+    pub b: u16,
+    /// The third.
+    pub c: u16,
+}
+
+impl Node {
+    ghost use Rattle.std.specs.Prelude.{◌≡◌};
+    ghost use Rattle.gabc_nodes.specs.Node.{leaf};
+
+    /// Returns a node of the bytes from `begin` up to before `end`, in which no other lies, and of
+    /// which its `kind` says `number`.
+    pub fn leaf(kind: Kind, number: u16, begin: u32, end: u32) -> Node
+        ensures { result ≡ leaf kind number begin end }
+    {
+        Node {
+            begin,
+            end,
+            inner: 0,
+            kind,
+            a: number,
+            b: 0,
+            c: 0,
+        }
+    }
+}

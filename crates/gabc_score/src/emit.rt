@@ -1,0 +1,161 @@
+//! What a stage over a score gives at a point.
+
+ghost use Rattle.std.specs.Prelude.{◌≡◌, ◌≢◌, ◌≤◌, ◌||◌, [], ◌∷◌, ◌++◌, map, length, cond, None};
+ghost use Rattle.gabc_places.specs.BoundedList.{Fits, extended_by};
+ghost use Rattle.gabc_body.specs.NoteBeforeClef.{found_first};
+ghost use Rattle.gabc_body.specs.ScoreEvents.{outputs_of, Stop, End};
+ghost use Rattle.gabc_body.specs.witness.BodyBuilder.{end_findings};
+ghost use Rattle.gabc_score.specs.machine.FirstSound.{kind_of};
+ghost use Rattle.gabc_score.specs.machine.ReadsChar.{GivesAsLast, GivesPoint};
+ghost use Rattle.gabc_score.specs.machine.ScoreStage.{placed_after};
+ghost use Rattle.gabc_score.specs.machine.SlotPair.{lent_of};
+
+use crate::first_sound::FirstSound;
+use crate::score_event::{BorrowedSyllable, ScoreEvent};
+use crate::slot_pair::{SlotPair, SlotUse};
+use gabc_places::{Code, Fault, Finding, Place, Room};
+
+/// Finds a note before any clef at `place`, if by `was` neither a note nor a clef had come in GABC,
+/// and by `now` a note came first.
+#[inline(always)]
+pub(crate) fn find_first(
+    was: Option<FirstSound>,
+    now: Option<FirstSound>,
+    place: Place,
+    found: &mut Room<Finding>,
+)
+    requires { Fits found.old 1 }
+    ensures { found.new ≡ extended_by found.old (found_first (kind_of was) (kind_of now) place) }
+{
+    if was.is_some() {
+        return;
+    }
+    if now.is_some() {
+        find_note(now, place, found);
+    }
+}
+
+/// Finds a note before any clef at `place`, if `now` says that a note came first in GABC.
+#[inline(never)]
+fn find_note(now: Option<FirstSound>, place: Place, found: &mut Room<Finding>)
+    requires { Fits found.old 1 }
+    ensures { found.new ≡ extended_by found.old (found_first None (kind_of now) place) }
+{
+    if let Some(FirstSound::Note) = now {
+        found.push(Finding {
+            place,
+            code: Code::W12,
+        });
+    }
+}
+
+/// Gives the findings `found`.
+fn give_found(found: &[Finding], out: &mut Room<ScoreEvent>)
+    requires { Fits out.old (length found.now) }
+    ensures { out.new ≡ extended_by out.old (map (λ f. ScoreEvent.Found f) found.now) }
+{
+    for finding in found {
+        out.push(ScoreEvent::Found(*finding));
+    }
+}
+
+/// Gives the finding of this code, if it is found.
+fn give_code(is_found: bool, place: Place, code: Code, out: &mut Room<ScoreEvent>)
+    requires { Fits out.old 1 }
+    ensures { out.new ≡ extended_by out.old
+        (map (λ f. ScoreEvent.Found f)
+        (cond is_found (record { place = place; code = code } ∷ []) [])) }
+{
+    if is_found {
+        out.push(ScoreEvent::Found(Finding { place, code }));
+    }
+}
+
+/// Gives the first `count` of the syllables that are borrowed.
+fn give_lent(count: usize, out: &mut Room<ScoreEvent>)
+    requires most { count ≤ 2 }
+    requires fits { Fits out.old count }
+    ensures { out.new ≡ extended_by out.old (lent_of count) }
+{
+    if count > 0 {
+        out.push(ScoreEvent::Syllable(BorrowedSyllable::First));
+    }
+    if count > 1 {
+        out.push(ScoreEvent::Syllable(BorrowedSyllable::Second));
+    }
+}
+
+/// Gives the findings of a point, and the held syllable if another has become whole, which is held
+/// then. `has_lent` says whether one was borrowed before. Returns whether it gave one.
+pub(crate) fn give_point(
+    pair: &mut SlotPair,
+    has_lent: bool,
+    found: &mut Room<Finding>,
+    out: &mut Room<ScoreEvent>,
+) -> bool
+    requires few { length found.old.items ≤ 9 }
+    requires fits { Fits out.old 16 }
+    ensures { GivesPoint has_lent pair.old found.old result pair.new found.new out.old out.new }
+{
+    give_found(found.slice(), out);
+    found.clear();
+    let count = pair.rotate(has_lent);
+    give_lent(count, out);
+    count > 0
+}
+
+/// Gives the held syllable as the last one, and the fault that stops the score.
+pub(crate) fn give_stop(
+    pair: &mut SlotPair,
+    has_lent: bool,
+    fault: Fault,
+    out: &mut Room<ScoreEvent>,
+)
+    requires used { pair.old.used ≢ SlotUse.Lent }
+    requires fits { Fits out.old 16 }
+    ensures { let held = placed_after has_lent pair.old.held in
+        GivesAsLast pair.old (outputs_of [] held ++ Stop fault ∷ []) held 1
+        out.old out.new pair.new }
+{
+    let count = pair.give_held(has_lent);
+    give_lent(count, out);
+    out.push(ScoreEvent::Stop(fault));
+}
+
+/// Gives the held syllable as the last one, when the source has failed.
+pub(crate) fn give_broken(pair: &mut SlotPair, has_lent: bool, out: &mut Room<ScoreEvent>)
+    requires used { pair.old.used ≢ SlotUse.Lent }
+    requires fits { Fits out.old 16 }
+    ensures { let held = placed_after has_lent pair.old.held in
+        GivesAsLast pair.old (outputs_of [] held) held 1 out.old out.new pair.new }
+{
+    let count = pair.give_held(has_lent);
+    give_lent(count, out);
+}
+
+/// Gives what was found at the end, which is at this place, the syllables that are left, and the
+/// end. `has_last` says whether a last text is a syllable.
+pub(crate) fn give_end(
+    pair: &mut SlotPair,
+    has_lent: bool,
+    has_last: bool,
+    at: Place,
+    found: &[Finding],
+    out: &mut Room<ScoreEvent>,
+)
+    requires used { pair.old.used ≢ SlotUse.Lent }
+    requires few { length found.now ≤ 8 }
+    requires fits { Fits out.old 16 }
+    ensures { let g = pair.old.gathered in
+        let made = placed_after has_lent g.made in
+        GivesAsLast pair.old
+        (outputs_of (found.now ++ end_findings at has_last (g.eu || g.nlba)) made ++ End ∷ [])
+        made 2 out.old out.new pair.new }
+{
+    give_found(found, out);
+    give_code(has_last, at, Code::W9, out);
+    give_code(pair.has_open(), at, Code::W11, out);
+    let count = pair.give_all(has_lent);
+    give_lent(count, out);
+    out.push(ScoreEvent::End);
+}

@@ -1,0 +1,1 @@
+"""Trials of built programs and of scripts, which pytest runs."""
