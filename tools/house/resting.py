@@ -1,9 +1,11 @@
 """What the proofs of a crate rest on: its own files, and of each crate below it what callers may
-know. That are its types, traits, constants and public functions with their contracts, and those of
-its definitions and lemmas that these or the crate's own files name.
+know. That are its types, traits and constants; its public functions that the crate's sources name,
+with their contracts; and those of its definitions and lemmas that these or the crate's own files
+name.
 
 Comments do not count, nor do the bodies of functions below: a proof rests on the contract of what a
-function calls. Nor do functions that a crate below keeps to itself, with what only they name."""
+function calls. Nor do functions that a crate below keeps to itself, with what only they name. It
+reads the files as text: what a name may mean counts."""
 
 from __future__ import annotations
 
@@ -11,15 +13,20 @@ import os
 import re
 from collections.abc import Iterable, Iterator
 
+from house.citations import Citations
 from house.files import crates_folder, files_below, read
-from house.source import Source, closing, uncommented
+from house.proof_files import Declaration
+from house.source import WORD, Function, Source, closing, uncommented
 
+Text = tuple[str, str]
 _GHOST_USE = re.compile(
     r"(?m)^[ \t]*(?:pub )?ghost use ([^\s;{}]+?)(?:\.\{([^}]*)\})?(?:\s+as\s+(\w+))?;[ \t]*\n"
 )
+_USE = re.compile(
+    r"(?m)^[ \t]*(pub )?(?:pub\([^)]*\) )?use ([\w:]+)(?:::\{([^{}]*)\})?(?: as (\w+))?;[ \t]*\n"
+)
 # Attributes that say how something is proved or compiled.
 _HINT = re.compile(r"(?m)^[ \t]*#\[(?:inline|tactic|cold)\b[^\n]*\]\n")
-_MODULE = re.compile(r"\bRattle\.(\w+)\.(specs|proofs)\.([\w.]+)")
 
 
 def code_of(path: str) -> str:
@@ -32,42 +39,52 @@ def code_of(path: str) -> str:
     return "\n".join(it for it in lines if it.strip())
 
 
-def _shown(source: Source) -> str:
-    """Returns the text of a file of a crate without the functions that the crate keeps to itself,
-    and without the bodies of the others."""
+def _is_known(function: Function, named: set[str]) -> bool:
+    """Returns whether the proofs of a crate whose sources have the names `named` may rest on the
+    contract of a function below: one of a trait is called without its name, too."""
+    is_of_trait = function.holder is not None and bool(function.holder.trait)
+    return function.is_public and (is_of_trait or function.name in named)
+
+
+def _shown(source: Source, named: set[str]) -> str:
+    """Returns the text of a file without the functions of which a crate whose sources have these
+    names knows nothing, and without the bodies of the others."""
     text, plain = uncommented(source.text), source.plain
     kept, at = [], 0
     for function in source.functions:
         if function.begin < at:
             continue
         is_open = plain[function.end : function.end + 1] == "{"
-        past = (closing(plain, function.end) if is_open else function.end) + 1
         head = plain.rfind("\n", 0, function.begin) + 1
-        kept.append(text[at : function.end if function.is_public else head])
-        at = past
+        kept.append(text[at : function.end if _is_known(function, named) else head])
+        at = (closing(plain, function.end) if is_open else function.end) + 1
     return "".join([*kept, text[at:]])
 
 
-def _used(text: str, rest: str) -> Iterator[str]:
-    """Yields the paths of the names that `ghost use` items of `text` bring, if `rest` has them."""
-    words = {it.strip("◌") for it in re.split(r"[\s(){}\[\],;.&<>:]+", rest)}
-    for module, names, alias in _GHOST_USE.findall(text):
+def _brought(items: Iterable[tuple[str, str, str]], between: str) -> Iterator[Text]:
+    """Yields what `use` items bring: each name with its path."""
+    for module, names, alias in items:
         if not names:
-            if (alias or module.rpartition(".")[2]) in words:
-                yield module
+            yield alias or module.rpartition(between)[2], module
             continue
         for it in names.split(","):
             name, _, local = (part.strip() for part in it.partition(" as "))
-            if "◌" in name or (local or name) in words:
-                yield f"{module}.{name}"
+            if name:
+                yield local or name, f"{module}{between}{name}"
 
 
-def statements_of(source: Source) -> str:
-    """Returns what callers of a crate may know of one of its files."""
-    shown = _shown(source)
-    rest = _HINT.sub("", _GHOST_USE.sub("", shown))
+def statements_of(source: Source, named: set[str]) -> tuple[str, list[str]]:
+    """Returns what is known of a file of a crate below in one whose sources have the names `named`,
+    and the paths of the definitions that it names."""
+    shown = _shown(source, named)
+    rest = _HINT.sub("", _USE.sub("", _GHOST_USE.sub("", shown)))
+    words = {it.strip("◌") for it in re.split(r"[\s(){}\[\],;.&<>:|!?=]+", rest)}
+    ghosts = _brought(_GHOST_USE.findall(shown), ".")
+    paths = sorted({path for name, path in ghosts if name in words or "◌" in name})
+    items = [(words | named if it[0] else words, it[1:]) for it in _USE.findall(shown)]
+    uses = {path for known, it in items for name, path in _brought([it], "::") if name in known}
     lines = (it.rstrip() for it in rest.split("\n"))
-    return "\n".join([*sorted({*_used(shown, rest)}), *(it for it in lines if it)])
+    return "\n".join([*sorted(uses), *paths, *(it for it in lines if it)]), paths
 
 
 class Resting:
@@ -75,61 +92,83 @@ class Resting:
 
     def __init__(self, root: str) -> None:
         self.folder = crates_folder(root)
-        self._code: dict[str, str] = {}
-        self._statements: dict[str, list[tuple[str, str]]] = {}
+        self.citations = Citations(root)
+        self._sources: dict[str, list[tuple[str, Source]]] = {}
 
-    def code(self, path: str) -> str:
-        """Returns the text of a file, by its path below the crates, without comments."""
-        if path not in self._code:
-            self._code[path] = code_of(os.path.join(self.folder, path))
-        return self._code[path]
+    def _paths(self, crate: str, part: str, ending: str) -> list[str]:
+        """Returns the paths of a crate's files below the crates, in their order."""
+        found = files_below(os.path.join(self.folder, crate, part), ending)
+        return sorted(os.path.relpath(it, self.folder) for it in found)
 
-    def _below(self, crate: str, part: str, ending: str) -> list[str]:
-        """Returns the paths of a crate's files, in their order."""
-        folder = os.path.join(self.folder, crate, part)
-        return sorted(os.path.relpath(it, self.folder) for it in files_below(folder, ending))
-
-    def own(self, crate: str) -> list[tuple[str, str]]:
-        """Returns each file of a crate, with its text."""
+    def own(self, crate: str) -> list[Text]:
+        """Returns each file of a crate by its path, with its text."""
         parts = (("src", ".rt"), ("specs", ".antt"), ("proofs", ".antt"))
-        return [(it, self.code(it)) for part in parts for it in self._below(crate, *part)]
+        paths = [it for part in parts for it in self._paths(crate, *part)]
+        return [(it, code_of(os.path.join(self.folder, it))) for it in paths]
 
-    def statements(self, crate: str) -> list[tuple[str, str]]:
-        """Returns what callers may know of a crate's sources, file by file."""
-        if crate not in self._statements:
+    def sources(self, crate: str) -> list[tuple[str, Source]]:
+        """Returns the sources of a crate by their paths."""
+        if crate not in self._sources:
             folder = os.path.join(self.folder, crate, "src")
-            self._statements[crate] = [
-                (it, statements_of(Source(crate, os.path.join(self.folder, it), folder)))
-                for it in self._below(crate, "src", ".rt")
+            self._sources[crate] = [
+                (it, Source(crate, os.path.join(self.folder, it), folder))
+                for it in self._paths(crate, "src", ".rt")
             ]
-        return self._statements[crate]
+        return self._sources[crate]
 
-    def _module(self, crate: str, part: str, name: str) -> str | None:
-        """Returns the path of the file that a name `Rattle.CRATE.PART.NAME` leads to."""
-        words = name.split(".")
-        for end in range(len(words), 0, -1):
-            path = os.path.join(crate, part, *words[:end]) + ".antt"
-            if os.path.isfile(os.path.join(self.folder, path)):
-                return path
-        return None
+    def _meant(self, path: str) -> list[Declaration]:
+        """Returns the declaration that a path leads to, or all of its file if none has the name."""
+        found = self.citations.find(path)
+        if found is not None:
+            return [found]
+        words = path.split(".")
+        for end in range(len(words), 3, -1):
+            file = self.citations.files.get((words[1], words[2], ".".join(words[3:end])))
+            if file is not None:
+                return file.declarations
+        return []
 
-    def reached(self, crate: str, below: Iterable[str]) -> list[tuple[str, str]]:
-        """Returns the definitions and lemmas of crates below that a crate's files and the
-        statements of these name, and what those name, file by file."""
-        crates = {*below}
-        texts = [text for _, text in self.own(crate)]
-        texts += [text for it in crates for _, text in self.statements(it)]
-        found: dict[str, str] = {}
-        while texts:
-            for name, part, module in _MODULE.findall(texts.pop()):
-                path = self._module(name, part, module) if name in crates else None
-                if path is not None and path not in found:
-                    found[path] = self.code(path)
-                    texts.append(found[path])
-        return sorted(found.items())
+    def _named_by(self, it: Declaration) -> Iterator[Declaration]:
+        """Yields what a declaration names. An item of a `use` line counts if a part of it stands in
+        the text."""
+        yield from self.citations.named_by(it)
+        heads = {part for word in it.words() for part in (word, *word.split("."), *word.split("◌"))}
+        for local, path in it.file.scope.items():
+            if path.startswith("Rattle.") and {local, *local.split("◌")} & heads:
+                yield from self._meant(path)
 
-    def of(self, crate: str, below: Iterable[str]) -> list[tuple[str, str]]:
-        """Returns all on which the proofs of a crate rest, file by file."""
-        under = sorted(below)
-        stated = [it for name in under for it in self.statements(name)]
-        return [*self.own(crate), *stated, *self.reached(crate, under)]
+    def reached(self, crate: str, paths: Iterable[str], below: set[str]) -> list[Text]:
+        """Returns the definitions and lemmas of crates below that the crate's files name or that
+        these paths lead to, and what those name."""
+        own = [it for it in self.citations.declarations() if it.file.crate == crate]
+        waiting = [*own, *(found for it in paths for found in self._meant(it))]
+        seen: set[Declaration] = set()
+        while waiting:
+            it = waiting.pop()
+            if it not in seen and it.file.crate in below | {crate}:
+                seen.add(it)
+                waiting += self._named_by(it)
+        return sorted(
+            (f"{it.file.crate}.{it.file.part}.{it.file.name}.{it.name}", _text_of(it))
+            for it in seen
+            if it.file.crate != crate
+        )
+
+    def of(self, crate: str, below: Iterable[str]) -> list[Text]:
+        """Returns all on which the proofs of a crate rest, in parts with their names."""
+        own, crates = self.own(crate), sorted(below)
+        code = "\n".join(text for path, text in own if path.endswith(".rt"))
+        named = {*re.findall(WORD, code)}
+        stated: list[Text] = []
+        paths = [path for _, path in _brought(_GHOST_USE.findall(code), ".")]
+        for path, source in (it for name in crates for it in self.sources(name)):
+            text, more = statements_of(source, named)
+            stated.append((path, text))
+            paths += more
+        return [*own, *stated, *self.reached(crate, paths, {*crates})]
+
+
+def _text_of(it: Declaration) -> str:
+    """Returns the text of a declaration and of the heads of its sections, without comments."""
+    lines = [*(section.head for section in it.sections), *it.lines]
+    return "\n".join(line for line in lines if not line.lstrip().startswith("--"))

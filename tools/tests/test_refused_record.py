@@ -11,7 +11,7 @@ from false_kit import FalseCrate
 from fixture import RepositoryTest
 from house.refused_record import NAME, Record, Sums, drawn
 
-LOW = """ghost use Rattle.low.specs.Lib.{one};
+LOW = """ghost use Rattle.low.specs.One.{one};
 ghost use Rattle.low.specs.Inner.{held};
 
 /// Returns the first number.
@@ -34,15 +34,15 @@ pub const LAST: u8 = 2;
 FILES = {
     "crates.txt": "# crates\nlow: memchr\nhigh: low\n",
     "crates/low/src/lib.rt": LOW,
-    "crates/low/specs/Lib.antt": "use Rattle.low.specs.Deep.{two}\none : ℕ\none = two\n",
+    "crates/low/specs/One.antt": "use Rattle.low.specs.Deep.{two}\none : ℕ\none = two\n",
     "crates/low/specs/Deep.antt": "two : ℕ\n",
     "crates/low/specs/Inner.antt": "held : ℕ\n",
     "crates/low/proofs/Lemma.antt": "one_is_two : ⊤\n",
     "crates/low/proofs/Own.antt": "held_is_two : ⊤\n",
-    "crates/high/src/lib.rt": "pub fn two() {}\n",
+    "crates/high/src/lib.rt": "pub fn two() -> u8 {\n    low::first()\n}\n",
     "crates/high/src/inner/deep.rt": "fn three() {}\n",
     "crates/high/specs/Two.antt": "two : ℕ\n",
-    "crates/high/proofs/Lib.antt": "use Rattle.low.proofs.Lemma.{one_is_two}\n",
+    "crates/high/proofs/Lib.antt": "use Rattle.low.proofs.Lemma.{one_is_two}\n\nagain : ⊤\nagain = one_is_two\n",
     "crates/high/wrong_bodies.toml": "[two_is_lost]\n",
 }
 
@@ -91,15 +91,14 @@ class RecordTest(RepositoryTest):
             ("crates/low/src/lib.rt", "result ≡ one", "result ≡ LAST"),
             ("crates/low/src/lib.rt", "pub fn first() -> u8", "pub fn first() -> u16"),
             ("crates/low/src/lib.rt", "u8 = 2", "u8 = 3"),
-            ("crates/low/src/lib.rt", "fn second() -> u8", "pub fn second() -> u8"),
-            ("crates/low/src/lib.rt", "specs.Lib.{one}", "specs.Deep.{two as one}"),
-            ("crates/low/specs/Lib.antt", "= two", "= 2"),
+            ("crates/low/src/lib.rt", "specs.One.{one}", "specs.Deep.{two as one}"),
+            ("crates/low/specs/One.antt", "= two", "= 2"),
             ("crates/low/specs/Deep.antt", "two : ℕ", "two : ℤ"),
             ("crates/low/proofs/Lemma.antt", "⊤", "⊥"),
-            ("crates/high/src/lib.rt", "{}", "{ two() }"),
+            ("crates/high/src/lib.rt", "low::first()", "low::first() + 1"),
             ("crates/high/src/inner/deep.rt", "three", "four"),
             ("crates/high/specs/Two.antt", "two", "three"),
-            ("crates/high/proofs/Lib.antt", "one_is_two", "one_is_one"),
+            ("crates/high/proofs/Lib.antt", "again = one_is_two", "again = tt"),
         ):
             with self.subTest(path, old=old):
                 self.assertFalse(self.is_kept_with(path, old, new))
@@ -107,6 +106,7 @@ class RecordTest(RepositoryTest):
     def test_stays_after_a_change_on_which_no_proof_rests(self) -> None:
         for path, old, new in (
             ("crates/low/src/lib.rt", "    second()", "    1"),
+            ("crates/low/src/lib.rt", "\nfn second()", "\npub fn second()"),
             ("crates/low/src/lib.rt", "/// Returns the first number.\n", ""),
             ("crates/low/src/lib.rt", "    // It is asked for by `second`.\n", "\n\n"),
             ("crates/low/src/lib.rt", "result ≡ held", "result ≡ 1"),
