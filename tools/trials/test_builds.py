@@ -76,6 +76,15 @@ def test_a_proof_is_kept(short: ShortTrial) -> None:
     assert short.run_trial() == Said([*CHECKS, *PROVED], 0, "10 passed, 0 failed\n", STEPS)
 
 
+def test_other_libraries(short: ShortTrial) -> None:
+    """After the rows what else was proved here is proved, with what it stands on."""
+    short.keep()
+    (short.top / "crates/gregorio_c/out/incremental").mkdir(parents=True)
+    ran = short.run_trial()
+    assert ran.calls == [*CHECKS, *PROVED, "lib middle", "check gregorio_c"]
+    assert (ran.out, ran.status) == ("12 passed, 0 failed\n", 0)
+
+
 def test_jobs(short: ShortTrial) -> None:
     """As many jobs run side by side as are asked for, in each check."""
     short.keep()
