@@ -392,6 +392,25 @@ _TO_LEARN = ("/tutorial.html", "/cheatsheet.html")
 _LONG = b"name: a;\n%%\n(c4) " + b"Ky(f)ri(gfg)e(e.) " * 20_000
 
 
+# Computes an answer that nobody reads, and prints how the process ended that made it.
+_UNREAD = """
+import os, time
+from gregorio_chant.web.computing import _Computation
+computation = _Computation(lambda: time.sleep(0.2) or bytes(1_000_000))
+os.close(computation._source)
+computation._process.join()
+print(-computation._process.exitcode)
+"""
+
+
+class Unread(unittest.TestCase):
+    @unittest.skipUnless(sys.platform == "linux", "the server runs on Linux")
+    def test_says_nothing(self) -> None:
+        """A process whose answer is given up while it writes ends at once, with no traceback."""
+        ran = subprocess.run([sys.executable, "-c", _UNREAD], capture_output=True, timeout=60)
+        self.assertEqual((ran.stdout, ran.stderr), (b"%d\n" % signal.SIGPIPE, b""))
+
+
 class Words(InFolder):
     def test_refused(self) -> None:
         for words in (("--port", "x"), ("--port", "65536"), ("--port", "-1"), ("a.gabc",)):

@@ -3,9 +3,9 @@
 
 A line of the record stands for a batch of edits that were all refused: a checksum, how many edits
 the batch has, the name of the first, and the kits by which they were refused. The checksum is that
-of all sources on which the verdicts rest: the edits; source, specs and proofs of the crate and of
-each crate below it; the line of `crates.txt` of each. If one of these changes, or for another kit,
-the line says nothing, and the batch is tried again. A kit that a line names stays there: two
+of all on which the verdicts rest: the edits; what the proofs of the crate rest on (`resting`); the
+lines of `crates.txt` of the crate and of those below it. If one of these changes, or for another
+kit, the line says nothing, and the batch is tried again. A kit that a line names stays there: two
 machines with two kits keep one record.
 
 A record can be wrong: somebody may have written it by hand. So each run also tries one batch that
@@ -21,6 +21,7 @@ from typing import TypeVar
 from house.edits import Edit
 from house.files import crate_lines, files_below
 from house.kit import Crate
+from house.resting import Resting
 
 NAME = "wrong_bodies.lock"
 # The number of the way in which a verdict is found. Whoever changes what counts as refused gives it
@@ -64,22 +65,32 @@ class Sums:
         # The kit's name: the first word of its line.
         self.name = kit.split()[0]
         self._lines = crate_lines(root)
-        self._proved: dict[str, str] = {}
+        self._resting = Resting(root)
+        self._whole: dict[str, str] = {}
+        self._rested: dict[str, str] = {}
 
     def of_crate(self, crate: Crate) -> str:
-        """Returns the checksum of what proves the crate, without the crates below it."""
-        if crate.name not in self._proved:
+        """Returns the checksum of the sources of the crate, without the crates below it."""
+        if crate.name not in self._whole:
             files = sum_of_files(self.root, crate.folder, ("src", "specs", "proofs"))
             parts = [crate.name, self._lines.get(crate.name, ""), files]
-            self._proved[crate.name] = sum_of(parts)
-        return self._proved[crate.name]
+            self._whole[crate.name] = sum_of(parts)
+        return self._whole[crate.name]
+
+    def of_resting(self, crate: Crate) -> str:
+        """Returns the checksum of what the proofs of the crate rest on."""
+        if crate.name not in self._rested:
+            below = sorted(it.name for it in crate.below())
+            lines = [f"{it}:{self._lines.get(it, '')}" for it in [crate.name, *below]]
+            files = [part for file in self._resting.of(crate.name, below) for part in file]
+            self._rested[crate.name] = sum_of([*lines, *files])
+        return self._rested[crate.name]
 
     def of_batch(self, crate: Crate, batch: Sequence[Edit]) -> str:
         """Returns the checksum of all on which the verdicts on a batch of edits of the crate
         rest."""
-        below = sorted(self.of_crate(it) for it in crate.below())
         edits = sorted(repr((it.key, it.file, it.within, it.by, it.pairs)) for it in batch)
-        return sum_of([str(WAY), self.of_crate(crate), *below, *edits])
+        return sum_of([str(WAY), self.of_resting(crate), *edits])
 
     def of_tree(self, crates: Iterable[Crate]) -> str:
         """Returns the checksum of these crates with their edits."""

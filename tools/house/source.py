@@ -23,9 +23,18 @@ _FUNCTION = re.compile(rf"\bfn\s+({WORD})")
 _BEFORE_FUNCTION = re.compile(r"\s*(pub(\([^)]*\))?\s+)?(const\s+|unsafe\s+|extern\s+\S*\s+)*")
 
 
+def _blank(text: str) -> str:
+    return re.sub(r"[^\n]", " ", text)
+
+
 def blanked(text: str) -> str:
     """Returns the text with comments, strings and characters blanked out, at the same places."""
-    return _NO_CODE.sub(lambda it: re.sub(r"[^\n]", " ", it[0]), text)
+    return _NO_CODE.sub(lambda it: _blank(it[0]), text)
+
+
+def uncommented(text: str) -> str:
+    """Returns the text with comments blanked out, at the same places."""
+    return _NO_CODE.sub(lambda it: _blank(it[0]) if it[0].startswith("/") else it[0], text)
 
 
 def closing(text: str, at: int) -> int:
@@ -77,9 +86,10 @@ class Function:
         self.is_public = False
         self.clauses: list[tuple[str, str, str]] = []
         self.doc = source.doc_before(at)
-        end, head = self._read_clauses(at)
+        # The places of its `fn`, and of its body or the `;` in its place.
+        self.begin, (self.end, head) = at, self._read_clauses(at)
         self.signature = re.sub(r"\s+", " ", source.text[at:head]).strip()
-        self.text = source.text[at:end].rstrip()
+        self.text = source.text[at : self.end].rstrip()
 
     def _read_clauses(self, at: int) -> tuple[int, int]:
         """Reads the clauses, and returns the places at which these and the signature end."""

@@ -11,14 +11,38 @@ from false_kit import FalseCrate
 from fixture import RepositoryTest
 from house.refused_record import NAME, Record, Sums, drawn
 
+LOW = """ghost use Rattle.low.specs.Lib.{one};
+ghost use Rattle.low.specs.Inner.{held};
+
+/// Returns the first number.
+pub fn first() -> u8
+    ensures { result ≡ one }
+{
+    // It is asked for by `second`.
+    second()
+}
+
+fn second() -> u8
+    ensures { result ≡ held }
+{
+    1
+}
+
+/// The last number.
+pub const LAST: u8 = 2;
+"""
 FILES = {
     "crates.txt": "# crates\nlow: memchr\nhigh: low\n",
-    "crates/low/src/lib.rt": "pub fn one() {}\n",
-    "crates/low/specs/Lib.antt": "",
+    "crates/low/src/lib.rt": LOW,
+    "crates/low/specs/Lib.antt": "use Rattle.low.specs.Deep.{two}\none : ℕ\none = two\n",
+    "crates/low/specs/Deep.antt": "two : ℕ\n",
+    "crates/low/specs/Inner.antt": "held : ℕ\n",
+    "crates/low/proofs/Lemma.antt": "one_is_two : ⊤\n",
+    "crates/low/proofs/Own.antt": "held_is_two : ⊤\n",
     "crates/high/src/lib.rt": "pub fn two() {}\n",
     "crates/high/src/inner/deep.rt": "fn three() {}\n",
     "crates/high/specs/Two.antt": "two : ℕ\n",
-    "crates/high/proofs/Lib.antt": "",
+    "crates/high/proofs/Lib.antt": "use Rattle.low.proofs.Lemma.{one_is_two}\n",
     "crates/high/wrong_bodies.toml": "[two_is_lost]\n",
 }
 
@@ -53,20 +77,47 @@ class RecordTest(RepositoryTest):
         self.assertTrue(self.record().has(self.batch))
         self.assertFalse(self.record().has(self.batch[:1]))
 
-    def test_is_stale_after_any_change_below(self) -> None:
-        for path in (
-            "crates/low/src/lib.rt",
-            "crates/low/specs/Lib.antt",
-            "crates/high/src/inner/deep.rt",
-            "crates/high/specs/Two.antt",
-            "crates/high/proofs/Lib.antt",
+    def is_kept_with(self, path: str, old: str, new: str) -> bool:
+        """Returns whether the record still has the batch after a text in the place of another."""
+        self.keep(self.batch)
+        self.change(path, old, new)
+        found = self.record().has(self.batch)
+        self.put(path, FILES[path])
+        self.assertTrue(self.record().has(self.batch))
+        return found
+
+    def test_is_stale_after_a_change_of_what_proofs_rest_on(self) -> None:
+        for path, old, new in (
+            ("crates/low/src/lib.rt", "result ≡ one", "result ≡ LAST"),
+            ("crates/low/src/lib.rt", "pub fn first() -> u8", "pub fn first() -> u16"),
+            ("crates/low/src/lib.rt", "u8 = 2", "u8 = 3"),
+            ("crates/low/src/lib.rt", "fn second() -> u8", "pub fn second() -> u8"),
+            ("crates/low/src/lib.rt", "specs.Lib.{one}", "specs.Deep.{two as one}"),
+            ("crates/low/specs/Lib.antt", "= two", "= 2"),
+            ("crates/low/specs/Deep.antt", "two : ℕ", "two : ℤ"),
+            ("crates/low/proofs/Lemma.antt", "⊤", "⊥"),
+            ("crates/high/src/lib.rt", "{}", "{ two() }"),
+            ("crates/high/src/inner/deep.rt", "three", "four"),
+            ("crates/high/specs/Two.antt", "two", "three"),
+            ("crates/high/proofs/Lib.antt", "one_is_two", "one_is_one"),
         ):
-            with self.subTest(path):
-                self.keep(self.batch)
-                self.put(path, FILES[path] + "\n")
-                self.assertFalse(self.record().has(self.batch))
-                self.put(path, FILES[path])
-                self.assertTrue(self.record().has(self.batch))
+            with self.subTest(path, old=old):
+                self.assertFalse(self.is_kept_with(path, old, new))
+
+    def test_stays_after_a_change_on_which_no_proof_rests(self) -> None:
+        for path, old, new in (
+            ("crates/low/src/lib.rt", "    second()", "    1"),
+            ("crates/low/src/lib.rt", "/// Returns the first number.\n", ""),
+            ("crates/low/src/lib.rt", "    // It is asked for by `second`.\n", "\n\n"),
+            ("crates/low/src/lib.rt", "result ≡ held", "result ≡ 1"),
+            ("crates/low/src/lib.rt", "fn second() -> u8", "#[inline(always)]\nfn third() -> u8"),
+            ("crates/low/specs/Inner.antt", "ℕ", "ℤ"),
+            ("crates/low/proofs/Own.antt", "⊤", "⊥"),
+            ("crates/high/src/lib.rt", "pub fn", "// Another comment.\npub fn"),
+            ("crates/high/specs/Two.antt", "two", "-- another comment\ntwo"),
+        ):
+            with self.subTest(path, old=old):
+                self.assertTrue(self.is_kept_with(path, old, new))
 
     def test_is_stale_after_a_new_file_or_a_moved_one(self) -> None:
         self.keep(self.batch)

