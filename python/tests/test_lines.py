@@ -84,8 +84,8 @@ class Breaks(unittest.TestCase):
                     self.assertNotEqual(letters, "/")
 
     def test_custos(self) -> None:
-        """At a row's end stands the custos of the next row's first note, and the clef in force
-        stands before it."""
+        """At a row's end stands the custos of the next note, and at its beginning the clef in
+        force."""
         rows = rows_of("name: x;\n%%\n(c4) a(f) b(g) (z) c(j) (z-) d(e) (f3) e(f) (Z+) g(g)\n")
         signs = [[it for it in signs_of(row.signs) if it.name] for row in rows]
         self.assertEqual(
@@ -96,6 +96,12 @@ class Breaks(unittest.TestCase):
             [[it.name for it in row if it.name.endswith("clef")] for row in signs],
             [[], ["c-clef"], ["c-clef"], ["f-clef"]],
         )
+
+    def test_custos_over_a_row(self) -> None:
+        """The next note need not stand in the next row."""
+        rows = rows_of("name: x;\n%%\n(c4) a(f) (z) b() (z) c(g)\n")
+        signs = [[it.name for it in signs_of(row.signs)] for row in rows]
+        self.assertEqual([row.count("custos-up") for row in signs], [1, 1, 0])
 
     def test_spans(self) -> None:
         """What is in `<nlba>` stays in one row, where there is room."""

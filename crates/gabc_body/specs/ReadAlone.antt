@@ -32,8 +32,8 @@ pub record IsReadAsOne (lines macros : ℕ) (t : List ℕ) : Type 0 where
   pub none_earlier : (n : ℕ) → n < length t → (read_first lines macros no_spans t n).made ≡ []
   pub one : (read_first lines macros no_spans t (length t)).made ≡ syllable ∷ []
 
--- Where these spans are open, the text is this one syllable, whole with the last character and not
--- before, and no more than so many bytes are kept on the way. What is found are warnings.
+-- If `spans` are open before it, the text is the one syllable `m`, whole with its last character
+-- and not before. No front of it keeps more than `limit` bytes. What is found are warnings.
 pub record IsReadAsSyllable (lines macros : ℕ) (t : List ℕ) (spans : Spans) (limit : ℕ) (m : UnplacedSyllable) : Type 0 where
   pub none_earlier : (n : ℕ) → n < length t → (read_first lines macros spans t n).made ≡ []
   pub one : (read_first lines macros spans t (length t)).made ≡ m ∷ []

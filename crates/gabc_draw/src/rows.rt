@@ -210,7 +210,7 @@ impl<'a> Rows<'a> {
     }
 
     /// Adds a row with these `parts`, which ends as `span` says. `following` is the pitch of the
-    /// first note in the next row; `is_last` says whether there is none.
+    /// next note after it; `is_last` says whether no row follows.
     fn add(
         &mut self,
         alloc: Global,
@@ -267,12 +267,10 @@ pub(crate) fn rows_of<'a>(
     for (at, span) in spans.iter().enumerate() {
         let end = span.end.min(parts.len());
         if begin <= end {
-            let next = spans.get(at.saturating_add(1));
-            let following = next
-                .and_then(|next| parts.get(end..next.end))
-                .and_then(|parts| first_pitch(parts));
+            let following = parts.get(end..).and_then(|parts| first_pitch(parts));
+            let is_last = at.saturating_add(1) == spans.len();
             let row = &parts[begin..end];
-            rows.add(alloc, row, *span, following, next.is_none(), staff)?;
+            rows.add(alloc, row, *span, following, is_last, staff)?;
             begin = end;
         }
     }

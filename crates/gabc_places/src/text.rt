@@ -72,7 +72,7 @@ impl Text {
         ensures { OnOk result (self.new ≡ self.old ++ filter is_shown (chars line.now)) }
     {
         let mut rest = line;
-        while let Some((shown, after)) = rest.split_once('\u{FEFF}') {
+        while let Some((shown, after)) = rest.split_once("\u{FEFF}") {
             self.push_str(shown)?;
             rest = after;
         }

@@ -1,7 +1,7 @@
 //! How a text is cut into tokens as its characters come.
 
-ghost use Rattle.std.specs.Prelude.{◌≡◌};
-ghost use Rattle.gabc_text.specs.machine.TokenState.{settled_kind, wanted_char, step_in_raw, step_at_tag_end, first_step, next_step, kind_at_end, is_plain};
+ghost use Rattle.std.specs.Prelude.{◌≡◌, IsTrue};
+ghost use Rattle.gabc_text.specs.machine.TokenState.{settled_kind, wanted_char, step_in_raw, step_at_tag_end, first_step, next_step, kind_at_end, is_plain, IsLetterBetween};
 ghost use Rattle.gabc_text.specs.machine.RawPart.{is_unmatched};
 
 use crate::tag_name::TagPrefix;
@@ -140,6 +140,17 @@ pub(crate) fn first_step(c: char) -> Step
         '<' => Step::Stays(TokenState::Tag(TagPrefix::new())),
         '[' => Step::Stays(TokenState::Translation),
         _ => ends(single(c)),
+    }
+}
+
+/// Returns true only for a character of ASCII that is a letter of the text between tokens: a
+/// letter, a digit or most marks. There it is a token by itself, and it is kept.
+pub(crate) fn is_plain_letter(c: char) -> bool
+    ensures { IsTrue result → IsLetterBetween c }
+{
+    match c {
+        '*'..=';' | '?'..='Z' | 'a'..='z' => true,
+        _ => false,
     }
 }
 

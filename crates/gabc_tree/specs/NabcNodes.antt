@@ -95,8 +95,8 @@ piece_node base at t =
 
 -- ---- the pieces of a descriptor
 
--- The nodes of the pieces of a text from that byte on, if so many bytes are to come of the piece
--- before. A `!` between pieces belongs to none.
+-- The nodes of the pieces of a text that begins at byte `at`. Its first `skip` bytes belong to the
+-- piece before. A `!` between pieces belongs to none.
 abbrev pub pieces_from : ℕ → ℕ → ℕ → List ℕ → List Node
 pieces_from base skip at [] = []
 pieces_from base zero at (c ∷ t) =

@@ -121,8 +121,8 @@ past_shown s c =
 abbrev pub past : Reached → ℕ → Reached
 past s c = record (cond (is_silent s c) s (past_shown s (read_as c))) { previous = c; byte = s.byte + len_utf8 c }
 
--- before an input, whose headers have so many characters, of whose body these are kept, and in
--- which these were found
+-- before an input: its headers have `heads` characters, the kept text of its body is `kept`, and
+-- `findings` are its findings
 abbrev pub begun : ℕ → List ℕ → List Finding → Reached
 begun heads kept findings = record { previous = 0; byte = 0; place = start; heads = heads; comment = heads == 0; kept = kept; findings = from_here start findings }
 

@@ -74,6 +74,7 @@ fn append(
     ensures same_nodes { OnErr result (nodes.new.items ≡ nodes.old.items) }
     ensures same_kept { OnErr result (string_bytes kept.new ≡ string_bytes kept.old) }
 {
+    // The proof reads off this call that the kept text is UTF-8.
     let _ = kept.as_str();
     let len = nodes.len();
     nodes.extend_from_slice(made)?;

@@ -1,7 +1,7 @@
 //! The nodes of a syllable in its kept text.
 
 ghost use Rattle.std.specs.Prelude.{◌≡◌, ◌<◌, ◌^◌, ◌++◌, ◌∷◌, [], length, OnOk};
-ghost use Rattle.gabc_body.specs.Syllable.{placed_of, text_at as text_of_span};
+ghost use Rattle.gabc_body.specs.Syllable.{placed_of};
 ghost use Rattle.gabc_tree.specs.SyllableNodes.{position_number as number_of_position, flags_of as flags, text_len as len_of_text, force_at, force_past_notes, force_past_syllable, force_past, inside_nodes, syllable_node, force_after, snippet_nodes as nodes_of_snippet, notes_nodes, syllable_nodes as nodes_of_syllable, around};
 ghost use Rattle.gabc_tree.specs.machine.SyllableSlices.{Shows, placed_by};
 
@@ -10,7 +10,7 @@ use crate::nabc_nodes::nabc_nodes;
 use crate::note_nodes::gabc_nodes;
 use crate::placing::offset;
 use crate::text_nodes::text_nodes;
-use gabc_body::{Position, Snippet, Spans, Syllable};
+use gabc_body::{Position, Snippet, Spans, Syllable, text_at};
 use gabc_neumes::Alterations;
 use gabc_nodes::{Kind, Node};
 use gabc_places::Span;
@@ -47,17 +47,6 @@ impl<'a> SyllableSlices<'a> {
             word_start: syllable.text.word_start,
         }
     }
-}
-
-/// Returns the text of `span` in `kept`. A span that does not begin and end between characters of
-/// `kept` has none.
-fn text_at(kept: &str, span: Span) -> &str
-    ensures { result.now ≡ text_of_span span kept.now }
-{
-    if span.from > span.to || !kept.is_char_boundary(span.from) || !kept.is_char_boundary(span.to) {
-        return "";
-    }
-    &kept[span.from..span.to]
 }
 
 /// Returns the number of `position`: 0 of a whole word, 1 of a word's beginning, 2 of its middle, 3

@@ -1,5 +1,5 @@
 -- A text is cut into tokens as its characters come.
-use Rattle.std.specs.Prelude.{ℕ, ◌+◌, [], ◌∷◌, ◌++◌, Bool, true, false, cond, ◌||◌, ◌==◌, nat_lt, Option, Some, None}
+use Rattle.std.specs.Prelude.{◌≡◌, ℕ, ◌+◌, [], ◌∷◌, ◌++◌, Bool, true, false, cond, ◌||◌, ◌==◌, nat_lt, Option, Some, None}
 use Rattle.gabc_text.specs.declared.token.TokenKind.{TokenKind}
 use Rattle.gabc_text.specs.declared.token.TokenKind.TheVariants as kind
 use Rattle.gabc_text.specs.declared.token.TagEffect.{TagEffect}
@@ -73,3 +73,11 @@ keep facts _ c = Some c
 abbrev pub is_plain : TokenState → Bool
 is_plain Plain = true
 is_plain _ = false
+
+-- between tokens, the character is a token by itself, a letter
+pub record IsLetterBetween (c : ℕ) : Type 0 where
+  pub is_letter : single c ≡ kind.Letter
+  pub is_whole : first_step c ≡ Ends kind.Letter Other
+  pub begins_no_notes : (c == 40) ≡ false
+  pub begins_no_comment : (c == 37) ≡ false
+  pub begins_no_translation : (c == 91) ≡ false
