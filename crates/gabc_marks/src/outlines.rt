@@ -2,11 +2,11 @@
 
 use crate::head::Metrics;
 
-/// How many outlines there are.
+/// The number of outlines.
 const COUNT: usize = 501;
 
-/// The outlines in the order of their numbers: the number of each, how wide it is, and how far it
-/// goes up and down.
+/// The outlines in the order of their numbers: the number of each, its width, and its reach up and
+/// down.
 #[rattlefmt::skip]
 static OUTLINES: [(u16, u16, u16, u16); COUNT] = [
     (512, 526, 890, 307), (513, 526, 754, 402), (516, 733, 833, 268), (517, 263, 754, 268),
