@@ -1,4 +1,4 @@
--- What stands on a desk.
+-- The notes and syllables that a desk shows.
 use Rattle.std.specs.Prelude.{List, [], ◌∷◌, ◌++◌, cond}
 use Rattle.std.specs.List.{flat_map}
 use Rattle.gabc_marks.specs.Heads.{Bytes, Shown, Syllable, notes_of, pitches_of_heads}
@@ -9,7 +9,7 @@ use Rattle.gabc_pen.specs.Notes.{pitches_of_notes}
 abbrev pub bytes_of_group : Group → Bytes
 bytes_of_group g = record { begin = g.begin; end = g.end }
 
--- as the part that becomes of it
+-- what a group shows: the same as the part that is made of it
 abbrev pub shown_by_group : Group → List Shown
 shown_by_group g =
     cond g.is_first (Syllable (bytes_of_group g) ∷ []) []
