@@ -1,4 +1,4 @@
--- What private calls make of an engine, for the steps of a run in pieces.
+-- The results of private calls on an engine, for the steps of a run in pieces.
 use Rattle.std.specs.Prelude.{◌≡◌, ◌≢◌, ℕ, ◌≤◌, ◌⊎◌, List, [], ◌++◌, Option}
 use Rattle.gabc_places.specs.declared.code.Fault.{Fault}
 use Rattle.gabc_places.specs.declared.limits.Limits.{Limits}
