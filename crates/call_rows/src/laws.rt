@@ -1,5 +1,5 @@
-//! Laws, each called once: at a type of kinds, and where a law takes arguments, at those that a
-//! caller has.
+//! Calls laws, each once: at a type of kinds, and if a law takes arguments, at those that a caller
+//! has.
 
 use gabc_headers::{HeadEvent, HeaderStage};
 use gabc_nabc::NabcStage;
@@ -118,7 +118,7 @@ fn empty_headers_stop(alloc: Global) -> Result<bool, AllocError> {
     Ok(out.slice() == [HeadEvent::Stop(fault)].as_slice())
 }
 
-/// Returns whether fresh stages of notes and of NABC give one event of an empty snippet.
+/// Returns whether fresh stages of notes and of NABC emit one event of an empty snippet.
 fn snippets_end(alloc: Global) -> Result<bool, AllocError> {
     let mut out = Room::with_limit(alloc, 3)?;
     gabc_notes::laws::a_fresh_stage_emits(false, 0, Vec::new(alloc), &mut out);

@@ -1,5 +1,6 @@
 //! Makes the calls of the crates below `gregorio` by rows of a call, its input and its answer,
-//! which were worked by hand, and calls laws. Prints the rows that differ, and how many agree.
+//! which were worked by hand, and calls laws. Prints the rows that differ, and the number of those
+//! that agree.
 #![tactic(auto)]
 
 mod body;
@@ -45,7 +46,7 @@ const FILES: [(&str, Table); 11] = [
     ("fields.tsv", Table::Fields),
 ];
 
-/// Returns whether the row on this line of a file agrees. Reports what it answers if it does not.
+/// Returns whether the row on this line of a file agrees. Prints its answer if it does not.
 fn agrees(
     rt: &HostRuntime,
     path: &str,
