@@ -51,7 +51,7 @@ notes_nodes force kept (s ∷ snippets) = snippet_nodes force kept s ++ notes_no
 
 -- ---- the syllable
 
--- how many bytes of its kept text its text has: those before its `(`, or all
+-- the number of bytes of its text in its kept text: those before its `(`, or all
 abbrev pub text_len : List ℕ → List Snippet → ℕ
 text_len kept [] = length kept
 text_len kept (s ∷ snippets) = cond (nat_lt 0 s.span.from && nat_lt s.span.from (length kept)) (s.span.from - 1) (length kept)
