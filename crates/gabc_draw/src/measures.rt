@@ -63,7 +63,7 @@ pub(crate) struct Measures<'a> {
     pub(crate) begins_with_clef: bool,
     pub(crate) end: Option<LineEnd>,
     pub(crate) has_bar: bool,
-    /// Whether the last thing in it is a custos, or wants none after it.
+    /// Whether the last block in it is a custos, or an attribute asks for no custos after it.
     pub(crate) wants_no_custos: bool,
     /// The right end of its texts over the staff.
     pub(crate) above: Option<Distance>,
