@@ -73,7 +73,7 @@ fn call_notes() {
     gabc_nabc::laws::kept_again();
 }
 
-/// Calls the laws of texts, of scores and of what is written.
+/// Calls the laws of texts, of scores and of writers.
 fn call_scores() {
     gabc_text::laws::view_again();
     gabc_score::laws::given_syllables_are_within_the_limits();

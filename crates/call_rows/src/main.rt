@@ -66,7 +66,7 @@ fn agrees(
 }
 
 /// Looks at the rows of a file after its first line, which is its head, but for those that begin
-/// with `#`. Reports how many agree.
+/// with `#`. Prints how many agree.
 fn check_file(rt: &HostRuntime, path: &str, table: Table) -> io::Result<()> {
     let text = fs::read_to_string(rt, path)?;
     let mut count = 0u32;

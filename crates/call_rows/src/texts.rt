@@ -139,7 +139,7 @@ fn answer_kept_chars(alloc: Global, input: &str, out: &mut Printed) -> Result<()
     Ok(())
 }
 
-/// Prints the place of what is open, or that nothing is.
+/// Prints the place of the opener, or that there is none.
 fn show_opener(stage: &TextStage, out: &mut Printed) {
     match stage.opener() {
         Some(place) => out.show(&place),
@@ -147,9 +147,9 @@ fn show_opener(stage: &TextStage, out: &mut Printed) {
     }
 }
 
-/// Prints where a stage whose text begins at `first` reports that it stands after its first
-/// character, and once it has gone to `second`: where what is open began, the place of the next
-/// character, and whether a comment is open.
+/// Prints the place of the opener that a stage whose text begins at `first` reports after its first
+/// character; then, once it is moved to `second`, the same again, the place of the next character,
+/// and whether a comment is open.
 fn answer_report(
     alloc: Global,
     first: Place,

@@ -28,8 +28,8 @@ fn put_staff(staff: Staff, indent: Distance, signs: &mut Vec<Sign<'_>>) -> Resul
     Ok(())
 }
 
-/// Returns whether the last of `parts` with notes, a clef, a bar or the like wants no custos after
-/// it.
+/// Returns whether the last of `parts` with notes, a clef, a bar or the like asks for no custos
+/// after it.
 fn wants_no_custos(parts: &[Measures<'_>]) -> bool {
     for part in parts.iter().rev() {
         if part.notes.is_some() {

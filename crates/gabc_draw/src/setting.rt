@@ -156,8 +156,8 @@ fn hyphen<'a>(x: Distance) -> Sign<'a> {
     })
 }
 
-/// Adds a hyphen between the texts of one word, if these do not touch, and after a word that goes
-/// on in the next row.
+/// Adds a hyphen between the texts of one word, if these do not touch, and after a word that
+/// continues in the next row.
 pub(crate) fn put_hyphens<'a>(
     parts: &[Measures<'a>],
     places: &[Distance],

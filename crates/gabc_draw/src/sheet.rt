@@ -57,8 +57,9 @@ pub(crate) struct Sheet<'a> {
 }
 
 impl<'a> Sheet<'a> {
-    /// Returns an empty sheet for the score `input`, with staves of `lines` lines, of which a part
-    /// may take `room`, with NABC in these `hands`, and with the `marks` of its syllables.
+    /// Returns an empty sheet for the score `input` in this `language`, with staves of `lines`
+    /// lines, NABC in these `hands`, and the `marks` of its syllables. A part may take `room` of
+    /// the width of a row.
     pub(crate) fn new(
         alloc: Global,
         input: &'a str,

@@ -1,7 +1,7 @@
 //! Finds the first vowel of a syllable, by the language of a score (GregorioRef, "Vowel
 //! Detection").
 
-/// A language, as far as its vowels go. One that is not known has those of Latin.
+/// A language, by its vowels. One that is not known has those of Latin.
 #[derive(Clone, Copy, Debug, PartialEq, Eq)]
 pub enum Language {
     Latin,

@@ -265,7 +265,7 @@ impl<'a> Lettering<'a> {
         Ok(end)
     }
 
-    /// Adds what is left of the characters that are being read, up to the byte `end`.
+    /// Adds the rest of the characters that are being read, up to the byte `end`.
     fn add_open(&mut self, end: u32) -> Result<(), AllocError> {
         let Some(open) = self.open else {
             return Ok(());

@@ -173,7 +173,7 @@ static OUTLINES: [(u16, u16, u16, u16); COUNT] = [
     (59080, 2987, 383, 1832), (59088, 2930, 383, 1832), (59096, 2930, 383, 1838),
 ];
 
-/// Returns how wide the outline with this number is, and how far it goes, if there is one.
+/// Returns the width and the reach of the outline with this number, if there is one.
 pub(crate) fn outline_of(key: u16) -> Option<Metrics> {
     let at = OUTLINES.binary_search_by_key(&key, |row| row.0).ok()?;
     let (_, width, up, down) = *OUTLINES.get(at)?;

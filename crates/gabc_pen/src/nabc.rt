@@ -217,8 +217,8 @@ impl<'a> Nabc<'a> {
         Ok(width)
     }
 
-    /// Adds `node`, a descriptor, a part of one or a space: what is drawn goes into `signs`, with
-    /// its reach in `rows`.
+    /// Adds `node`, a descriptor, a part of one or a space. A descriptor that is ended by it is
+    /// drawn into `signs`, with its reach in `rows`.
     pub fn add(
         &mut self,
         node: Node,

@@ -126,8 +126,8 @@ impl Shape {
     }
 }
 
-/// Returns how often a note with the shape of this number sounds: 2 for a bivirga or a distropha, 3
-/// for a trivirga or a tristropha.
+/// Returns the number of times that a note with the shape of this number sounds: 2 for a bivirga or
+/// a distropha, 3 for a trivirga or a tristropha.
 fn times_of(shape: u16) -> u8
     ensures { result ≡ times_of_shape shape }
 {

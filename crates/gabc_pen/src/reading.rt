@@ -25,7 +25,7 @@ fn factor_of(text: &str) -> Distance {
 }
 
 /// Returns a decimal number in thousandths: its whole part is bounded by 99,999, and digits after
-/// the third one behind the point are dropped. Returns nothing if `number` is no decimal number.
+/// the third one of its fraction are dropped. Returns nothing if `number` is no decimal number.
 pub fn thousandths_of(number: &str) -> Option<i32> {
     let (sign, digits) = match number.strip_prefix('-') {
         Some(digits) => (-1, digits),

@@ -8,6 +8,6 @@ use Rattle.gabc_svg.specs.Escape.{escaped}
 abbrev pub is_data : ℕ → Bool
 is_data b = not (nat_lt b 32 || b == 60 || b == 62 || b == 34)
 
--- whatever a text is, it stays where it is put once it is escaped
+-- whatever a text is, once escaped it has only such bytes, and so cannot leave its place
 abbrev pub EscapedStays : Type 0
 EscapedStays = (text : List ℕ) → list_all is_data (escaped text) ≡ true

@@ -46,7 +46,7 @@ is_snippet k = number_of k == number_of Snippet
 abbrev pub is_between : Node → Bool
 is_between n = is_snippet n.kind && nat_lt 0 n.begin
 
--- the last kept byte before which nothing of the node stands
+-- the last kept byte before which no byte of the node comes
 abbrev pub first_of : Node → ℕ
 first_of n = cond (is_between n) (n.begin - 1) n.begin
 

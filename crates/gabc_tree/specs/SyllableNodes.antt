@@ -37,7 +37,7 @@ items_nodes force kept s = cond (s.line == 0) (gabc_nodes (offset s.span.from) f
 abbrev pub snippet_nodes : InForce → List ℕ → Snippet → List Node
 snippet_nodes force kept s = around (snippet_node s) (items_nodes force kept s)
 
--- what is in force after a snippet
+-- the alterations and the clef in force after a snippet
 abbrev pub force_past : InForce → List ℕ → Snippet → InForce
 force_past force kept s = cond (s.line == 0) (passed force (steps_of (text_at s.span kept))) force
 

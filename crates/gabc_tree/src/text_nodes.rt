@@ -224,7 +224,7 @@ fn is_piece(kind: TokenKind, effect: TagEffect) -> bool
     }
 }
 
-/// Returns whether a piece is among the tokens that `ahead` gives.
+/// Returns whether a piece is among the tokens `ahead`.
 fn has_piece(ahead: TokenReader<'_>) -> bool
     ensures { result ≡ has_piece ahead.entry }
 {
@@ -317,8 +317,8 @@ fn add(last: &mut Option<Node>, node: Option<Node>, out: &mut Vec<Node>) -> Resu
     Ok(())
 }
 
-/// Adds the nodes of a syllable's text to `out` (GregorioRef, "Syllable Text Syntax"). What is kept
-/// of the text is `kept`, or `kept` up to the `(` where a token would begin. The nodes count its
+/// Adds the nodes of a syllable's text to `out` (GregorioRef, "Syllable Text Syntax"). The kept
+/// text is `kept`, or `kept` up to the first `(` at which a token would begin. The nodes count its
 /// bytes.
 pub(crate) fn text_nodes(kept: &str, out: &mut Vec<Node>) -> Result<(), AllocError>
     requires { length kept.now < 2 ^ 32 }

@@ -1,4 +1,4 @@
--- What a run in pieces puts in all, and why it may fail.
+-- The bytes that a run in pieces puts in all, and the reasons why it may fail.
 use Rattle.std.specs.Prelude.{◌≡◌, ◌⊎◌, ℕ, List}
 use Rattle.gregorio_jobs.specs.Status.{code_of}
 use Rattle.gregorio.specs.Streams.{Streams}

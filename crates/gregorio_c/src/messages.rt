@@ -89,8 +89,8 @@ fn put_at(buf: &mut [Message], at: usize, message: Message) -> usize
 }
 
 /// Writes the messages of what `score` found into `buf` from `at` on, as many as there is room for:
-/// warnings only if `all_warnings` are wanted, and last the message of its fault. Returns the
-/// number of its messages, or the last value of a `usize` if it has as many or more.
+/// warnings only if `all_warnings`, and last the message of its fault. Returns the number of its
+/// messages, or the last value of a `usize` if it has as many or more.
 fn fill(all_warnings: bool, score: &Score, buf: &mut [Message], at: usize) -> usize
     ensures buf { buf.new ≡ filled buf.old at (messages_by all_warnings score.now) }
     ensures count { result ≡ min (length (messages_by all_warnings score.now)) (2 ^ 64 - 1) }
@@ -111,8 +111,8 @@ fn fill(all_warnings: bool, score: &Score, buf: &mut [Message], at: usize) -> us
 }
 
 /// Puts the messages of `score` into `messages`, if there is room for all, and their number into
-/// `count`: warnings only if `all_warnings` are wanted. Returns the exit status. It fails only if
-/// memory runs out, or if there are more messages than can be counted, and writes nothing then.
+/// `count`: warnings only if `all_warnings`. Returns the exit status. It fails only if memory runs
+/// out, or if there are more messages than can be counted, and writes nothing then.
 pub(crate) fn tell_messages(
     alloc: Global,
     all_warnings: bool,

@@ -27,7 +27,7 @@ fn width_of(width: u32) -> Distance {
 }
 
 /// Returns the messages of `score`, which is read as `read`, as marks: those of errors and faults,
-/// and if they are wanted those of `warnings`. It fails only if memory runs out.
+/// and if `warnings` those of warnings. It fails only if memory runs out.
 fn marks_of(
     alloc: Global,
     score: &[u8],

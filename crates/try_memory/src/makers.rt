@@ -92,7 +92,7 @@ fn owners(alloc: Global) -> Result<u64, AllocError> {
     list_in(owner)
 }
 
-/// Makes a sink, and returns a digest of what it holds.
+/// Makes a sink, and returns a digest of the bytes that it holds.
 fn sink(alloc: Global) -> Result<u64, AllocError> {
     Ok(digest_of(&TrialSink::new(alloc, 1, 8)?.held()))
 }

@@ -29,7 +29,8 @@ struct Sinks {
 }
 
 impl Sinks {
-    /// Returns sinks that take `most` bytes a call, and fail after what they hold.
+    /// Returns sinks that take `most` bytes a call, and fail after the bytes that they hold by
+    /// `holding`.
     fn new(alloc: Global, most: usize, holding: Holding) -> Result<Sinks, AllocError>
         requires { 0 < most }
     {

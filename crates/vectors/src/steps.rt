@@ -90,8 +90,8 @@ fn takes_steps(engine: &mut Engine, trial: Trial) -> bool {
     !waits(engine) && engine.feed(rest) == rest.len() && !waits(engine)
 }
 
-/// Returns whether a fresh engine that is filled from the whole input goes on up to the byte that
-/// stops the run, with all that it writes waiting, and then takes what is left.
+/// Returns whether a fresh engine that is filled from the whole input continues up to the byte that
+/// stops the run, with all that it writes waiting, and then takes the rest.
 fn is_filled(engine: &mut Engine, trial: Trial) -> bool {
     let bytes = trial.known.asked.bytes;
     let count = engine.fill(bytes);
@@ -185,7 +185,7 @@ fn steps_of(alloc: Global, column: &str) -> Result<Vec<Step>, AllocError> {
 }
 
 /// Returns whether the run on this line of a file is made as its row says; the row has the steps
-/// behind the status.
+/// after the status.
 pub(crate) fn has_steps(alloc: Global, line: &str) -> Result<bool, AllocError> {
     let steps = steps_of(alloc, column(line, 7))?;
     let Some(row) = row_of(alloc, line)? else {

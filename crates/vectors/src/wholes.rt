@@ -85,7 +85,7 @@ pub(crate) fn output_of(
 }
 
 /// Returns the messages of a run with this `outcome`, which call the input `name`: warnings only if
-/// `all_warnings` are wanted.
+/// `all_warnings`.
 pub(crate) fn messages_of(
     alloc: Global,
     name: &str,

@@ -18,8 +18,8 @@ shown_by_group g =
 abbrev pub shown_by_groups : List Group → List Shown
 shown_by_groups groups = flat_map shown_by_group groups
 
--- what the groups that are ended show, and the one that is begun, and what it will show of the
--- notes of the neume that is being read
+-- the notes and syllables shown by the groups that are ended, by the one that is begun, and by the
+-- notes of the neume that is being read, which it will show
 abbrev pub shown_on : List Group → Group → List Note → List Shown
 shown_on groups group pending =
     shown_by_groups groups
