@@ -119,7 +119,7 @@ impl<'a> Sheet<'a> {
         self.row = 0;
     }
 
-    /// Begins a block where the last one ends.
+    /// Begins a block after the last one and the space after that.
     pub(crate) fn begin_block(&mut self) {
         self.left = self.next_x();
         self.pen.x = self.left;

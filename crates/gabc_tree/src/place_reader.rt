@@ -83,8 +83,8 @@ impl<'a> Walk<'a> {
     }
 }
 
-/// Finds the bytes at which places of an input are. It continues from the place that it found last,
-/// so that places in order are found in one pass over the input.
+/// A reader of the bytes at which places of an input are. It continues from the place that it found
+/// last, so that places in order are found in one pass over the input.
 #[derive(Debug, Drop)]
 pub struct PlaceReader<'a> {
     text: &'a str,

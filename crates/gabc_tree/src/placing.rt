@@ -72,8 +72,8 @@ fn before(out: &[Node], n: usize) -> (usize, usize)
     (count, bytes)
 }
 
-/// Moves nodes to their places in an input, one after the other, with those of what is not kept
-/// between them.
+/// A list of nodes that are moved to their places in an input, one after the other, with those of
+/// what is not kept between them.
 #[derive(Drop)]
 pub(crate) struct Placing<'a> {
     nodes: Vec<Node>,
