@@ -202,8 +202,8 @@ fn count_by(
     Ok(agreed)
 }
 
-/// The limits of the runs: the default ones, and small ones with headers of at most 300 bytes and
-/// syllables of at most 200.
+/// The limits of the runs: the default ones, and small ones, with which at most 300 bytes may wait
+/// before a step.
 const LIMITS: [(u32, u32, u32); 2] = [(65_536, 16_384, 4_294_967_295), (300, 200, 100_000)];
 
 /// Returns the number of such runs that agree in this `format` under these `limits`.
