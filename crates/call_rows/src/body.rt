@@ -8,7 +8,7 @@ use gabc_places::{Char, Limits, Place, Room, Stage};
 use gabc_score::{BorrowedSyllable, Openers, ScoreEvent, ScoreStage, canon_lent};
 use std::alloc::{AllocError, Global};
 
-/// Prints a syllable that a stage lends.
+/// Prints a borrowed syllable: the event, the kept text and the position.
 fn show_syllable(stage: &ScoreStage, lent: BorrowedSyllable, out: &mut Printed) {
     let syllable = stage.syllable(lent);
     out.show_debug(&lent);
@@ -18,7 +18,7 @@ fn show_syllable(stage: &ScoreStage, lent: BorrowedSyllable, out: &mut Printed) 
     out.show_debug(&syllable.position);
 }
 
-/// Prints what was given with one input, each on a line.
+/// Prints the events that were emitted with one input, each on a line.
 fn show_given(stage: &ScoreStage, events: &[ScoreEvent], out: &mut Printed) {
     for event in events {
         match *event {
@@ -31,7 +31,7 @@ fn show_given(stage: &ScoreStage, events: &[ScoreEvent], out: &mut Printed) {
     }
 }
 
-/// Prints the byte from which on a lent syllable is what is kept, and its canonical text.
+/// Prints `kept_from` of each borrowed syllable, and its canonical text.
 fn show_lent(
     alloc: Global,
     stage: &ScoreStage,
@@ -52,18 +52,18 @@ fn show_lent(
     Ok(())
 }
 
-/// How what a stage gives is printed.
+/// The way in which the events of a stage are printed.
 #[derive(Clone, Copy, PartialEq, Eq)]
 enum Shown {
     /// Not at all.
     Nothing,
     /// The events, on lines of which the first begins with `|`.
     Events,
-    /// The syllables that are lent, with their canonical texts.
+    /// The borrowed syllables, with their canonical texts.
     Lent,
 }
 
-/// Pushes one input, and prints what is given.
+/// Pushes one input, and prints the events.
 fn push(
     alloc: Global,
     stage: &mut ScoreStage,
@@ -84,7 +84,7 @@ fn push(
     }
 }
 
-/// Pushes headers, and then a text whose first character stands at `place`; prints what is given.
+/// Pushes headers, and then a text from the place 2:1 on, and prints the events.
 fn push_body(
     alloc: Global,
     stage: &mut ScoreStage,
@@ -101,7 +101,7 @@ fn push_body(
     push_text(alloc, stage, text, Place { line: 2, column: 1 }, shown, out)
 }
 
-/// Pushes the characters of a text, of which the first stands at `place`; prints what is given.
+/// Pushes the characters of a text, of which the first is at `place`, and prints the events.
 fn push_text(
     alloc: Global,
     stage: &mut ScoreStage,
@@ -117,7 +117,7 @@ fn push_text(
     Ok(())
 }
 
-/// Ends the inputs of a stage, and prints what is given.
+/// Ends the inputs of a stage, and prints the events.
 fn finish(alloc: Global, stage: &mut ScoreStage, out: &mut Printed) -> Result<(), AllocError> {
     let mut room = Room::with_limit(alloc, 16)?;
     stage.finish(&mut room);
@@ -125,7 +125,7 @@ fn finish(alloc: Global, stage: &mut ScoreStage, out: &mut Printed) -> Result<()
     Ok(())
 }
 
-/// Prints the kept text of the syllable that is held, if there is one.
+/// Prints the kept text of the held syllable, if there is one.
 fn show_held(stage: &ScoreStage, out: &mut Printed) {
     if let Some(held) = stage.held() {
         out.put(" ");
@@ -133,7 +133,7 @@ fn show_held(stage: &ScoreStage, out: &mut Printed) {
     }
 }
 
-/// Prints the places of what is open, and whether a comment is.
+/// Prints the places of the openers, and whether a comment is open.
 fn show_open(stage: &ScoreStage, out: &mut Printed) {
     if let Some(openers) = stage.openers() {
         out.put(" ");
@@ -146,9 +146,9 @@ fn show_open(stage: &ScoreStage, out: &mut Printed) {
     }
 }
 
-/// Prints where a stage reports that it stands: what stands before the syllable that is held, the
-/// kept texts of this one and of the one that is read, the places of what is open, and whether a
-/// comment is.
+/// Prints what a stage reports: the counts and the open spans before the held syllable, or before
+/// the one that is being read if none is held; the kept texts of both; the places of the openers;
+/// and whether a comment is open.
 fn show_report(stage: &ScoreStage, out: &mut Printed) {
     match stage.before() {
         Some(before) => {
@@ -175,7 +175,8 @@ fn show_next(stage: &ScoreStage, out: &mut Printed) {
     }
 }
 
-/// Prints what a fresh stage gives of a text, whose source has not failed if it is `whole`.
+/// Prints the events that a fresh stage emits of a text, whose source has not failed if it is
+/// `whole`.
 fn answer_given(
     alloc: Global,
     stage: &mut ScoreStage,
@@ -190,7 +191,7 @@ fn answer_given(
     finish(alloc, stage, out)
 }
 
-/// Prints the syllables that a fresh stage lends of a text, with their canonical texts.
+/// Prints the syllables that a fresh stage emits of a text, with their canonical texts.
 fn answer_lent(
     alloc: Global,
     stage: &mut ScoreStage,
@@ -201,7 +202,7 @@ fn answer_lent(
     push(alloc, stage, HeadEvent::End, Shown::Lent, out)
 }
 
-/// Prints what a fresh stage reports, and what it does after its end.
+/// Prints what a fresh stage reports before and after its end, and the events of its end.
 fn answer_ended(
     alloc: Global,
     stage: &mut ScoreStage,
@@ -214,7 +215,7 @@ fn answer_ended(
     Ok(())
 }
 
-/// Prints the next place of a fresh stage, and of one that goes to `at` after a text.
+/// Prints the next place of a fresh stage, and the one after a text once it is moved to `at`.
 fn answer_moved(
     alloc: Global,
     stage: &mut ScoreStage,
@@ -230,10 +231,10 @@ fn answer_moved(
     Ok(())
 }
 
-/// What stages read that have to go on alike.
+/// A text that stages read which have to go on alike.
 const REST: &str = "\n</i>]|ta)c<b";
 
-/// Prints what a stage reports, where it stands, and what it gives from then on.
+/// Prints what a stage reports, its next place, and the events that it emits of `REST` and the end.
 fn show_rest(alloc: Global, stage: &mut ScoreStage, out: &mut Printed) -> Result<(), AllocError> {
     show_report(stage, out);
     show_next(stage, out);
@@ -242,7 +243,7 @@ fn show_rest(alloc: Global, stage: &mut ScoreStage, out: &mut Printed) -> Result
     push(alloc, stage, HeadEvent::End, Shown::Events, out)
 }
 
-/// Makes `again` read what `one` reports of the syllable that it reads. Returns whether it does.
+/// Has `again` read the kept text that `one` reports of its syllable, and returns whether it does.
 fn reads_again(one: &ScoreStage, again: &mut ScoreStage) -> bool {
     let (Some(openers), Some(next)) = (one.openers(), one.next()) else {
         return false;
@@ -250,11 +251,11 @@ fn reads_again(one: &ScoreStage, again: &mut ScoreStage) -> bool {
     again.read_again(one.reading(), openers, one.in_comment() == Some(true), next)
 }
 
-/// What a stage has read that reads a kept text again.
+/// The text that a stage has read before it reads a kept text again.
 const BEFORE: &str = "\na(f)";
 
-/// Prints whether a stage that reads again what another one reports after a text reports the same
-/// and goes on alike.
+/// Prints whether `again`, which reads the kept text that `one` reports after `text`, reports the
+/// same and goes on alike.
 fn answer_again(
     alloc: Global,
     one: &mut ScoreStage,
@@ -273,7 +274,7 @@ fn answer_again(
     Ok(())
 }
 
-/// Prints whether a stage reads a text again, and whether it then reports anything.
+/// Prints whether a stage reads a text again, and what it then reports.
 fn answer_kept(
     alloc: Global,
     stage: &mut ScoreStage,

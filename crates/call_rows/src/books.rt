@@ -1,9 +1,9 @@
-//! How headers are printed in the answers of rows.
+//! Prints headers in the answers of rows.
 
 use crate::printed::Printed;
 use gabc_headers::{HeaderBook, Headers};
 
-/// The digits of which a row asks whether they have macros: some have none.
+/// The digits for whose macros a row asks: 10 and 11 are none.
 const DIGITS: [u8; 12] = [0, 1, 2, 3, 4, 5, 6, 7, 8, 9, 10, 11];
 
 /// Prints a digit with a blank before it, if its macro is defined.
@@ -14,7 +14,8 @@ fn show_digit(digit: u8, is_macro: bool, out: &mut Printed) {
     }
 }
 
-/// Prints the number of NABC lines, the macros as a number, and the bytes of the canonical lines.
+/// Prints the number of NABC lines, the macros as a number, and the number of bytes of the
+/// canonical lines.
 fn show_numbers(lines: u8, macros: u16, canonical: usize, out: &mut Printed) {
     out.show(&lines);
     out.tab();
@@ -24,7 +25,7 @@ fn show_numbers(lines: u8, macros: u16, canonical: usize, out: &mut Printed) {
     out.put("\tmacros");
 }
 
-/// Prints what a book says, and its headers.
+/// Prints the meaning of a book, and its headers.
 pub(crate) fn show_book(book: &HeaderBook, out: &mut Printed) {
     show_numbers(book.nabc_lines(), book.macros(), book.canonical_len(), out);
     for digit in DIGITS {
@@ -34,7 +35,7 @@ pub(crate) fn show_book(book: &HeaderBook, out: &mut Printed) {
     out.show_debug(book);
 }
 
-/// Prints what headers say.
+/// Prints the meaning of headers.
 pub(crate) fn show_headers(headers: &Headers, out: &mut Printed) {
     show_numbers(
         headers.nabc_lines(),
@@ -67,7 +68,7 @@ pub(crate) fn show_entries(book: &HeaderBook, out: &mut Printed) {
     }
 }
 
-/// Prints a header, and what stands behind it.
+/// Prints a header, and `end` after it.
 pub(crate) fn show_entry(name: &str, value: &str, end: &str, out: &mut Printed) {
     out.put(name);
     out.put("=");

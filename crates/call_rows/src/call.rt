@@ -1,5 +1,5 @@
-//! A row of a table: a call, its input and its answer, split by tabs. Words after the call say how
-//! it is made, and the answer may have several columns.
+//! A row of a table: a call, its input and its answer, split by tabs. The call's name may have two
+//! words after it, and the answer may have several columns.
 
 use crate::columns::unescaped;
 use crate::printed::Printed;
@@ -60,8 +60,8 @@ fn call_of<'a>(column: &'a str, bytes: &'a [u8]) -> Call<'a> {
     }
 }
 
-/// Returns whether the call of a row of a table has the answer that the row says. Appends to
-/// `printed` what it answers.
+/// Returns whether the call of the row `line` of `table` has the answer of the row. Appends its
+/// answer to `printed`.
 pub(crate) fn is_answered(
     alloc: Global,
     table: Table,

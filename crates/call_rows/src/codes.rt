@@ -1,4 +1,4 @@
-//! Rows of codes, of what a message says of them, and of errors.
+//! Rows of codes, of their texts in messages, and of errors.
 
 use crate::call::Call;
 use crate::printed::Printed;
@@ -27,7 +27,7 @@ pub(crate) fn code_of(name: &str) -> Option<Code> {
     None
 }
 
-/// Prints a code by its name and by itself, and how grave it is.
+/// Prints a code by its name and by itself, and its severity.
 fn show_code(code: Code, out: &mut Printed) {
     out.put(code.name());
     out.put(" ");
@@ -38,7 +38,7 @@ fn show_code(code: Code, out: &mut Printed) {
     out.show_debug(&code.severity());
 }
 
-/// Prints what is found at a place, or the fault there.
+/// Prints the finding or the fault with the code `name` at `place`, as `call` asks.
 pub(crate) fn answer_at(call: &str, place: Place, name: &str, out: &mut Printed) {
     match (call, code_of(name)) {
         ("finding", Some(code)) => out.show(&Finding { place, code }),

@@ -2,7 +2,7 @@
 
 use std::alloc::{AllocError, Global};
 
-/// Where a reader of escapes stands.
+/// The state of a reader of escapes.
 #[derive(Clone, Copy)]
 enum Escape {
     None,
@@ -11,7 +11,7 @@ enum Escape {
     HexAfter(u8),
 }
 
-/// Returns the value of a hexadecimal digit.
+/// Returns the value of a hexadecimal digit, or 0.
 fn digit(byte: u8) -> u8 {
     match byte {
         b'0'..=b'9' => byte - b'0',

@@ -3,7 +3,7 @@
 use gabc_places::{Char, Place, Room, Stage, drive};
 use std::alloc::{AllocError, Global};
 
-/// Returns what `stage` emits of the characters of `text` and their end, by `drive`.
+/// Returns the events that `stage` emits of the characters of `text` and their end, by `drive`.
 pub(crate) fn driven<S: Stage<Input = Char>>(
     alloc: Global,
     stage: &mut S,

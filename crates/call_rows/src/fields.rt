@@ -7,7 +7,7 @@ use gregorio_jobs::Format;
 use gregorio_state::{Phase, ScoreFields, StateFields, TooShort, read};
 use std::alloc::{AllocError, Global};
 
-/// Prints what a state says of the score.
+/// Prints the fields of a state for the score.
 fn show_score(score: &ScoreFields, out: &mut Printed) {
     out.put("score\t");
     out.show(&score.canonical);
@@ -17,8 +17,8 @@ fn show_score(score: &ScoreFields, out: &mut Printed) {
     out.show_debug(&score.kept);
 }
 
-/// Prints what a state says: how many bytes were taken, the place of the next character, the
-/// format, what is so, and what is read.
+/// Prints the fields of a state: the number of bytes taken, the place of the next character, the
+/// format, the flags that are set, and the headers or the score.
 fn show_fields(fields: &StateFields, out: &mut Printed) {
     out.show(&fields.taken);
     out.tab();
@@ -37,7 +37,7 @@ fn show_fields(fields: &StateFields, out: &mut Printed) {
     }
 }
 
-/// Returns whether fields are written as `bytes`.
+/// Returns whether `fields` are written as `bytes`.
 fn are_written_as(alloc: Global, fields: &StateFields, bytes: &[u8]) -> Result<bool, AllocError> {
     let mut room = Room::with_limit(alloc, bytes.len())?;
     if !fields.is_possible() || fields.len() != bytes.len() {
@@ -56,8 +56,8 @@ fn buffer_of(alloc: Global, len: usize) -> Result<Vec<u8>, AllocError> {
     Ok(buffer)
 }
 
-/// Returns whether fields are saved as `bytes` into a buffer of bytes that are 7, of which there
-/// are four more, and leave the others; and nothing into one that has a byte less.
+/// Returns whether `fields` are saved as `bytes` into a buffer that is four bytes longer, whose
+/// other bytes stay as they were, and whether nothing is saved into one that is a byte shorter.
 fn are_saved_as(alloc: Global, fields: &StateFields, bytes: &[u8]) -> Result<bool, AllocError> {
     let len = bytes.len();
     let mut short = buffer_of(alloc, len.saturating_sub(1))?;
@@ -77,8 +77,8 @@ fn are_saved_as(alloc: Global, fields: &StateFields, bytes: &[u8]) -> Result<boo
     )
 }
 
-/// Prints the fields of a state, which have to be written again as they were; or that the bytes are
-/// no state.
+/// Prints the fields of a state, which have to be written and saved as `bytes` again; or that these
+/// are no state.
 fn answer_fields(alloc: Global, bytes: &[u8], out: &mut Printed) -> Result<(), AllocError> {
     let Some(fields) = read(bytes) else {
         out.put("no state");
@@ -91,7 +91,7 @@ fn answer_fields(alloc: Global, bytes: &[u8], out: &mut Printed) -> Result<(), A
     Ok(())
 }
 
-/// Prints how many prefixes of bytes are a state, but for the whole.
+/// Prints the number of prefixes of `bytes` that are a state, but for the whole.
 fn answer_prefixes(bytes: &[u8], out: &mut Printed) {
     let mut count = 0u32;
     for len in 0..bytes.len() {

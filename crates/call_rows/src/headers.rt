@@ -39,7 +39,7 @@ fn show_stop(stopped: &HeadFault, out: &mut Printed) {
     show_findings(stopped.findings.as_slice(), out);
 }
 
-/// Prints what a call asks of headers.
+/// Prints the answer of a call on headers.
 fn show_by(call: Call, heads: &Heads, out: &mut Printed) {
     match call.name {
         "headers" => show_heads(heads, out),
@@ -49,7 +49,7 @@ fn show_by(call: Call, heads: &Heads, out: &mut Printed) {
     }
 }
 
-/// Prints what a call asks of the headers of a text, or what stops them.
+/// Prints the answer of a call on the headers of a text, or what stops them.
 fn answer_whole(
     alloc: Global,
     call: Call,
@@ -92,7 +92,7 @@ fn show_event(event: HeadEvent, out: &mut Printed) {
     }
 }
 
-/// Prints what a fresh decoder and a fresh stage of headers give of bytes.
+/// Prints the events that a fresh decoder and a fresh stage of headers emit of bytes.
 fn answer_events(alloc: Global, bytes: &[u8], out: &mut Printed) -> Result<(), AllocError>
     requires { length bytes.now < 1000 }
 {
@@ -106,7 +106,7 @@ fn answer_events(alloc: Global, bytes: &[u8], out: &mut Printed) -> Result<(), A
     Ok(())
 }
 
-/// Pushes the characters of a text to a stage, and passes over what it gives.
+/// Pushes the characters of a text to a stage, and drops the events.
 fn push_all(stage: &mut HeaderStage, text: &str, room: &mut Room<HeadEvent>)
     requires { 2 ≤ room.old.limit }
     ensures { 2 ≤ room.new.limit }
@@ -128,7 +128,7 @@ fn show_lent(stage: &HeaderStage, out: &mut Printed) {
     out.put("|");
 }
 
-/// Prints what a call asks of a stage.
+/// Prints the answer of a call on a stage.
 fn show_of_stage(call: Call, stage: &HeaderStage, out: &mut Printed) {
     match call.name {
         "lent" => show_lent(stage, out),
@@ -139,11 +139,11 @@ fn show_of_stage(call: Call, stage: &HeaderStage, out: &mut Printed) {
     }
 }
 
-/// What a stage reads before it begins again.
+/// The text that a stage reads before it is restarted.
 const BEFORE: &str = "mode:1;\nmode:2;\n%%\n(f)";
 
-/// Prints what a call asks of a fresh stage that has read a text, and of one that has begun again
-/// before it, which has to be the same.
+/// Prints the answer of a call on a fresh stage that has read a text. The answer has to be the same
+/// once the stage was restarted and has read the text again.
 fn answer_stage(alloc: Global, call: Call, out: &mut Printed) -> Result<(), AllocError> {
     let mut room = Room::with_limit(alloc, 2)?;
     let mut stage = HeaderStage::with_limits(alloc, Limits::DEFAULT)?;

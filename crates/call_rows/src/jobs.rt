@@ -1,11 +1,11 @@
-//! Rows of what the words of a command line want, and of statuses.
+//! Rows of the plans of command lines, and of statuses.
 
 use crate::call::Call;
 use crate::printed::Printed;
 use gregorio_jobs::{Format, Input, Job, Name, Output, Plan, Refusal, Status, Words, plan};
 use std::alloc::{AllocError, Global};
 
-/// Prints the words before a name and the name, or other words if there is none.
+/// Prints `before` and the name, or `none` if there is no name.
 fn show_name(before: &str, name: Option<&Name>, none: &str, out: &mut Printed) {
     match name {
         Some(name) => {
@@ -51,7 +51,7 @@ fn show_refusal(refusal: Refusal, out: &mut Printed) {
     out.show(&refusal.code());
 }
 
-/// Returns the words of a text, which blanks split.
+/// Returns the arguments of a command line, split by blanks.
 fn words_of(alloc: Global, text: &str) -> Result<Words, AllocError> {
     let mut words = Words::new(alloc);
     for word in text.split(' ') {
@@ -62,7 +62,7 @@ fn words_of(alloc: Global, text: &str) -> Result<Words, AllocError> {
     Ok(words)
 }
 
-/// Prints what the words of a text want.
+/// Prints the plan of a command line.
 fn answer_plan(alloc: Global, text: &str, out: &mut Printed) -> Result<(), AllocError> {
     let planned = plan(alloc, &words_of(alloc, text)?);
     match &planned {

@@ -1,5 +1,5 @@
-//! Laws, each called once: at a type of kinds, and where a law takes arguments, at those that a
-//! caller has.
+//! Calls laws, each once: at a type of kinds, and if a law takes arguments, at those that a caller
+//! has.
 
 use gabc_headers::{HeadEvent, HeaderStage};
 use gabc_nabc::NabcStage;
@@ -73,7 +73,7 @@ fn call_notes() {
     gabc_nabc::laws::kept_again();
 }
 
-/// Calls the laws of texts, of scores and of what is written.
+/// Calls the laws of texts, of scores and of writers.
 fn call_scores() {
     gabc_text::laws::view_again();
     gabc_score::laws::given_syllables_are_within_the_limits();
@@ -118,7 +118,7 @@ fn empty_headers_stop(alloc: Global) -> Result<bool, AllocError> {
     Ok(out.slice() == [HeadEvent::Stop(fault)].as_slice())
 }
 
-/// Returns whether fresh stages of notes and of NABC give one event of an empty snippet.
+/// Returns whether fresh stages of notes and of NABC emit one event of an empty snippet.
 fn snippets_end(alloc: Global) -> Result<bool, AllocError> {
     let mut out = Room::with_limit(alloc, 3)?;
     gabc_notes::laws::a_fresh_stage_emits(false, 0, Vec::new(alloc), &mut out);

@@ -1,5 +1,6 @@
 //! Makes the calls of the crates below `gregorio` by rows of a call, its input and its answer,
-//! which were worked by hand, and calls laws. Prints the rows that differ, and how many agree.
+//! which were worked by hand, and calls laws. Prints the rows that differ, and the number of those
+//! that agree.
 #![tactic(auto)]
 
 mod body;
@@ -45,7 +46,7 @@ const FILES: [(&str, Table); 11] = [
     ("fields.tsv", Table::Fields),
 ];
 
-/// Returns whether the row on this line of a file agrees. Reports what it answers if it does not.
+/// Returns whether the row on this line of a file agrees. Prints its answer if it does not.
 fn agrees(
     rt: &HostRuntime,
     path: &str,
@@ -65,7 +66,7 @@ fn agrees(
 }
 
 /// Looks at the rows of a file after its first line, which is its head, but for those that begin
-/// with `#`. Reports how many agree.
+/// with `#`. Prints how many agree.
 fn check_file(rt: &HostRuntime, path: &str, table: Table) -> io::Result<()> {
     let text = fs::read_to_string(rt, path)?;
     let mut count = 0u32;

@@ -34,8 +34,8 @@ fn show_parts(kept: &str, parts: &[Descriptor], out: &mut Printed) {
     }
 }
 
-/// Prints the number of the parts and the parts, which both calls have to give; or that the text is
-/// no NABC.
+/// Prints the number of the parts and the parts, which both calls have to return alike; or that the
+/// text is no NABC.
 fn answer_descriptors(alloc: Global, input: &str, out: &mut Printed) -> Result<(), AllocError> {
     if !is_nabc(input) {
         out.put("no NABC");
@@ -85,8 +85,7 @@ fn answer_codes(
     Ok(())
 }
 
-/// Prints how many events a stage gives for a character at most, and those that it gives of the
-/// snippet.
+/// Prints the most events that a stage emits at once, and those that it emits of the snippet.
 fn answer_events(alloc: Global, input: &str, out: &mut Printed) -> Result<(), AllocError> {
     let mut stage = NabcStage::new();
     let events = outputs_of(alloc, &mut stage, input, Place::START)?;
@@ -99,7 +98,7 @@ fn answer_events(alloc: Global, input: &str, out: &mut Printed) -> Result<(), Al
     Ok(())
 }
 
-/// Prints a part that comes alone: a space, or the names of the codes of a descriptor.
+/// Prints one part: a space, or the names of the codes of a descriptor.
 fn show_part(kept: &str, part: Descriptor, out: &mut Printed) {
     if part.span.from > part.span.to || part.span.to > kept.len() {
         return out.refuse();
@@ -115,7 +114,7 @@ fn show_part(kept: &str, part: Descriptor, out: &mut Printed) {
     }
 }
 
-/// Prints the parts that a text begins with, which come one by one, with the names of their codes.
+/// Prints the parts with which a text begins, read one by one, with the names of their codes.
 fn answer_parts(kept: &str, out: &mut Printed) {
     out.put("parts");
     for part in parts_in(kept) {

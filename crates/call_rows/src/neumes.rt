@@ -96,7 +96,7 @@ fn show_segments(
     Ok(())
 }
 
-/// Prints the glyph that a text begins with: its kind, and how many notes it has; or `none`.
+/// Prints the glyph with which a text begins: its kind, and the number of its notes; or `none`.
 fn answer_ahead(kept: &str, out: &mut Printed) {
     let mut items = items_in(kept);
     let Some(item) = items.next() else {
@@ -115,7 +115,7 @@ fn answer_ahead(kept: &str, out: &mut Printed) {
     }
 }
 
-/// Prints of each item that a text begins with whether it may stand within an element, and whether
+/// Prints of each item with which a text begins whether it may be within an element, and whether
 /// within a segment.
 fn answer_standing(kept: &str, out: &mut Printed) {
     out.put("items");
@@ -127,7 +127,7 @@ fn answer_standing(kept: &str, out: &mut Printed) {
     }
 }
 
-/// Prints the words of the kind of notes, and that of the shape of each.
+/// Prints the words for the kind of notes, and that for the shape of each.
 fn show_words(notes: &[Note], out: &mut Printed) {
     if let Some(kind) = kind_of(notes) {
         out.put(word_of_base(kind.base));
@@ -140,7 +140,7 @@ fn show_words(notes: &[Note], out: &mut Printed) {
     }
 }
 
-/// Prints what a call asks of the notes among items.
+/// Prints the answer of a call on the notes among items.
 fn answer_notes(
     alloc: Global,
     call: &str,

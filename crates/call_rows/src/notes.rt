@@ -24,8 +24,8 @@ fn show_items(kept: &str, items: &[Item], out: &mut Printed) {
     }
 }
 
-/// Prints the number of the items and the items, which both calls have to give; or that the text is
-/// no snippet.
+/// Prints the number of the items and the items, which both calls have to return alike; or that the
+/// text is no snippet.
 fn answer_items(alloc: Global, input: &str, out: &mut Printed) -> Result<(), AllocError> {
     if !is_snippet(input) {
         out.put("no snippet");
@@ -88,7 +88,7 @@ fn answer_snippet(
     Ok(())
 }
 
-/// Prints how many events a stage gives for a character at most, and these events.
+/// Prints `most`, the most events that a stage emits at once, and these `events`.
 pub(crate) fn show_events(most: usize, events: &[NoteEvent], out: &mut Printed) {
     out.show(&most);
     for event in events {
@@ -97,8 +97,7 @@ pub(crate) fn show_events(most: usize, events: &[NoteEvent], out: &mut Printed) 
     }
 }
 
-/// Prints how many events a stage gives for a character at most, and those that it gives of the
-/// snippet.
+/// Prints the most events that a stage emits at once, and those that it emits of the snippet.
 fn answer_events(
     alloc: Global,
     split: bool,
@@ -117,7 +116,8 @@ fn answer_events(
     Ok(())
 }
 
-/// Prints the items that a text begins with, which come one by one, also looking ahead, and whole.
+/// Prints the items with which a text begins. Read one by one, ahead and whole they have to be the
+/// same.
 fn answer_items_in(alloc: Global, input: &str, out: &mut Printed) -> Result<(), AllocError> {
     let whole = items_whole(alloc, input)?;
     show_items(input, whole.as_slice(), out);

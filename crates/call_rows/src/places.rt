@@ -15,8 +15,8 @@ fn show_decoded(text: &str, fault: Option<Fault>, out: &mut Printed) {
     show_fault(fault, out);
 }
 
-/// Prints what a decoder gives of bytes that are fed one by one, and of their end if they have
-/// `ended`.
+/// Prints the text and the fault of a decoder that is fed `bytes` one by one, and their end if they
+/// have `ended`.
 fn show_by_decoder(
     alloc: Global,
     bytes: &[u8],
@@ -43,7 +43,7 @@ fn show_by_decoder(
     Ok(())
 }
 
-/// Returns the decoder that is made from what `decoder` reports.
+/// Returns the decoder that is restored from what `decoder` reports, if that can be.
 fn made_again(decoder: &Decoder, limits: Limits) -> Option<Decoder> {
     Decoder::resume(
         limits,
@@ -54,8 +54,8 @@ fn made_again(decoder: &Decoder, limits: Limits) -> Option<Decoder> {
     )
 }
 
-/// Returns whether a decoder that is made again after each byte, up to one that ends its text,
-/// gives the same as one that is not.
+/// Returns whether a decoder that is restored after each byte, up to one that ends its text,
+/// returns the same as one that is not.
 fn goes_on_alike(bytes: &[u8], limits: Limits) -> bool {
     let mut decoder = Decoder::new(limits);
     let mut other = Decoder::new(limits);
@@ -75,7 +75,7 @@ fn goes_on_alike(bytes: &[u8], limits: Limits) -> bool {
     decoder.end() == other.end()
 }
 
-/// Prints the text and the fault of bytes, which the call and decoders have to give.
+/// Prints the text and the fault of `bytes`, which the call and decoders have to return alike.
 fn answer_text(
     alloc: Global,
     bytes: &[u8],
@@ -93,13 +93,14 @@ fn answer_text(
     Ok(())
 }
 
-/// Prints whether a decoder is made that reports this place and these pending bytes after 5 bytes.
+/// Prints whether a decoder can be restored at this `place` with these `pending` bytes after 5
+/// bytes.
 fn answer_resumed(place: Place, pending: &[u8], after_cr: bool, out: &mut Printed) {
     let made = Decoder::resume(Limits::DEFAULT, 5, place, pending, after_cr);
     out.show_bool(made.is_some());
 }
 
-/// Prints a text and the place of its end, and that behind its first character.
+/// Prints a text and the place of its end, and that after its first character.
 fn answer_end(alloc: Global, text: &str, out: &mut Printed) -> Result<(), AllocError> {
     let text = if text.is_empty() {
         Text::new(alloc)
@@ -131,7 +132,7 @@ fn answer_byte(
     Ok(())
 }
 
-/// Prints the usual limits, in bytes.
+/// Prints the default limits, in bytes.
 fn show_usual(out: &mut Printed) {
     let usual = Limits::default();
     out.show(&usual.header);

@@ -3,7 +3,7 @@
 use std::alloc::Global;
 use std::fmt::{Debug, Display};
 
-/// The answer of a call as it is printed. If memory lacks or there is no such call, it is not
+/// The answer of a call as it is printed. If memory runs out or there is no such call, it is not
 /// whole, and equals nothing.
 #[derive(Drop)]
 pub(crate) struct Printed {
@@ -12,7 +12,7 @@ pub(crate) struct Printed {
 }
 
 impl Printed {
-    /// Returns an answer of which nothing is printed yet.
+    /// Returns an empty answer.
     pub(crate) fn new(alloc: Global) -> Self {
         Self {
             text: String::new(alloc),
@@ -26,7 +26,7 @@ impl Printed {
         self.is_whole = self.is_whole & put.is_ok();
     }
 
-    /// Appends a tab, behind which the next column stands.
+    /// Appends a tab, which begins the next column.
     pub(crate) fn tab(&mut self) {
         self.put("\t");
     }
@@ -48,13 +48,13 @@ impl Printed {
         self.is_whole = self.is_whole & shown.is_ok();
     }
 
-    /// Says that there is no such call: the answer equals nothing from then on.
+    /// Appends that there is no such call: the answer equals nothing from then on.
     pub(crate) fn refuse(&mut self) {
         self.put("no such call");
         self.is_whole = false;
     }
 
-    /// Returns what is printed so far.
+    /// Returns the text so far.
     pub(crate) fn text(&self) -> &str {
         self.text.as_str()
     }

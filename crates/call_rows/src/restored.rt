@@ -1,5 +1,5 @@
-//! Rows of stages of a text and of snippets that are cut before each character and restored, from
-//! the text that they kept and from what they report.
+//! Rows of stages of a text and of snippets that are cut before each character and at the end, and
+//! restored from the text that they kept and from what they report.
 
 use crate::call::Call;
 use crate::printed::Printed;
@@ -45,7 +45,8 @@ impl StageEvent for NoteEvent {
     }
 }
 
-/// Pushes `x`, and appends what is kept to `kept`. Returns whether the text goes on.
+/// Pushes `x`, and appends the characters that are kept to `kept`. Returns whether the text goes
+/// on.
 fn keep<S: Stage<Input = Char>>(
     alloc: Global,
     stage: &mut S,
@@ -67,7 +68,7 @@ where
     Ok(goes_on)
 }
 
-/// Returns the character `c` in this column.
+/// Returns the character `c` at this `column` of line 1.
 fn char_at(c: char, column: usize) -> Char {
     Char {
         c,
@@ -78,8 +79,8 @@ fn char_at(c: char, column: usize) -> Char {
     }
 }
 
-/// Pushes the first `cut` characters of `text`, and appends those that are kept. Returns whether
-/// the text goes on after them.
+/// Pushes the first `cut` characters of `text`, and appends those that are kept to `kept`. Returns
+/// whether the text goes on after them.
 fn keep_front<S: Stage<Input = Char>>(
     alloc: Global,
     stage: &mut S,
@@ -98,7 +99,7 @@ where
     Ok(true)
 }
 
-/// Pushes `x`, and prints what is emitted.
+/// Pushes `x`, and prints the events.
 fn emit<S: Stage<Input = Char>>(
     alloc: Global,
     stage: &mut S,
@@ -114,7 +115,7 @@ where
     Ok(())
 }
 
-/// Pushes the characters of `text` from the one at `cut` on, and ends them. Prints what is emitted.
+/// Pushes the characters of `text` from the one at `cut` on, and ends them. Prints the events.
 fn emit_rest<S: Stage<Input = Char>>(
     alloc: Global,
     stage: &mut S,
@@ -153,7 +154,7 @@ where
     Ok(printed.is(wanted.text().as_bytes()))
 }
 
-/// Pushes a kept text, each character at `place`, and a `%` if a comment is open.
+/// Pushes a kept text to `stage`, each character at `place`, and a `%` if a comment is open.
 fn set_down<S: Stage<Input = Char>>(
     alloc: Global,
     stage: &mut S,
@@ -174,8 +175,8 @@ where
     Ok(())
 }
 
-/// Returns whether a stage of a text that is cut there and restored emits the same of the rest, or
-/// the text has ended there.
+/// Returns whether a stage of a text that is cut at `cut` and restored emits the same of the rest;
+/// true if the text has ended there.
 fn text_goes_on(alloc: Global, text: &str, cut: usize) -> Result<bool, AllocError> {
     let mut kept = String::new(alloc);
     let mut stage = TextStage::new(Place { line: 3, column: 7 });
@@ -189,8 +190,8 @@ fn text_goes_on(alloc: Global, text: &str, cut: usize) -> Result<bool, AllocErro
     agree(alloc, &mut stage, &mut again, text, cut)
 }
 
-/// Makes a stage of a text read a kept text, each character at `place`, and a `%` if a comment is
-/// open.
+/// Pushes a kept text to a stage of a text, which is moved to `place` before each character, and a
+/// `%` if a comment is open.
 fn set_down_at(
     alloc: Global,
     stage: &mut TextStage,
@@ -209,7 +210,7 @@ fn set_down_at(
     Ok(())
 }
 
-/// Returns the same of a stage of notes.
+/// Returns the same for a stage of notes.
 fn notes_go_on(alloc: Global, text: &str, cut: usize) -> Result<bool, AllocError> {
     let mut kept = String::new(alloc);
     let mut stage = NoteStage::new(true, 2);
@@ -222,7 +223,7 @@ fn notes_go_on(alloc: Global, text: &str, cut: usize) -> Result<bool, AllocError
     agree(alloc, &mut stage, &mut again, text, cut)
 }
 
-/// Returns the same of a stage of NABC.
+/// Returns the same for a stage of NABC.
 fn nabc_goes_on(alloc: Global, text: &str, cut: usize) -> Result<bool, AllocError> {
     let mut kept = String::new(alloc);
     let mut stage = NabcStage::new();
@@ -240,7 +241,7 @@ fn nabc_goes_on(alloc: Global, text: &str, cut: usize) -> Result<bool, AllocErro
     agree(alloc, &mut stage, &mut again, text, cut)
 }
 
-/// Prints whether the stage of a call goes on alike wherever the text is cut, or the first cut at
+/// Prints that the stage of a call goes on alike wherever the text is cut, or the first cut at
 /// which it does not.
 pub(crate) fn answer(alloc: Global, call: Call, out: &mut Printed) -> Result<(), AllocError> {
     for cut in 0..=call.text.chars().count() {

@@ -21,7 +21,7 @@ fn put_twice<S: Put>(bytes: &[u8], out: &mut S)
     out.put(bytes);
 }
 
-/// Prints how many bytes have room yet, whether it is full, and the bytes.
+/// Prints the number of bytes for which there is room, whether the room is full, and its bytes.
 fn show_room(room: &Room<u8>, out: &mut Printed) {
     out.show(&room.left());
     out.put(if room.is_full() { " full " } else { " open " });
@@ -29,7 +29,7 @@ fn show_room(room: &Room<u8>, out: &mut Printed) {
 }
 
 /// Appends all bytes but the last one to a room, pushes this one, and clears the room; prints the
-/// room after each step. Where a room is too small nothing is added.
+/// room after each step. If a room is too small, nothing is added.
 fn answer_room(
     alloc: Global,
     limit: usize,

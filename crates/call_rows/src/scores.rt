@@ -7,8 +7,8 @@ use gabc_places::{Code, Fault, Limits, Memory, Place, Span, Stage, Text, outputs
 use gabc_score::{BodyEvent, BodyStage, InputEnding, Position, Score, Syllable, score_whole};
 use std::alloc::{AllocError, Global};
 
-/// Prints the fault, the findings, the number of syllables, and of each the bytes of its canonical
-/// text, position and kept text.
+/// Prints the fault, the findings, the number of syllables, and of each the number of bytes of its
+/// canonical text, its position and its kept text.
 fn show_score(score: &Score, out: &mut Printed) {
     show_fault(score.fault, out);
     out.put("\t");
@@ -82,7 +82,7 @@ fn show_text_at(score: &Score, span: Span, out: &mut Printed) {
     }
 }
 
-/// Prints what a call asks of a score.
+/// Prints the answer of a call on a score.
 fn show_by(call: &str, score: &Score, out: &mut Printed) {
     match call {
         "score" => show_score(score, out),
@@ -117,7 +117,7 @@ fn show_body_event(event: BodyEvent, out: &mut Printed) {
     }
 }
 
-/// Prints how many events a stage gives for a character at most, and these events.
+/// Prints `most`, the most events that a stage emits at once, and these `events`.
 fn show_events(most: usize, events: &[BodyEvent], out: &mut Printed) {
     out.show(&most);
     for event in events {
@@ -126,8 +126,7 @@ fn show_events(most: usize, events: &[BodyEvent], out: &mut Printed) {
     }
 }
 
-/// Prints how many events a stage gives for a character at most, and those that it gives of the
-/// body.
+/// Prints the most events that a stage emits at once, and those that it emits of the body.
 fn answer_body(alloc: Global, input: &str, out: &mut Printed) -> Result<(), AllocError> {
     let memory = Memory::with_capacity(alloc, 0)?;
     let mut stage = BodyStage::new(&memory, 0, 0)?;
@@ -136,7 +135,7 @@ fn answer_body(alloc: Global, input: &str, out: &mut Printed) -> Result<(), Allo
     Ok(())
 }
 
-/// Returns the code of the faults that rows hand in.
+/// Returns the code with this `name`, if it is one of the faults that rows hand in.
 fn fault_code(name: &str) -> Option<Code> {
     match name {
         "F1" => Some(Code::F1),
@@ -159,7 +158,7 @@ fn ending_of(column: &str) -> Option<InputEnding> {
     }))
 }
 
-/// Prints what a call asks of a score with these limits and this ending.
+/// Prints the answer of a call on a score with these limits and this ending.
 fn answer_score(
     alloc: Global,
     call: Call,

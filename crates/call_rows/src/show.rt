@@ -1,4 +1,4 @@
-//! How findings, faults, spans and events are printed in the answers of rows.
+//! Prints findings, faults, spans and events in the answers of rows.
 
 use crate::printed::Printed;
 use gabc_notes::{NoteEnd, NoteEvent, SnippetEnding};
@@ -89,7 +89,7 @@ pub(crate) fn show_token(token: TextToken, out: &mut Printed) {
     show_span(token.span, out);
 }
 
-/// Prints how a text ends.
+/// Prints the ending of a text.
 pub(crate) fn show_how(how: TextEnding, out: &mut Printed) {
     match how {
         TextEnding::Notes(index) => show_named("notes", &index, out),
@@ -98,7 +98,7 @@ pub(crate) fn show_how(how: TextEnding, out: &mut Printed) {
     }
 }
 
-/// Prints how a snippet ends.
+/// Prints the ending of a snippet.
 pub(crate) fn show_snippet_how(how: SnippetEnding, out: &mut Printed) {
     match how {
         SnippetEnding::Next(index) => show_named("next", &index, out),

@@ -5,30 +5,30 @@ use crate::printed::Printed;
 use crate::{body, fields, headers, jobs, nabc, neumes, notes, places, scores, texts, writes};
 use std::alloc::{AllocError, Global};
 
-/// A table of rows: whose calls it has.
+/// A table of rows, by the crate or the stage whose calls it has.
 #[derive(Clone, Copy)]
 pub(crate) enum Table {
-    /// Those of `gabc_places`.
+    /// Calls of `gabc_places`.
     Places,
-    /// Those of `gabc_headers`.
+    /// Calls of `gabc_headers`.
     Headers,
-    /// Those of `gabc_text`.
+    /// Calls of `gabc_text`.
     Texts,
-    /// Those of `gabc_notes`.
+    /// Calls of `gabc_notes`.
     Notes,
-    /// Those of `gabc_neumes`.
+    /// Calls of `gabc_neumes`.
     Neumes,
-    /// Those of `gabc_nabc`.
+    /// Calls of `gabc_nabc`.
     Nabc,
-    /// Those of `gabc_score` over whole scores.
+    /// Calls of `gabc_score` over whole scores.
     Scores,
-    /// Those of the stage over a score.
+    /// Calls of the stage over a score.
     Body,
-    /// Those of `gabc_write`.
+    /// Calls of `gabc_write`.
     Writes,
-    /// Those of `gregorio_jobs`.
+    /// Calls of `gregorio_jobs`.
     Jobs,
-    /// Those of `gregorio_state`.
+    /// Calls of `gregorio_state`.
     Fields,
 }
 

@@ -40,14 +40,14 @@ fn answer_text(alloc: Global, input: &str, out: &mut Printed) -> Result<(), Allo
     show_texts(alloc, &read.view, read.kept.as_str(), out)
 }
 
-/// Prints how a text ends, and the findings.
+/// Prints the ending of a text, and the findings.
 fn show_end(how: TextEnding, findings: &[Finding], out: &mut Printed) {
     show_how(how, out);
     out.put("\t");
     show_findings(findings, out);
 }
 
-/// Prints how the text ends, and the findings.
+/// Prints the ending of the text `input`, and the findings.
 fn answer_end(alloc: Global, input: &str, out: &mut Printed) -> Result<(), AllocError> {
     let read = text_whole(alloc, input, Place::START)?;
     show_end(read.how, read.findings.as_slice(), out);
@@ -92,7 +92,7 @@ fn answer_pieces(alloc: Global, input: &str, out: &mut Printed) -> Result<(), Al
     Ok(())
 }
 
-/// Prints the tokens of a text, which come one by one.
+/// Prints the tokens of a text, read one by one.
 fn answer_tokens(text: &str, out: &mut Printed) {
     for token in tokens_in(text) {
         if token.span.from > 0 {
@@ -102,7 +102,7 @@ fn answer_tokens(text: &str, out: &mut Printed) {
     }
 }
 
-/// Prints how many events a stage gives for a character at most, and these events.
+/// Prints `most`, the most events that a stage emits at once, and these `events`.
 fn show_events(most: usize, events: &[TextEvent], out: &mut Printed) {
     out.show(&most);
     for event in events {
@@ -111,8 +111,7 @@ fn show_events(most: usize, events: &[TextEvent], out: &mut Printed) {
     }
 }
 
-/// Prints how many events a stage gives for a character at most, and those that it gives of the
-/// text.
+/// Prints the most events that a stage emits at once, and those that it emits of the text.
 fn answer_events(alloc: Global, input: &str, out: &mut Printed) -> Result<(), AllocError> {
     let mut stage = TextStage::new(Place::START);
     let events = outputs_of(alloc, &mut stage, input, Place::START)?;
@@ -140,7 +139,7 @@ fn answer_kept_chars(alloc: Global, input: &str, out: &mut Printed) -> Result<()
     Ok(())
 }
 
-/// Prints the place of what is open, or that nothing is.
+/// Prints the place of the opener, or that there is none.
 fn show_opener(stage: &TextStage, out: &mut Printed) {
     match stage.opener() {
         Some(place) => out.show(&place),
@@ -148,9 +147,9 @@ fn show_opener(stage: &TextStage, out: &mut Printed) {
     }
 }
 
-/// Prints where a stage whose text begins at `first` reports that it stands after its first
-/// character, and once it has gone to `second`: where what is open began, the place of the next
-/// character, and whether a comment is open.
+/// Prints the place of the opener that a stage whose text begins at `first` reports after its first
+/// character; then, once it is moved to `second`, the same again, the place of the next character,
+/// and whether a comment is open.
 fn answer_report(
     alloc: Global,
     first: Place,

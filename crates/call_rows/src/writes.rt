@@ -1,4 +1,4 @@
-//! Rows of what the writers add.
+//! Rows of the texts of the writers.
 
 use crate::call::{Call, limits_of, place_of};
 use crate::codes::code_of;
@@ -14,7 +14,7 @@ use gabc_write::{
 };
 use std::alloc::{AllocError, Global};
 
-/// Prints the bytes of the line of a message, and the line.
+/// Prints the number of bytes of the line of a message, and the line.
 fn answer_message(
     alloc: Global,
     code: Code,
@@ -31,7 +31,7 @@ fn answer_message(
     Ok(())
 }
 
-/// Prints the bytes of the canonical headers of a book, and these.
+/// Prints the number of bytes of the canonical headers of a book, and these.
 fn show_header(alloc: Global, book: &HeaderBook, out: &mut Printed) -> Result<(), AllocError> {
     let len = book.canonical_len();
     if len == usize::MAX {
@@ -73,7 +73,7 @@ fn show_counted(len: usize, text: &[u8], out: &mut Printed) {
     show_bytes(text, out);
 }
 
-/// Prints the bytes of the canonical text of a syllable, and this text.
+/// Prints the number of bytes of the canonical text of a syllable, and this text.
 fn show_syllable(alloc: Global, syllable: &Syllable, out: &mut Printed) -> Result<(), AllocError> {
     let len = canon_len(syllable);
     if len == usize::MAX {
@@ -111,8 +111,8 @@ fn answer_syllables(
     show_syllables(alloc, score.syllables.as_slice(), out)
 }
 
-/// Prints the bytes of the lines of a syllable with this number in a dump, before which this is in
-/// force, and these lines.
+/// Prints the number of bytes of the lines of a syllable with this `number` in a dump, before which
+/// these `alterations` are in force, and the lines.
 fn show_lines(
     alloc: Global,
     number: u64,

@@ -8,7 +8,7 @@ ghost use Rattle.gabc_places.specs.StageLaw.{silence};
 use gabc_places::{Chain, Room, Stage, drive};
 use std::alloc::{AllocError, Global};
 
-/// Gives each byte twice, and 255 at the end.
+/// A stage that emits each byte twice, and 255 at the end.
 #[derive(Drop)]
 struct Twice {
     over: bool,
@@ -45,7 +45,7 @@ impl Stage for Twice {
     }
 }
 
-/// Passes on the bytes above a number.
+/// A stage that emits the bytes above a number.
 #[derive(Drop)]
 struct Above {
     number: u8,
@@ -104,14 +104,14 @@ fn inputs(alloc: Global) -> Result<Vec<u8>, AllocError>
     Ok(inputs)
 }
 
-/// Returns whether one stage gives what it has to.
+/// Returns whether one stage emits what it has to.
 fn one_is_driven(alloc: Global) -> Result<bool, AllocError> {
     let mut out = Room::with_limit(alloc, 8)?;
     drive(&mut make_twice(), inputs(alloc)?, &mut out);
     Ok(out.slice() == [7, 7, 8, 8, 9, 9, 255].as_slice())
 }
 
-/// Drives the chain of the two.
+/// Drives the chain of `first` and `second` over `inputs`.
 fn drive_both(first: Twice, second: Above, between: Room<u8>, inputs: Vec<u8>, out: &mut Room<u8>)
     requires between { 2 ≤ between.limit }
     requires out { Fits out.old (3 * (length inputs.items + 1)) }
@@ -119,7 +119,7 @@ fn drive_both(first: Twice, second: Above, between: Room<u8>, inputs: Vec<u8>, o
     drive(&mut Chain::new(first, second, between), inputs, out);
 }
 
-/// Returns whether a chain gives what it has to.
+/// Returns whether a chain emits what it has to.
 fn a_chain_is_driven(alloc: Global) -> Result<bool, AllocError> {
     let mut out = Room::with_limit(alloc, 12)?;
     let between = Room::with_limit(alloc, 2)?;
@@ -133,7 +133,7 @@ fn a_chain_is_driven(alloc: Global) -> Result<bool, AllocError> {
     Ok(out.slice() == [8, 8, 9, 9, 255].as_slice())
 }
 
-/// Returns whether a chain lends both its stages.
+/// Returns whether a chain lends both of its stages.
 fn both_are_lent(alloc: Global) -> Result<bool, AllocError> {
     let between = Room::with_limit(alloc, 2)?;
     let chain = Chain::new(make_twice(), make_above(7), between);

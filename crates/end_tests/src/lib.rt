@@ -1,9 +1,8 @@
-//! Tests of what no row can say: ends and stages that another crate makes. Stages, sources and
-//! sinks from outside; ends that count their calls, take little or fail; in which order a run calls
-//! its ends. Rows of calls are the data of the program `call_rows`, rows of runs those of
-//! `vectors`.
+//! Tests that no row can make, of stages, sources and sinks that another crate makes: ends that
+//! count their calls, take little or fail, and the order in which a run calls its ends. Rows of
+//! calls are the data of the program `call_rows`, rows of runs those of `vectors`.
 //!
-//! They stand in a crate of their own, since a crate with tests is proved twice.
+//! They are in a crate of their own, since a crate with tests is proved twice.
 #![tactic(auto)]
 
 #[cfg(test)]

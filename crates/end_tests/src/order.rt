@@ -1,4 +1,4 @@
-//! In which order a run calls its ends.
+//! The order in which a run calls its ends.
 
 ghost use Rattle.std.specs.Prelude.{None};
 
@@ -8,7 +8,7 @@ use std::alloc::AllocError;
 use std::cell::Cell;
 use std::io::{self, Read};
 
-/// Counts the bytes of the output.
+/// A sink that counts the bytes of the output.
 #[derive(Drop)]
 struct Counted<'a> {
     count: &'a Cell<usize>,
@@ -27,7 +27,7 @@ impl Sink for Counted<'_> {
     }
 }
 
-/// Keeps how many bytes of the output stood before each write of messages.
+/// A sink that keeps the number of bytes of the output before each write of messages.
 #[derive(Drop)]
 struct Noted<'a> {
     count: &'a Cell<usize>,
@@ -50,7 +50,7 @@ impl Sink for Noted<'_> {
     }
 }
 
-/// A job on standard input with all warnings.
+/// Returns a job on standard input with all warnings.
 fn job() -> Job {
     Job {
         format: Format::Gabc,
@@ -92,7 +92,7 @@ fn messages_come_after_their_output(rt: HostRuntime) -> Result<(), AllocError> {
     Ok(())
 }
 
-/// Gives three bytes a call, and counts its calls.
+/// A reader that returns three bytes a call, and counts its calls.
 #[derive(Drop)]
 struct Threes<'a> {
     rest: &'a [u8],

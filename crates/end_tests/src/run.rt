@@ -1,17 +1,17 @@
-//! Runs into sinks that fail, with what each sink has taken then, and a run on a file.
+//! Runs into sinks that fail, with the bytes that each sink has taken then, and a run on a file.
 
 use gabc_places::{Limits, TrialSink, TrialSource};
 use gregorio::{Format, Input, Job, Name, Output, Status, compile};
 use std::alloc::{AllocError, Global};
 
-/// How many bytes the sinks of the output and of the messages hold.
+/// The numbers of bytes that the sinks of the output and of the messages hold.
 #[derive(Clone, Copy)]
 struct Ends {
     out: usize,
     messages: usize,
 }
 
-/// What a run is to write and to answer.
+/// The texts that a run is to write, and its status.
 #[derive(Clone, Copy)]
 struct Wanted<'a> {
     out: &'a [u8],
@@ -19,7 +19,7 @@ struct Wanted<'a> {
     status: Status,
 }
 
-/// Returns a job that reads this and writes standard output.
+/// Returns a job that reads `input` and writes standard output.
 fn job_of(input: Input, all_warnings: bool) -> Job {
     Job {
         format: Format::Gabc,
@@ -30,8 +30,8 @@ fn job_of(input: Input, all_warnings: bool) -> Job {
     }
 }
 
-/// Whether a job writes and answers this, on bytes of which one read gives three, and on sinks that
-/// take one byte a write.
+/// Returns whether a job has the texts and the status of `wanted`, on `bytes` of which a read
+/// returns at most three, and on sinks that take one byte a write.
 fn is_run(
     alloc: Global,
     job: &Job,
@@ -57,8 +57,8 @@ fn is_run(
     )
 }
 
-/// Whether a job on the file `x.gabc` without warnings writes and answers this, as `is_run` has
-/// it.
+/// Returns whether a job on the file `x.gabc` without warnings has the texts and the status of
+/// `wanted`, as `is_run` does.
 fn runs_on_file(
     alloc: Global,
     bytes: &[u8],
@@ -84,7 +84,8 @@ fn keeps_warnings_back(rt: HostRuntime) -> Result<(), AllocError> {
     Ok(())
 }
 
-/// Whether a job on standard input writes and answers this, as `is_run` has it.
+/// Returns whether a job on standard input has the texts and the status of `wanted`, as `is_run`
+/// does.
 fn runs(
     alloc: Global,
     all_warnings: bool,
@@ -101,8 +102,8 @@ fn runs(
     )
 }
 
-/// Whether a run on two syllables with all warnings ends where a write fails: with these bytes of
-/// the output held, and these bytes of the only message.
+/// Returns whether a run on two syllables with all warnings ends when a write fails: with the bytes
+/// `out` of the output held, and the bytes `messages` of the only message.
 fn stops_at(alloc: Global, ends: Ends, out: &[u8], messages: &str) -> Result<bool, AllocError> {
     let wanted = Wanted {
         out,

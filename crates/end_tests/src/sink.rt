@@ -5,7 +5,7 @@ ghost use Rattle.std.specs.Prelude.{Some};
 use gabc_places::{GhostCalls, Sink, SinkFault, ToWriter, Unsent, send_all};
 use std::io::Write;
 
-/// Takes one byte a call, and fails once it has `limit`.
+/// A sink that takes one byte a call, and fails once it has `limit`.
 #[derive(Drop)]
 struct OneByOne {
     taken: Vec<u8>,

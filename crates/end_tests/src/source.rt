@@ -16,8 +16,8 @@ fn reads_a_slice(rt: HostRuntime) {
     assert_eq!(rt; buf, *b"ier");
 }
 
-/// A reader that counts its calls. The first one gives a byte, the third one ends, each other
-/// fails: interrupted where it is asked for nothing.
+/// A reader that counts its calls. The third one ends; each other one is interrupted if it is asked
+/// for no byte, else the first returns a byte and the others fail.
 #[derive(Drop)]
 struct Stumbling {
     calls: u8,

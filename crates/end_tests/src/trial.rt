@@ -1,4 +1,4 @@
-//! Sources and sinks that fail where they were made to.
+//! Sources and sinks that fail after a number of bytes.
 
 use gabc_places::{Source, SourceFault, TrialSink, TrialSource, Unsent, send_all};
 use std::test::Fail;

@@ -1,4 +1,4 @@
--- What a picture of a tree is, and what is put of it.
+-- Pictures of a tree, and their texts as they are put.
 use Rattle.std.specs.Prelude.{ℕ, ◌≡◌, List}
 use Rattle.gabc_marks.specs.Heads.{shown_by_parts}
 use Rattle.gabc_marks.specs.declared.picture.Picture.{Picture}

@@ -13,8 +13,8 @@ pitches_of_note a b = replicate (times_of_shape (b % 32)) (a % 16)
 abbrev pub bytes_of_node : Node → Bytes
 bytes_of_node n = record { begin = n.begin; end = n.end }
 
--- what a node of that kind is to show after a syllable with these bytes: a syllable that it begins,
--- or a note of the one before
+-- the part of a picture for a node of that kind after a syllable with these bytes: the syllable
+-- that it begins, or a note of the one before
 abbrev pub shown_of_kind : Kind → Node → Bytes → List Shown
 shown_of_kind kind.Syllable n bytes = Syllable (bytes_of_node n) ∷ []
 shown_of_kind kind.Note n bytes = notes_of bytes (pitches_of_note n.a n.b)

@@ -1,4 +1,4 @@
-//! The parts of a picture, put together of what the layout made.
+//! Assembles the parts of a picture from the groups and measures of the layout.
 
 ghost use Rattle.std.specs.Prelude.{◌≡◌, IfOk};
 ghost use Rattle.gabc_marks.specs.Heads.{shown_by_part, shown_by_parts};
@@ -9,7 +9,7 @@ use crate::measures::Measures;
 use gabc_marks::{Distance, Part, Sign};
 use std::alloc::{AllocError, Global};
 
-/// Returns the part of `group`, with these signs, at `x`.
+/// Returns the part of `group`, with these `signs`, at `x`.
 fn part_of<'a>(group: Group, signs: Vec<Sign<'a>>, x: Distance) -> Part<'a>
     ensures { shown_by_part result ≡ shown_by_group group }
 {
@@ -24,7 +24,7 @@ fn part_of<'a>(group: Group, signs: Vec<Sign<'a>>, x: Distance) -> Part<'a>
     }
 }
 
-/// Returns the signs of the part `at`, and takes them away.
+/// Removes the signs of the part `at` from `measures`, and returns them.
 fn take_signs<'a>(alloc: Global, measures: &mut Vec<Measures<'a>>, at: usize) -> Vec<Sign<'a>> {
     let mut signs = Vec::new(alloc);
     if at < measures.len() {

@@ -1,6 +1,6 @@
-//! What the attributes of notes ask for: slurs, braces, ledger lines, choral signs, texts over the
-//! staff, and no custos (GregorioRef, "Choral Signs", "Braces", "Custom Ledger Lines", "Simple
-//! Slurs", "Above Lines Text Within Notes").
+//! Draws what the attributes of notes ask for: slurs, braces, ledger lines, choral signs, texts
+//! over the staff, and no custos (GregorioRef, "Choral Signs", "Braces", "Custom Ledger Lines",
+//! "Simple Slurs", "Above Lines Text Within Notes").
 
 use crate::sheet::Sheet;
 use gabc_lettering::ABOVE_SIZE;
@@ -20,14 +20,15 @@ const UNITS: [(&str, i64); 7] = [
     ("em", 35_000_000),
 ];
 
-/// How long a millimetre of TeX is here: the lines of a staff are 2.74 mm apart in GregorioTeX.
+/// A millimetre of TeX, in thousandths of a staff space: the lines of a staff are 2.74 mm apart in
+/// GregorioTeX.
 const MILLIMETRE: i64 = 365;
 
-/// No length is more than this.
+/// The greatest length in either direction, in thousandths of a staff space.
 const MOST: i64 = 200_000;
 
-/// How far a curve stands from a head, how high it is if no height is given, and how far a ledger
-/// line goes to the left if it does not say.
+/// The distance of a curve from a head, its height if none is given, and the length to the left of
+/// a ledger line that asks for the default by `1`.
 const FROM_HEAD: Distance = Distance(500);
 
 const HEIGHT: Distance = Distance(500);
@@ -37,7 +38,8 @@ const LEDGER_LEFT: Distance = Distance(200);
 /// The size of a choral sign.
 const CHORAL_SIZE: Distance = Distance(800);
 
-/// A slur or a brace, or one end of it: on which side it stands, where it begins, and its size.
+/// A slur or a brace, or one end of it, as an attribute asks for it: its side, the number of its
+/// place at the note (`shift`), and its size.
 #[derive(Clone, Copy, Debug)]
 pub(crate) struct AskedCurve {
     kind: CurveKind,
@@ -48,24 +50,25 @@ pub(crate) struct AskedCurve {
     height: Distance,
 }
 
-/// What an attribute asks for.
+/// The meaning of an attribute for the picture.
 #[derive(Clone, Copy, Debug)]
 pub(crate) enum Attribute<'a> {
     NoCustos,
     Curve(AskedCurve),
-    /// A ledger line: how far it goes to the left and to the right of the end of its head.
+    /// A ledger line: its lengths to the left and to the right of the right end of its head.
     Ledger {
         is_over: bool,
         left: Distance,
         right: Distance,
     },
-    /// A choral sign: its text.
+    /// The text of a choral sign.
     Choral(&'a str),
     /// A text over the staff.
     Above(&'a str),
 }
 
-/// Returns the length that `text` says: a number with a unit of TeX.
+/// Returns the length spelled `text`, a number with a unit of TeX, bounded by `MOST`; nothing if it
+/// is none.
 fn length_of(text: &str) -> Option<Distance> {
     for (unit, size) in &UNITS {
         if let Some(number) = text.strip_suffix(*unit) {
@@ -78,8 +81,9 @@ fn length_of(text: &str) -> Option<Distance> {
     None
 }
 
-/// Returns the curve that `value` describes: where it begins, and then a `;` and its width, and its
-/// height if that is given; or `{` or `}`, if it is one end of it.
+/// Returns the curve that `value` describes, if it does: a digit from 0 to 2 for its place, and
+/// then a `;` and its width, and a `,` and its height if that is given; or `{` or `}` for one end
+/// of it.
 fn curve_of(kind: CurveKind, is_over: bool, value: &str) -> Option<AskedCurve> {
     let (shift, later) = match value.as_bytes() {
         [b'0'..=b'2', ..] => (
@@ -109,7 +113,8 @@ fn curve_of(kind: CurveKind, is_over: bool, value: &str) -> Option<AskedCurve> {
     })
 }
 
-/// Returns the ledger line that `value` describes: how far it goes to the left and to the right.
+/// Returns the ledger line that `value` describes, if it does: its length to the left, a `;`, and
+/// its length to the right.
 fn ledger_of<'a>(is_over: bool, value: &str) -> Option<Attribute<'a>> {
     let (left, right) = value.split_once(';')?;
     let left = match left {
@@ -124,7 +129,8 @@ fn ledger_of<'a>(is_over: bool, value: &str) -> Option<Attribute<'a>> {
     })
 }
 
-/// Returns what an attribute of this `name` asks for, which begins with its side.
+/// Returns the meaning of an attribute with this `value` and this `name`, from which the letter of
+/// its side is taken away; nothing if it is not known.
 fn sided<'a>(is_over: bool, name: &str, value: &str) -> Option<Attribute<'a>> {
     let kind = match name {
         "slur" => CurveKind::Slur,
@@ -138,8 +144,8 @@ fn sided<'a>(is_over: bool, name: &str, value: &str) -> Option<Attribute<'a>> {
 }
 
 impl<'a> Attribute<'a> {
-    /// Returns what an attribute asks for that is spelled so, in its brackets; nothing if it asks
-    /// for nothing that is drawn.
+    /// Returns the meaning of an attribute that is spelled `text`, with its brackets; nothing if it
+    /// changes nothing in the picture.
     pub(crate) fn of(text: &'a str) -> Option<Attribute<'a>> {
         let inner = text.strip_prefix('[')?.strip_suffix(']')?;
         if inner == "nocustos" {
@@ -158,8 +164,8 @@ impl<'a> Attribute<'a> {
     }
 }
 
-/// Returns how far below the lowest line of the staff the highest of `heads` and `head` stands, and
-/// the lowest one.
+/// Returns the distances of the highest and of the lowest of `heads` and `head` below the lowest
+/// line of the staff.
 fn bounds_of(heads: &[Drawn], head: Drawn) -> (Distance, Distance) {
     let y = head.y();
     heads.iter().fold((y, y), |(high, low), it| {
@@ -167,7 +173,7 @@ fn bounds_of(heads: &[Drawn], head: Drawn) -> (Distance, Distance) {
     })
 }
 
-/// Returns where the last of `heads` and `head` ends.
+/// Returns the right end of `heads` and `head`.
 fn end_of(heads: &[Drawn], head: Drawn) -> Distance {
     heads
         .iter()
@@ -175,8 +181,8 @@ fn end_of(heads: &[Drawn], head: Drawn) -> Distance {
 }
 
 impl AskedCurve {
-    /// Returns where it begins or ends: a slur at the right of its note, a punctum or half of one
-    /// to the left; a brace at the end of the neume, or at its start.
+    /// Returns the place at which it begins or ends: a slur at the right of its note, at its left
+    /// or in its middle; a brace at the end of the neume, or at its start.
     fn x_at(self, heads: &[Drawn], head: Drawn) -> Distance {
         if self.kind == CurveKind::Slur {
             return match self.shift {
@@ -192,8 +198,8 @@ impl AskedCurve {
         }
     }
 
-    /// Returns how far below the lowest line of the staff it begins: beyond the head of a slur, and
-    /// beyond the neume and the four lines of a staff if it is a brace.
+    /// Returns the distance of its ends below the lowest line of the staff: outside the head for a
+    /// slur, and outside the neume and the four lines of a staff for a brace.
     fn y_at(self, heads: &[Drawn], head: Drawn) -> Distance {
         let (high, low) = if self.kind == CurveKind::Slur {
             (head.y(), head.y())
@@ -236,7 +242,7 @@ impl<'a> Sheet<'a> {
         self.take_signs()
     }
 
-    /// Draws what an attribute after `head` asks for, of the neume with these `heads`.
+    /// Draws what `attribute` asks for, which comes after `head` in the neume with these `heads`.
     fn put_attribute(
         &mut self,
         attribute: Attribute<'a>,
@@ -275,7 +281,7 @@ impl<'a> Sheet<'a> {
         }
     }
 
-    /// Adds a text at a note, and returns where it ends.
+    /// Adds `text` in italics from `x` on, and returns its right end.
     fn put_small(
         &mut self,
         text: &'a str,
@@ -295,7 +301,8 @@ impl<'a> Sheet<'a> {
         Ok(x + width)
     }
 
-    /// Adds `node`, which stands within a neume, after that many of its notes.
+    /// Adds `node`, which comes within a neume after this number of its `notes`: nodes other than
+    /// attributes are skipped.
     pub(crate) fn add_inside(&mut self, node: Node, notes: usize) -> Result<(), AllocError> {
         if node.kind == Kind::Attribute {
             let asked = Attribute::of(text_between(self.input, node.begin, node.end));
@@ -306,7 +313,7 @@ impl<'a> Sheet<'a> {
         Ok(())
     }
 
-    /// Adds an attribute after a neume.
+    /// Adds the attribute of `node` after a neume.
     pub(crate) fn add_attribute(&mut self, node: Node) -> Result<(), AllocError> {
         let asked = Attribute::of(text_between(self.input, node.begin, node.end));
         let head = self.pen.drawn.as_slice().last().copied();

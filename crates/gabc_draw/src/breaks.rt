@@ -1,5 +1,5 @@
-//! Where rows end: over all that stands between two ends that the score asks for, the cheapest way
-//! through all possible breaks is taken, as TeX does for paragraphs.
+//! Breaks parts into rows: between two line ends that the score asks for it takes the cheapest way
+//! through all possible breaks, as TeX does for paragraphs.
 
 use crate::cursor::Cursor;
 use crate::measures::{LineEnd, Measures};
@@ -7,8 +7,8 @@ use gabc_marks::{Distance, spaces};
 use gabc_pen::Clef;
 use std::alloc::{AllocError, Global};
 
-/// What a row costs, in thousandths: by the square of the part of it that is to be spread; if it
-/// parts a word, if a bar ends it, if it has few syllables, and if a unit is wider than it.
+/// The costs of a row, in thousandths: a factor for the square of its empty part; and what is added
+/// if it parts a word, if a bar ends it, if it has few syllables, and if one unit is wider than it.
 const BY_FREE: i64 = 60;
 
 const PARTED: i64 = 500;
@@ -21,35 +21,38 @@ const TOO_WIDE: i64 = 1_000_000;
 
 const FEW: usize = 3;
 
-/// A row of which more is empty, in thousandths, ends only if nothing more fits.
+/// A row with a larger empty part than this, in thousandths of its width, ends only if nothing more
+/// fits.
 const EMPTY: i64 = 450;
 
-/// How many units stand in one row at most.
+/// The most units in one row.
 const MOST_UNITS: usize = 1000;
 
-/// What the last row before an end that is asked for costs, which may stay short: one that is not
-/// to be spread costs nothing for what is free up to this part.
+/// The costs of the last row before an end that the score asks for, which may stay short: the
+/// factor for the square of its empty part, and the empty part, in thousandths, that is free of
+/// cost if the row is not to be justified.
 const LAST_BY_FREE: i64 = 10;
 
 const LAST_MAY_LACK: i64 = 500;
 
-/// Parts that no row's end should part: a syllable and the bars after it, what is in `<eu>` and in
-/// `<nlba>`. They end before the part `end`. A row that begins with them begins at `left`, and has
-/// its clef up to `start`; with all before them they reach to `right`.
+/// Parts between which no row should end: a syllable and the bars after it, and the parts of one
+/// `<eu>` or `<nlba>`. They end before the part `end`. A row that begins with them begins at
+/// `left`, and its clef takes `start`; together with all parts before them they reach to `right`.
 #[derive(Clone, Copy, Debug)]
 struct Unit {
     end: usize,
     start: Distance,
     left: Distance,
     right: Distance,
-    /// How many syllables with a text stand before the unit's end.
+    /// The number of parts with a text before the unit's end.
     texts: usize,
     parts_word: bool,
     is_bar: bool,
     asked: Option<LineEnd>,
 }
 
-/// The cheapest way to a break: what it costs, where its last row begins, and how many rows it has.
+/// The cheapest way to a break: its cost, the unit with which its last row begins, and its number
+/// of rows.
 #[derive(Clone, Copy, Debug)]
 struct Way {
     cost: i64,
@@ -68,8 +71,8 @@ impl Way {
     }
 }
 
-/// The rows for which breaks are looked for: their width, how many are made already, and by how
-/// much the first ones are shorter, since an initial stands before them.
+/// The rows for which breaks are looked for: their width, the number of rows made already, and the
+/// number of first rows that are shorter by `indent`, since an initial is before them.
 #[derive(Clone, Copy, Debug)]
 pub(crate) struct Room {
     pub(crate) width: Distance,
@@ -79,7 +82,7 @@ pub(crate) struct Room {
 }
 
 impl Room {
-    /// Returns where the staff of the row begins that comes after that many.
+    /// Returns the left end of the staff of the row after this number of further `rows`.
     fn indent_after(self, rows: usize) -> Distance {
         if self.made.saturating_add(rows) < self.indented {
             self.indent
@@ -89,7 +92,8 @@ impl Room {
     }
 }
 
-/// A row: it ends before the part `end`, and so by the end that the score asks for, if it does.
+/// A row: it ends before the part `end`, with the line end that the score asks for there, if it
+/// does.
 #[derive(Clone, Copy, Debug)]
 pub(crate) struct Span {
     pub(crate) end: usize,
@@ -97,7 +101,7 @@ pub(crate) struct Span {
     pub(crate) is_last: bool,
 }
 
-/// Returns whether no row should end between two parts.
+/// Returns whether no row should end between `before` and `part`, the next one.
 fn stay_together(before: &Measures<'_>, part: &Measures<'_>) -> bool {
     let is_bar = part.is_bar() && part.text.is_none();
     let in_span = part.place.is_nlba && before.place.is_nlba
@@ -105,7 +109,7 @@ fn stay_together(before: &Measures<'_>, part: &Measures<'_>) -> bool {
     before.end.is_none() && part.is_first && (is_bar || in_span)
 }
 
-/// Returns how far left a part reaches that stands at `x`, if it has notes or a text.
+/// Returns the left end of the notes and the text of a `part` at `x`, if it has any.
 fn left_of(part: &Measures<'_>, x: Distance) -> Option<Distance> {
     let notes = part.notes.map(|it| x + it.left);
     let text = part.text.map(|it| x + it.left);
@@ -115,7 +119,8 @@ fn left_of(part: &Measures<'_>, x: Distance) -> Option<Distance> {
     }
 }
 
-/// Returns where the notes of a row begin whose first part is `part`, with this clef in force.
+/// Returns the left end of the notes of a row whose first part is `part`, with this `clef` in
+/// force: the row repeats the clef before a part that does not begin with one.
 pub(crate) fn start_of(part: &Measures<'_>, clef: Option<Clef>) -> Distance {
     match clef {
         Some(clef) if !part.begins_with_clef => clef.width() + spaces::AFTER_LINE_CLEF,
@@ -183,8 +188,9 @@ fn units_of(
     Ok(units)
 }
 
-/// Returns what a row costs that ends with `unit`, of whose width `free` thousandths are empty, if
-/// `passed` syllables with a text stand before it.
+/// Returns the cost of a row that ends with `unit` and has `free` thousandths of its width empty,
+/// after `passed` parts with a text. `is_last` says whether it is the last row before an end that
+/// the score asks for, or of the score.
 fn price(free: i64, unit: Unit, passed: usize, is_last: bool) -> i64 {
     let syllables = unit.texts.saturating_sub(passed);
     let is_justified = unit.asked.is_some_and(|asked| asked.is_justified);
@@ -218,12 +224,12 @@ fn square(thousandths: i64, factor: i64) -> i64 {
         / 1000
 }
 
-/// Returns which part of a row of this `width` is empty, in thousandths, if `free` of it is.
+/// Returns the empty part of a row of this `width`, in thousandths, if `free` of it is empty.
 fn part_free(free: Distance, width: Distance) -> i64 {
     i64::from(free.0).saturating_mul(1000) / i64::from(width.0.max(1))
 }
 
-/// Returns how far left the first of `units` reach: a text may begin left of the notes before it.
+/// Returns the left end of the first four of `units`: a text may begin left of the notes before it.
 fn left_of_first(units: &[Unit]) -> Distance {
     let own = units.first().map_or(Distance::ZERO, |unit| unit.left);
     units
@@ -232,7 +238,7 @@ fn left_of_first(units: &[Unit]) -> Distance {
         .fold(own, |left, unit| left.min(unit.left))
 }
 
-/// Notes `way` to the break after the unit `to`, if it costs less than the known one.
+/// Records `way` to the break after the unit `to`, if it costs less than the known one.
 fn note_way(ways: &mut [Option<Way>], to: usize, way: Way) {
     let after = to.saturating_add(1);
     if after < ways.len() {
@@ -246,7 +252,7 @@ fn note_way(ways: &mut [Option<Way>], to: usize, way: Way) {
     }
 }
 
-/// Notes the ways on from the break before the unit `at`, to which `way` is the cheapest one.
+/// Records the ways on from the break before the unit `at`, to which `way` is the cheapest one.
 fn note_ways_from(units: &[Unit], at: usize, way: Way, room: Room, ways: &mut [Option<Way>]) {
     let later = units.get(at..).unwrap_or(&[]);
     let start = later.first().map_or(Distance::ZERO, |unit| unit.start);
@@ -296,7 +302,8 @@ fn ways_of(alloc: Global, units: &[Unit], room: Room) -> Result<Vec<Option<Way>>
     Ok(ways)
 }
 
-/// Returns before which units rows end on the cheapest way, from the last one back.
+/// Returns the number of units before the end of each row on the cheapest way, from the last row
+/// back.
 fn breaks_back(alloc: Global, ways: &[Option<Way>]) -> Result<Vec<usize>, AllocError> {
     let mut breaks = Vec::new(alloc);
     let mut at = ways.len().saturating_sub(1);
@@ -336,12 +343,12 @@ fn add_spans(
     Ok(())
 }
 
-/// Returns the clef that is in force after `parts`, before which `clef` is.
+/// Returns the clef in force after `parts`, if `clef` is in force before them.
 pub(crate) fn clef_after(parts: &[Measures<'_>], clef: Option<Clef>) -> Option<Clef> {
     parts.iter().fold(clef, |clef, part| part.clef.or(clef))
 }
 
-/// Returns the rows in which `parts` stand in this `room`.
+/// Returns the rows into which `parts` are broken in this `room`.
 pub(crate) fn spans_of(
     alloc: Global,
     parts: &[Measures<'_>],

@@ -6,10 +6,10 @@ use gabc_marks::{Distance, spaces};
 /// The width of a hyphen.
 pub(crate) const HYPHEN: Distance = Distance(540);
 
-/// What a hyphen takes between two texts.
+/// The room of a hyphen between two texts.
 pub(crate) const HYPHEN_ROOM: Distance = Distance(740);
 
-/// Goes along a row from part to part: how far notes, texts and translations reach.
+/// The right ends of the notes, texts and translations of a row, from part to part.
 #[derive(Clone, Copy, Debug)]
 pub(crate) struct Cursor {
     notes: Distance,
@@ -29,12 +29,12 @@ impl Cursor {
         }
     }
 
-    /// Returns how far to the right all parts reach.
+    /// Returns the right end of all parts.
     pub(crate) fn right(self) -> Distance {
         self.notes.max(self.text).max(self.translation)
     }
 
-    /// Returns where a part stands by its notes.
+    /// Returns the place of a part by its notes.
     fn x_of_notes(self, part: &Measures<'_>) -> Distance {
         let Some(notes) = part.notes else {
             return self.text;
@@ -49,7 +49,7 @@ impl Cursor {
         }
     }
 
-    /// Returns where a part stands by its text, if it may stand from `x` on by its notes.
+    /// Returns the place of a part by its text, if its notes allow the places from `x` on.
     fn x_of_text(self, part: &Measures<'_>, x: Distance) -> Distance {
         let Some(text) = part.text else {
             return x;
@@ -72,7 +72,7 @@ impl Cursor {
         }
     }
 
-    /// Goes past a part, and returns where it stands.
+    /// Sets a part after those before, and returns its place.
     pub(crate) fn put(&mut self, part: &Measures<'_>) -> Distance {
         let mut x = self.x_of_text(part, self.x_of_notes(part));
         if let Some(translation) = part.translation {

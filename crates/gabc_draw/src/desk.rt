@@ -15,7 +15,7 @@ use gabc_pen::{GlyphKind, Note, Planned, plan_notes, write_neume};
 use std::alloc::{AllocError, Global};
 
 /// A desk: the groups that are ended and the one that is begun, the notes of the neume that is
-/// being read, and the sheet on which all stands.
+/// being read, and the sheet on which all is laid out.
 #[derive(Debug, Drop)]
 pub(crate) struct Desk<'a> {
     groups: Vec<Group>,
@@ -81,8 +81,8 @@ impl<'a> Desk<'a> {
         self.sheet.end_neume(alloc, first, last)
     }
 
-    /// Ends the part that is laid out, if there is one, which has the marks before the byte
-    /// `before`, and begins a further one of its syllable.
+    /// Ends the part that is being laid out, if there is one, with the marks before the byte
+    /// `before`, and begins a further part of its syllable.
     #[tactic(auto, using(crate::proofs::HeadsJoin::joined))]
     fn end_part(&mut self, alloc: Global, before: u32) -> Result<(), AllocError>
         ensures shown { OnOk result (
@@ -142,8 +142,9 @@ impl<'a> Desk<'a> {
         Ok(())
     }
 
-    /// Begins a further part of the syllable before `node`, which has that many `notes`, if a line
-    /// ends there, or if the last one is full.
+    /// Begins a further part of the syllable before `node`, a neume of this number of `notes` or
+    /// another block, if a line ends there or the last part has no room; else passes the marks
+    /// before it.
     fn turn(&mut self, alloc: Global, node: Node, notes: i32) -> Result<(), AllocError>
         ensures shown { OnOk result (
             shown_on self.new.groups.items self.new.group self.new.pending.items
@@ -156,7 +157,7 @@ impl<'a> Desk<'a> {
         self.sheet.pass_marks(node.begin)
     }
 
-    /// Adds the note of `node`.
+    /// Adds the note of `node`, and writes its neume if that is complete.
     #[tactic(auto, using(crate::proofs::HeadsJoin::joined))]
     fn add_note(&mut self, alloc: Global, node: Node) -> Result<(), AllocError>
         ensures shown { OnOk result (
@@ -248,7 +249,7 @@ impl<'a> Desk<'a> {
     }
 }
 
-/// A score as it was laid out: its groups, and of each what the layout knows of it.
+/// A score that was laid out: its groups, and the measures of each.
 #[derive(Debug, Drop)]
 pub(crate) struct LaidOut<'a> {
     pub(crate) groups: Vec<Group>,

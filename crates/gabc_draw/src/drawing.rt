@@ -22,21 +22,21 @@ use std::alloc::{AllocError, Global};
 /// The least width of a picture.
 const LEAST_WIDTH: Distance = Distance(12_000);
 
-/// How wide a picture is if nobody says it.
+/// The default width of a picture.
 const USUAL_WIDTH: Distance = Distance(72_000);
 
-/// What the broadest clef and a custos take of a row, and the least room of a part.
+/// The width that the broadest clef and a custos take of a row, and the least room of a part.
 const CLEF_AND_CUSTOS: Distance = Distance(4500);
 
 const LEAST_ROOM: Distance = Distance(2000);
 
-/// The most parts in which the letter of an initial is looked for.
+/// The number of parts, from the first one on, in which the letter of an initial is looked for.
 const MOST_PARTS: usize = 20;
 
-/// How a picture looks.
+/// The options of a picture.
 #[derive(Clone, Copy, Debug)]
 pub struct Options<'a> {
-    /// How wide it is, in thousandths of a staff space: at least 12,000.
+    /// Its width, in thousandths of a staff space; less than 12,000 counts as 12,000.
     pub width: Distance,
     /// The messages that it shows, in the order of their places.
     pub marks: &'a [Mark],
@@ -52,8 +52,8 @@ impl<'a> Options<'a> {
     }
 }
 
-/// Returns how many lines a staff has by the header `staff-lines`: 4, unless it is a number from 2
-/// to 5.
+/// Returns the number of lines of a staff, by the `value` of the header `staff-lines`: 4, unless it
+/// is a number from 2 to 5.
 fn staff_lines(value: &str) -> i32 {
     match value {
         "2" => 2,
@@ -84,7 +84,8 @@ fn sheet_of<'a>(
     )
 }
 
-/// Takes the first letter away from the text of the first of `parts` that has one.
+/// Removes the first letter from the text of the first of `parts` that has one, and returns it, if
+/// that text begins with a letter. It looks at no more than `MOST_PARTS` parts.
 fn first_letter<'a>(parts: &mut Vec<Measures<'a>>) -> Option<&'a str> {
     for part in parts.iter_mut().take(MOST_PARTS) {
         if part.text.is_some() {
@@ -94,8 +95,8 @@ fn first_letter<'a>(parts: &mut Vec<Measures<'a>>) -> Option<&'a str> {
     None
 }
 
-/// Returns the initial of the score `input`, whose tree is `nodes`, and takes its letter away from
-/// `parts`; none if the score wants none or begins with no letter.
+/// Returns the initial of the score `input`, whose tree is `nodes`, and removes its letter from
+/// `parts`; none if the score asks for none or begins with no letter.
 fn take_initial<'a>(
     alloc: Global,
     nodes: &[Node],
@@ -112,7 +113,7 @@ fn take_initial<'a>(
     }
 }
 
-/// Returns the rows in which `parts` stand below `y`, with `initial` before the first ones.
+/// Returns `parts` broken into rows below `y`, with `initial` before the first ones.
 fn set_rows<'a>(
     alloc: Global,
     parts: &[Measures<'a>],
@@ -136,7 +137,7 @@ fn set_rows<'a>(
 
 /// Returns the picture of the score `input`, whose tree is `nodes`, with the messages of `options`:
 /// it shows each syllable with its bytes, and in it each of its notes once for each time that it
-/// sounds, in order, at the height of its pitch. It fails only for want of memory.
+/// sounds, in order, at the height of its pitch. It fails only if memory runs out.
 pub fn picture_of<'a>(
     alloc: Global,
     nodes: &[Node],
@@ -175,7 +176,7 @@ pub fn picture_of<'a>(
 }
 
 /// Draws the score `input`, whose tree is `nodes`, and puts the text of its picture, which is an
-/// XML tree, into `out`. It fails only for want of memory, and nothing is put then.
+/// XML tree, into `out`. It fails only if memory runs out, and puts nothing then.
 pub fn draw<P: Put>(
     alloc: Global,
     nodes: &[Node],

@@ -18,7 +18,7 @@ pub(crate) struct Group {
 }
 
 impl Group {
-    /// Returns that of what stands before all syllables.
+    /// Returns the group of whatever comes before all syllables.
     pub(crate) fn before_all(alloc: Global) -> Group
         ensures bytes { bytes_of_group result ≡ record { begin = 0; end = 0 } }
         ensures shown { shown_by_group result ≡ [] }
@@ -32,14 +32,14 @@ impl Group {
         }
     }
 
-    /// Returns whether it is that of what stands before all syllables, and nothing does.
+    /// Returns whether it is the group before all syllables, and has no heads.
     pub(crate) fn is_empty(&self) -> bool
         ensures { cond result (shown_by_group self.now ≡ []) ⊤ }
     {
         self.number == 0 && !self.is_first && self.heads.is_empty()
     }
 
-    /// Returns that of a further part of the same syllable, with no heads yet.
+    /// Returns the group of a further part of the same syllable, without heads.
     pub(crate) fn further(&self, alloc: Global) -> Group
         ensures bytes { bytes_of_group result ≡ bytes_of_group self.now }
         ensures shown { shown_by_group result ≡ [] }

@@ -1,4 +1,4 @@
-//! The messages of a row as marks: a field around what each is about, with its code over the row.
+//! The messages of a row as marks: a field around the subject of each, with its code over the row.
 
 use crate::measures::Measures;
 use gabc_lettering::CodeRows;
@@ -6,19 +6,19 @@ use gabc_marks::{Distance, Extent, Sign, spaces};
 use gabc_places::{Code, Severity};
 use std::alloc::AllocError;
 
-/// A mark of a part: `about` is what it is about, if that is no text.
+/// A mark of a part: `about` is the extent of the block that it is about, if it is about one.
 #[derive(Clone, Copy, Debug)]
 pub(crate) struct PartMark {
     pub(crate) code: Code,
     pub(crate) about: Option<Extent>,
 }
 
-/// How far a field goes beyond what it is around, and its least width.
+/// The distance from a subject to the edge of the field around it, and the least width of a field.
 const AROUND: Distance = Distance(150);
 
 const LEAST_FIELD: Distance = Distance(600);
 
-/// Returns from where to where the thing goes that a mark of `part` is about.
+/// Returns the extent of the subject of a `mark` of `part`: its block, or the text and the notes.
 fn field_of(part: &Measures<'_>, mark: PartMark) -> Extent {
     let text = part.text.unwrap_or(part.notes.unwrap_or(Extent::NONE));
     let notes = part.notes.unwrap_or(text);
@@ -36,7 +36,7 @@ fn field_of(part: &Measures<'_>, mark: PartMark) -> Extent {
     }
 }
 
-/// A row with marks: how wide it is, how high it goes without them, and where its text stands.
+/// A row with marks: its width, its top without them, and the level of its text.
 #[derive(Clone, Copy, Debug)]
 pub(crate) struct MarkedRow {
     pub(crate) width: Distance,
@@ -44,8 +44,8 @@ pub(crate) struct MarkedRow {
     pub(crate) text: Distance,
 }
 
-/// Adds the field of a part at `x` to `signs`, from `top` down to below the text, and to the
-/// `codes` of its row those of its marks.
+/// Adds the field of a `part` at `x` to `signs`, from `row.top` down to below the text, and the
+/// codes of its marks to `codes`. A part without marks adds nothing.
 fn put_part(
     codes: &mut CodeRows,
     part: &Measures<'_>,
@@ -77,7 +77,8 @@ fn put_part(
     Ok(())
 }
 
-/// Adds the marks of `parts` at these `places` to `signs`, and returns how high the row goes then.
+/// Adds the marks of `parts` at these `places` to `signs`, and returns the top of the row with
+/// them.
 pub(crate) fn put_marks(
     parts: &[Measures<'_>],
     places: &[Distance],

@@ -1,11 +1,11 @@
-//! What the layout knows of a part: how far it goes, and what stands in it.
+//! The measures of a part for the layout: its extents and its content.
 
 use crate::marks::PartMark;
 use gabc_marks::{Distance, Extent, Sign};
 use gabc_pen::{Clef, Curve, NabcRows, PerLine};
 use std::alloc::Global;
 
-/// How a score wants a line to end.
+/// The end of a line as the score asks for it.
 #[derive(Clone, Copy, Debug, PartialEq, Eq)]
 pub(crate) struct LineEnd {
     /// Whether the line is as wide as the others.
@@ -13,11 +13,11 @@ pub(crate) struct LineEnd {
     pub(crate) has_custos: bool,
 }
 
-/// Where a syllable stands in its word, and in which spans.
+/// The position of a syllable in its word, and the spans that it is in.
 #[derive(Clone, Copy, Debug, PartialEq, Eq)]
 pub(crate) struct Place {
     pub(crate) begins_word: bool,
-    /// Whether its word goes on after it.
+    /// Whether its word continues after it.
     pub(crate) goes_on: bool,
     pub(crate) is_eu: bool,
     pub(crate) is_nlba: bool,
@@ -32,7 +32,8 @@ impl Place {
         is_nlba: false,
     };
 
-    /// Returns the place that the numbers of a syllable say: its position, and its spans.
+    /// Returns the place of a syllable with this `position` and these `spans`, as a tree numbers
+    /// them.
     pub(crate) fn of(position: u16, spans: u16) -> Place {
         Place {
             begins_word: position < 2,
@@ -43,18 +44,18 @@ impl Place {
     }
 }
 
-/// A part: its signs, and its extents, from where the notes of its syllable begin.
+/// A part: its signs, and its extents, counted from the begin of the notes of its syllable.
 #[derive(Debug, Drop)]
 pub(crate) struct Measures<'a> {
     pub(crate) signs: Vec<Sign<'a>>,
     pub(crate) place: Place,
     /// Whether it is the first part of its syllable.
     pub(crate) is_first: bool,
-    /// Its notes, if it has any, or a clef, a bar or the like.
+    /// The extent of its notes, clefs, bars and the like, if it has any.
     pub(crate) notes: Option<Extent>,
     pub(crate) text: Option<Extent>,
     pub(crate) translation: Option<Extent>,
-    /// The middle of its first note, or of a bar, under which the text stands.
+    /// The middle of its first note or of a bar, under which the text is set.
     pub(crate) anchor: Option<Distance>,
     /// The pitch of its first note.
     pub(crate) first: Option<u8>,
@@ -62,9 +63,9 @@ pub(crate) struct Measures<'a> {
     pub(crate) begins_with_clef: bool,
     pub(crate) end: Option<LineEnd>,
     pub(crate) has_bar: bool,
-    /// Whether the last thing in it is a custos, or wants none after it.
+    /// Whether the last block in it is a custos, or an attribute asks for no custos after it.
     pub(crate) wants_no_custos: bool,
-    /// Where its texts over the staff end.
+    /// The right end of its texts over the staff.
     pub(crate) above: Option<Distance>,
     pub(crate) curves: Vec<Curve>,
     pub(crate) marks: Vec<PartMark>,
@@ -99,12 +100,12 @@ impl<'a> Measures<'a> {
         }
     }
 
-    /// Returns whether a bar stands in it and no note.
+    /// Returns whether it has a bar and no note.
     pub(crate) fn is_bar(&self) -> bool {
         self.has_bar && self.first.is_none()
     }
 
-    /// Returns whether anything stands in it.
+    /// Returns whether it has notes, a text or a translation.
     pub(crate) fn is_seen(&self) -> bool {
         self.notes.is_some() || self.text.is_some() || self.translation.is_some()
     }

@@ -1,16 +1,16 @@
-//! Which pitches follow the notes of a score.
+//! The pitches that follow the notes of a score.
 
 use gabc_nodes::{Kind, Node};
 use std::alloc::{AllocError, Global};
 
-/// The pitch of a note, and the first pitch after it that is another one.
+/// The pitch of a note, and the first pitch after it that differs.
 #[derive(Clone, Copy, Debug)]
 struct Following {
     pitch: u8,
     other: Option<u8>,
 }
 
-/// The notes of a score, of which some are passed.
+/// The notes of a score, the last one first, and the number of notes that are passed.
 #[derive(Debug, Drop)]
 pub(crate) struct Pitches {
     notes: Vec<Following>,
@@ -26,7 +26,7 @@ fn pitch_of(node: Node) -> Option<u8> {
     }
 }
 
-/// Adds what follows a note of this `pitch`, before which `notes` come in backward order.
+/// Appends a note of this `pitch` to `notes`, the notes after it in backward order.
 fn push_before(pitch: u8, notes: &mut Vec<Following>) -> Result<(), AllocError> {
     let other = match notes.last() {
         Some(next) if next.pitch == pitch => next.other,
@@ -54,7 +54,7 @@ impl Pitches {
         self.passed = self.passed.saturating_add(1);
     }
 
-    /// Returns the note that many notes after the last one that is passed.
+    /// Returns the note that is `ahead` notes after the next one, if there is one.
     fn get(&self, ahead: usize) -> Option<Following> {
         let back = self.passed.saturating_add(ahead);
         let at = self.notes.len().checked_sub(back)?.checked_sub(1)?;
@@ -66,7 +66,7 @@ impl Pitches {
         Some(self.get(0)?.pitch)
     }
 
-    /// Returns the first pitch after the last passed note that is another one than that.
+    /// Returns the first pitch after the last passed note that differs from it.
     pub(crate) fn other(&self) -> Option<u8> {
         let at = self.notes.len().checked_sub(self.passed)?;
         self.notes.get(at)?.other

@@ -1,4 +1,4 @@
-//! The rows of a picture: where each part stands in its row, and what else does.
+//! The rows of a picture: the places of their parts, and the signs that belong to no part.
 
 use crate::breaks::{Span, clef_after, start_of};
 use crate::marks::{MarkedRow, put_marks};
@@ -9,7 +9,7 @@ use gabc_marks::{Distance, Extent, Levels, Row, Sign, spaces};
 use gabc_pen::{Clef, Curves, Pen, PerLine, custos, height_of_step, join_rows, line_over};
 use std::alloc::{AllocError, Global};
 
-/// The size of a row: its width, and how many lines its staff has.
+/// The size of a row: its width, and the number of lines of its staff.
 #[derive(Clone, Copy, Debug)]
 pub(crate) struct Staff {
     pub(crate) width: Distance,
@@ -28,7 +28,8 @@ fn put_staff(staff: Staff, indent: Distance, signs: &mut Vec<Sign<'_>>) -> Resul
     Ok(())
 }
 
-/// Returns whether the last part that has anything in it wants no custos after it.
+/// Returns whether the last of `parts` with notes, a clef, a bar or the like asks for no custos
+/// after it.
 fn wants_no_custos(parts: &[Measures<'_>]) -> bool {
     for part in parts.iter().rev() {
         if part.notes.is_some() {
@@ -38,14 +39,14 @@ fn wants_no_custos(parts: &[Measures<'_>]) -> bool {
     false
 }
 
-/// Draws the custos at the end of a row, for the pitch that follows.
+/// Draws the custos at the end of a row, for `pitch`, the one that follows.
 fn put_custos(staff: Staff, pitch: u8, pen: &mut Pen<'_>) -> Result<(), AllocError> {
     let symbol = custos(pitch, staff.lines);
     let x = staff.width - symbol.metrics().width - spaces::CUSTOS_TO_END;
     pen.symbol(symbol, x, height_of_step(i32::from(pitch) - 3))
 }
 
-/// Draws the curves of `parts`, which stand at these `places` in a row of this `width`.
+/// Draws the curves of `parts`, which are at these `places` in a row of this `width`.
 fn put_curves(
     parts: &[Measures<'_>],
     places: &[Distance],
@@ -61,7 +62,7 @@ fn put_curves(
     Ok(())
 }
 
-/// Returns how high and how deep the signs of a row go, and those of its parts.
+/// Returns the top (`left`) and the bottom (`right`) of the signs of a row and of its parts.
 fn bounds(parts: &[Measures<'_>], pen: &Pen<'_>) -> Extent {
     let top = parts.iter().fold(pen.top, |top, part| top.min(part.top));
     let bottom = parts
@@ -73,14 +74,14 @@ fn bounds(parts: &[Measures<'_>], pen: &Pen<'_>) -> Extent {
     }
 }
 
-/// How high a row goes over the lowest line of its staff, and how deep below it.
+/// The top and the bottom of a row, as distances below the lowest line of its staff.
 #[derive(Clone, Copy, Debug)]
 struct Size {
     top: Distance,
     bottom: Distance,
 }
 
-/// Returns where the texts of a row stand, and how high and deep it goes.
+/// Returns the levels of the texts of a row, and its size.
 fn levels_of(parts: &[Measures<'_>], staff: Staff, pen: &Pen<'_>) -> (Levels, Size) {
     let signs = bounds(parts, pen);
     let highest = height_of_step(staff.lines.saturating_mul(2).saturating_sub(2));
@@ -113,7 +114,7 @@ fn levels_of(parts: &[Measures<'_>], staff: Staff, pen: &Pen<'_>) -> (Levels, Si
     (levels, Size { top, bottom })
 }
 
-/// Rows as they are made: their parts' places, and how far down they reach.
+/// The rows made so far, the places of their parts, and `y`, the place below them.
 #[derive(Debug, Drop)]
 pub(crate) struct Rows<'a> {
     pub(crate) rows: Vec<Row<'a>>,
@@ -124,7 +125,7 @@ pub(crate) struct Rows<'a> {
 }
 
 impl<'a> Rows<'a> {
-    /// Returns no rows: the first one stands below `y`, and `initial` stands before the first ones.
+    /// Returns no rows: the first one will be below `y`, and `initial` is before the first ones.
     fn new(alloc: Global, y: Distance, initial: Option<Initial<'a>>) -> Rows<'a> {
         Rows {
             rows: Vec::new(alloc),
@@ -135,7 +136,7 @@ impl<'a> Rows<'a> {
         }
     }
 
-    /// Returns where the staff of the next row begins.
+    /// Returns the left end of the staff of the next row.
     fn indent(&self) -> Distance {
         match &self.initial {
             Some(initial) if self.rows.len() < initial.rows => initial.room,
@@ -143,8 +144,8 @@ impl<'a> Rows<'a> {
         }
     }
 
-    /// Draws what stands in a row beside its parts: the clef in force, and the custos at its end,
-    /// for the pitch that follows.
+    /// Draws the signs of a row that belong to no part: the clef in force, the custos at its end
+    /// for the `following` pitch, and the staff.
     fn draw_ends(
         &self,
         alloc: Global,
@@ -170,7 +171,8 @@ impl<'a> Rows<'a> {
         Ok(pen)
     }
 
-    /// Returns where the `parts` of a row stand that ends as `span` says.
+    /// Returns the places of the `parts` of a row that ends as `span` says, spread over its width
+    /// if it is to be justified and not too empty.
     fn places_of(
         &self,
         alloc: Global,
@@ -190,8 +192,8 @@ impl<'a> Rows<'a> {
         Ok(places)
     }
 
-    /// Adds to `signs` what of the initial stands in the next row, and the marks of its `parts`,
-    /// and returns how high the row goes then, if it goes up to `top` without them.
+    /// Adds to `signs` the initial, as far as it is in the next row, and the marks of its `parts`,
+    /// and returns the top of the row with them; `row.top` is the one without.
     fn put_over(
         &self,
         parts: &[Measures<'a>],
@@ -247,13 +249,13 @@ impl<'a> Rows<'a> {
     }
 }
 
-/// Returns the pitch of the first note of `parts`.
+/// Returns the pitch of the first note of `parts`, if there is one.
 fn first_pitch(parts: &[Measures<'_>]) -> Option<u8> {
     parts.iter().find_map(|part| part.first)
 }
 
-/// Returns the rows in which `parts` stand, as `spans` say, from `y` on downwards; `initial` stands
-/// before the first ones.
+/// Returns the rows of `parts`, one for each of `spans`, from `y` on downwards; `initial` is before
+/// the first ones.
 pub(crate) fn rows_of<'a>(
     alloc: Global,
     parts: &[Measures<'a>],

@@ -1,5 +1,5 @@
-//! Parts beside each other in a row: where each stands, over which gaps the row is spread, and its
-//! hyphens.
+//! Parts beside each other in a row: the place of each, the gaps over which the row is spread, and
+//! the hyphens.
 
 use crate::cursor::{Cursor, HYPHEN, HYPHEN_ROOM};
 use crate::measures::Measures;
@@ -7,7 +7,7 @@ use gabc_lettering::TEXT_SIZE;
 use gabc_marks::{Distance, Level, Sign, Styles, Words, spaces};
 use std::alloc::{AllocError, Global};
 
-/// Returns where the parts of a row stand that begins at `start`.
+/// Returns the places of the `parts` of a row that begins at `start`.
 pub(crate) fn places_from(
     alloc: Global,
     parts: &[Measures<'_>],
@@ -21,8 +21,8 @@ pub(crate) fn places_from(
     Ok(places)
 }
 
-/// Returns how far to the right the notes and the texts of parts at these places reach:
-/// translations may go beyond the room of a custos.
+/// Returns the right end of the notes and the texts of `parts` at these `places`. Translations do
+/// not count, since they may reach below the custos.
 pub(crate) fn right_of(parts: &[Measures<'_>], places: &[Distance]) -> Distance {
     let mut right = Distance::ZERO;
     for (part, x) in parts.iter().zip(places) {
@@ -33,8 +33,8 @@ pub(crate) fn right_of(parts: &[Measures<'_>], places: &[Distance]) -> Distance 
     right
 }
 
-/// A gap before a part, over which a row may be spread: whether nothing else is needed there. If
-/// letters of a word touch, a hyphen has to have room between them.
+/// Returns whether a row may be spread over the gap before `part` at `x`; `text` is the right end
+/// of the text before. It may not be if letters of one word touch there: a hyphen would need room.
 fn is_open(part: &Measures<'_>, x: Distance, text: Option<Distance>) -> bool {
     match (part.text, text) {
         (Some(own), Some(end)) if !part.begins_word() => spaces::LETTERS_TOUCH < x + own.left - end,
@@ -42,7 +42,7 @@ fn is_open(part: &Measures<'_>, x: Distance, text: Option<Distance>) -> bool {
     }
 }
 
-/// Returns of each part whether the gap before it is open.
+/// Returns for each part whether the gap before it is open.
 fn open_gaps(
     alloc: Global,
     parts: &[Measures<'_>],
@@ -57,8 +57,8 @@ fn open_gaps(
     Ok(gaps)
 }
 
-/// Returns by how much each gap may grow, so that no translation and no text over the staff goes
-/// beyond the row.
+/// Returns the distance, at most `each`, by which each of the open `gaps` may grow, so that no
+/// translation and no text over the staff goes beyond a row of this `width`.
 fn most_of_gaps(
     parts: &[Measures<'_>],
     places: &[Distance],
@@ -87,7 +87,7 @@ fn most_of_gaps(
     most
 }
 
-/// Moves each place by `each` for each gap up to it.
+/// Moves each place by `each` for each open gap up to it.
 fn widen(places: &mut Vec<Distance>, gaps: &[bool], each: Distance) {
     let mut moved = Distance::ZERO;
     for at in 0..places.len() {
@@ -98,12 +98,12 @@ fn widen(places: &mut Vec<Distance>, gaps: &[bool], each: Distance) {
     }
 }
 
-/// Returns how many gaps are open.
+/// Returns the number of open gaps.
 fn count_open(gaps: &[bool]) -> i32 {
     i32::try_from(gaps.iter().filter(|gap| **gap).count()).unwrap_or(i32::MAX)
 }
 
-/// Returns those of `parts` up to the last one in which anything stands.
+/// Returns `parts` up to the last one that has notes or texts.
 fn seen_of<'a, 'b>(parts: &'b [Measures<'a>]) -> &'b [Measures<'a>] {
     let unseen = parts
         .iter()
@@ -114,8 +114,8 @@ fn seen_of<'a, 'b>(parts: &'b [Measures<'a>]) -> &'b [Measures<'a>] {
     parts.get(..count).unwrap_or(parts)
 }
 
-/// Spreads a row by `free` over its gaps up to the last part in which anything stands: over those
-/// between touching letters too if each is wide enough then for a hyphen.
+/// Spreads a row of this `width` by `free` over its open gaps up to the last part that has notes or
+/// texts: over those between touching letters too if each is then wide enough for a hyphen.
 pub(crate) fn spread(
     alloc: Global,
     parts: &[Measures<'_>],
@@ -156,8 +156,8 @@ fn hyphen<'a>(x: Distance) -> Sign<'a> {
     })
 }
 
-/// Adds a hyphen between the texts of one word, if these do not touch, and after a word that goes
-/// on in the next row.
+/// Adds a hyphen between the texts of one word, if these do not touch, and after a word that
+/// continues in the next row.
 pub(crate) fn put_hyphens<'a>(
     parts: &[Measures<'a>],
     places: &[Distance],

@@ -12,7 +12,7 @@ use gabc_pen::{
 };
 use std::alloc::{AllocError, Global};
 
-/// What a block is.
+/// The kind of a block.
 #[derive(Clone, Copy, Debug, PartialEq, Eq)]
 pub(crate) enum BlockKind {
     Neume { pitch: u8, anchor: Distance },
@@ -22,7 +22,7 @@ pub(crate) enum BlockKind {
     Custos,
 }
 
-/// A sheet: the part that is laid out, and those before it.
+/// A sheet: the part that is being laid out, and those that are done.
 #[derive(Debug, Drop)]
 pub(crate) struct Sheet<'a> {
     pub(crate) lines: i32,
@@ -32,15 +32,15 @@ pub(crate) struct Sheet<'a> {
     pub(crate) done: Vec<Measures<'a>>,
     pub(crate) part: Measures<'a>,
     notes: Vec<SnippetNote>,
-    /// How many notes stand before the next one with nothing else between.
+    /// The number of notes directly before the next one, with nothing else between.
     row: usize,
-    /// Where the last block begins, and the last one of the part that is done.
+    /// The left end of the last block begun, and the extent of the last block ended in this part.
     left: Distance,
     about: Option<Extent>,
-    /// What stands after the last block, and whether the score says so.
+    /// The space after the last block, and whether the score gives it.
     after: Distance,
     has_space: bool,
-    /// Where the notes of the last snippet began.
+    /// The left end of the last snippet of notes.
     snippet_left: Distance,
     /// The pitch of the last note, if the next one is fused to it.
     fused: Option<u8>,
@@ -48,7 +48,7 @@ pub(crate) struct Sheet<'a> {
     pub(crate) input: &'a str,
     /// The attributes within the neume that is being read, each with the number of its note.
     pub(crate) attributes: Vec<(usize, Attribute<'a>)>,
-    /// What a part may take of a row.
+    /// The width that a part may take of a row.
     pub(crate) room: Distance,
     /// The lines of a text that is wider, after the first one.
     pub(crate) further: Vec<WordLine<'a>>,
@@ -57,8 +57,9 @@ pub(crate) struct Sheet<'a> {
 }
 
 impl<'a> Sheet<'a> {
-    /// Returns an empty sheet for the score `input`, with staves of `lines` lines, of which a part
-    /// may take `room`, with NABC in these `hands`, and with the `marks` of its syllables.
+    /// Returns an empty sheet for the score `input` in this `language`, with staves of `lines`
+    /// lines, NABC in these `hands`, and the `marks` of its syllables. A part may take `room` of
+    /// the width of a row.
     pub(crate) fn new(
         alloc: Global,
         input: &'a str,
@@ -105,7 +106,7 @@ impl<'a> Sheet<'a> {
         self.attributes.clear();
     }
 
-    /// Returns where the next block begins.
+    /// Returns the left end of the next block.
     fn next_x(&self) -> Distance {
         self.part
             .notes
@@ -118,7 +119,7 @@ impl<'a> Sheet<'a> {
         self.row = 0;
     }
 
-    /// Begins a block where the last one ends.
+    /// Begins a block after the last one and the space after that.
     pub(crate) fn begin_block(&mut self) {
         self.left = self.next_x();
         self.pen.x = self.left;
@@ -127,7 +128,7 @@ impl<'a> Sheet<'a> {
         self.pen.drawn.clear();
     }
 
-    /// Takes the signs that the pen has drawn into the part.
+    /// Moves the signs that the pen has drawn into the part, and widens its bounds.
     pub(crate) fn take_signs(&mut self) -> Result<(), AllocError> {
         self.part
             .signs
@@ -158,7 +159,7 @@ impl<'a> Sheet<'a> {
         Ok(())
     }
 
-    /// Notes what a block from `left` to `right` is.
+    /// Records a block of this `kind` from `left` to `right` in the part.
     fn note_kind(&mut self, kind: BlockKind, left: Distance, right: Distance) {
         let is_begin = self.part.notes.is_none();
         self.part.wants_no_custos = kind == BlockKind::Custos;
@@ -179,8 +180,8 @@ impl<'a> Sheet<'a> {
         }
     }
 
-    /// Ends the neume that the pen has drawn from `left` on, and draws what stands around it.
-    /// `first` and `last` are the pitches of its first and its last note.
+    /// Ends the neume that the pen has drawn from `left` on, and draws the signs around it. `first`
+    /// and `last` are the pitches of its first and its last note.
     pub(crate) fn end_neume(
         &mut self,
         alloc: Global,
@@ -224,7 +225,8 @@ impl<'a> Sheet<'a> {
         )
     }
 
-    /// Notes the notes of a neume from `left` to `right`, for what depends on several neumes.
+    /// Records the notes of a neume from `left` to `right`, for the signs that depend on several
+    /// neumes.
     fn note_drawn(&mut self, left: Distance, right: Distance) -> Result<(), AllocError> {
         for drawn in &self.pen.drawn {
             self.row = self.row.saturating_add(1);
@@ -238,12 +240,13 @@ impl<'a> Sheet<'a> {
         Ok(())
     }
 
-    /// Notes that something stands after the notes over which no episema goes back.
+    /// Ends the notes that a later episema may cover: something else comes after them.
     pub(crate) fn end_row(&mut self) {
         self.row = 0;
     }
 
-    /// Makes room of this `distance` after the last block.
+    /// Adds a spacing of this `distance` after the last block, in place of the default space if it
+    /// is the first one there. Before all blocks it adds nothing.
     pub(crate) fn add_space(&mut self, distance: Distance) {
         if self.part.notes.is_some() {
             let before = if self.has_space {
@@ -279,7 +282,7 @@ impl<'a> Sheet<'a> {
         self.end_block(BlockKind::Alteration, right, spaces::AFTER_ALTERATION)
     }
 
-    /// Adds a bar that is spelled so.
+    /// Adds the bar of `node`, which is spelled `text`.
     pub(crate) fn add_bar(&mut self, node: Node, text: &str) -> Result<(), AllocError> {
         self.begin_block();
         let lines = self.lines;
@@ -302,7 +305,7 @@ impl<'a> Sheet<'a> {
         )
     }
 
-    /// Notes that the line ends after what stands there.
+    /// Records that the line ends after the part as `end` says, unless it has an end already.
     pub(crate) fn end_line(&mut self, end: LineEnd) {
         self.part.end = self.part.end.or(Some(end));
     }
@@ -312,7 +315,7 @@ impl<'a> Sheet<'a> {
         self.part.end.is_some()
     }
 
-    /// Draws what depends on several neumes.
+    /// Draws the signs that depend on several neumes.
     pub(crate) fn end_snippet(&mut self) -> Result<(), AllocError> {
         self.pen.top = Distance::ZERO;
         self.pen.bottom = Distance::ZERO;
@@ -322,7 +325,7 @@ impl<'a> Sheet<'a> {
         self.take_signs()
     }
 
-    /// Passes `node`, which is not kept: the text or the NABC that is being read goes on after it.
+    /// Skips `node`, which is not kept: the text or the NABC that is being read continues after it.
     fn pass_gap(&mut self, node: Node) -> Result<(), AllocError> {
         self.nabc.pass_gap(node)?;
         self.lettering.pass_gap(node)
@@ -334,7 +337,7 @@ impl<'a> Sheet<'a> {
         self.nabc.add(node, &mut part.signs, &mut part.nabc)
     }
 
-    /// Ends the NABC that is being read: the notes of the part are as wide as it at least.
+    /// Ends the NABC that is being read, and widens the notes of the part to its right end.
     fn end_nabc(&mut self) -> Result<(), AllocError> {
         let part = &mut self.part;
         if let Some(nabc) = self.nabc.end(&mut part.signs, &mut part.nabc)? {
@@ -377,7 +380,8 @@ impl<'a> Sheet<'a> {
         Ok(())
     }
 
-    /// Returns whether the part has no room for a neume of that many notes, or for another block.
+    /// Returns whether the part has no room for a neume of this number of `notes`, or for another
+    /// block if it is 0.
     pub(crate) fn is_full(&self, notes: i32) -> bool {
         let own = PUNCTUM.times(notes.max(1).min(64));
         self.part
@@ -443,7 +447,8 @@ impl<'a> Sheet<'a> {
         }
     }
 
-    /// Adds the custos of `node`; one that names no pitch has that of the next note.
+    /// Adds the custos of `node`: one that names no pitch has `next`, that of the next note, and is
+    /// left out if there is none.
     fn add_custos_of(&mut self, node: Node, next: Option<u8>) -> Result<(), AllocError> {
         let told = if node.a < 15 {
             Some((node.a % 16) as u8)
@@ -472,7 +477,7 @@ impl<'a> Sheet<'a> {
         Ok(())
     }
 
-    /// Puts the part to those that are done, and begins a further one of its syllable.
+    /// Moves the part to those that are done, and begins a further one of its syllable.
     pub(crate) fn push_part(&mut self, alloc: Global) -> Result<(), AllocError> {
         let mut next = Measures::new(alloc, self.part.place, false);
         std::mem::swap(&mut self.part, &mut next);

@@ -2,8 +2,8 @@
 
 use gabc_marks::{Distance, Extent, Level, Sign, Styles, Words, char_width, styled_width};
 
-/// Takes the first letter away from the sung text among `signs`, which goes as far as `text` says,
-/// and returns it, if the text begins with one.
+/// Removes the first letter from the sung text among `signs`, whose extent is `text`, and returns
+/// it, if the text begins with one. The extent shrinks by its width.
 pub fn take_letter<'a>(signs: &mut Vec<Sign<'a>>, text: &mut Option<Extent>) -> Option<&'a str> {
     for at in 0..signs.len() {
         if let Some(Sign::Words(words)) = signs.get(at).copied() {
@@ -25,8 +25,8 @@ pub fn take_letter<'a>(signs: &mut Vec<Sign<'a>>, text: &mut Option<Extent>) -> 
     None
 }
 
-/// Takes the first bytes, that many, and so much of the width away from `words`, which are the sign
-/// `at`; and these from `signs`, if nothing is left of them.
+/// Removes this number of first `bytes` and `taken` of the width from `words`, which are the sign
+/// `at`, or the whole sign from `signs` if no text is left.
 fn cut_words<'a>(
     signs: &mut Vec<Sign<'a>>,
     at: usize,
@@ -49,12 +49,12 @@ fn cut_words<'a>(
     }
 }
 
-/// Returns whether `sign` is words of the sung text.
+/// Returns whether `sign` is text that is sung.
 fn is_text(sign: Sign<'_>) -> bool {
     matches!(sign, Sign::Words(words) if words.level == Level::Text)
 }
 
-/// Returns the letter with which `text` begins, with the marks that stand on it.
+/// Returns the letter with which `text` begins, if it does, with its combining marks.
 fn first_letter(text: &str) -> Option<&str> {
     let mut length: usize = 0;
     for c in text.chars() {

@@ -14,24 +14,24 @@ const TWO_ROWS: Distance = Distance(9200);
 
 const ANNOTATION_SIZE: Distance = Distance(1200);
 
-/// How far below the lowest line of the first staff the annotations of a letter before two rows
-/// end.
+/// The height over which the annotations of a letter before two rows are written, as a distance
+/// below the lowest line of the first staff; their last line is `OVER_INITIAL` above it.
 const TOP_OF_TWO: Distance = Distance(-1800);
 
-/// An initial: how many rows it stands before, its letter, and the annotations over it, from the
-/// highest one down.
+/// An initial: the number of rows that it is before, its letter, and the annotations over it, from
+/// the highest one down.
 #[derive(Debug, Drop)]
 pub struct Initial<'a> {
     pub rows: usize,
     letter: &'a str,
     size: Distance,
     annotations: Vec<WordLine<'a>>,
-    /// What it takes of the width of its rows.
+    /// The width that it takes of its rows.
     pub room: Distance,
 }
 
-/// Returns before how many rows the initial of the score `input` stands, whose tree is `nodes`, by
-/// the header `initial-style`: one, unless it says 2, and none if it says 0.
+/// Returns the number of rows that the initial of the score `input` is before, whose tree is
+/// `nodes`, by the header `initial-style`: 0 or 2 if it says so, else 1.
 pub fn initial_rows(nodes: &[Node], input: &str) -> usize {
     match header(nodes, input, "initial-style") {
         "0" => 0,
@@ -40,8 +40,8 @@ pub fn initial_rows(nodes: &[Node], input: &str) -> usize {
     }
 }
 
-/// Returns a mode as it stands over an initial: a Roman number if it begins with a digit from 1 to
-/// 8, and what follows.
+/// Returns `mode` as it is written over an initial: the Roman number of a digit from 1 to 8 with
+/// which it begins, or nothing, and the rest of it.
 fn mode_of(mode: &str) -> (&'static str, &str) {
     let number = match mode.as_bytes().first() {
         Some(b'1') => "I",
@@ -68,7 +68,7 @@ fn add_modifier<'a>(value: &'a str, runs: &mut Vec<Run<'a>>) -> Result<(), Alloc
     add_runs(value, runs)
 }
 
-/// Returns the mode of the score, with its modifier and its differentia; nothing if it names none
+/// Returns the mode of the score, with its modifier and its differentia; no runs if it names none
 /// (GregorioRef, "Mode Headers").
 fn mode_runs<'a>(
     alloc: Global,
@@ -88,7 +88,7 @@ fn mode_runs<'a>(
     Ok(runs)
 }
 
-/// Adds `runs` to `lines` as one line, if it has letters.
+/// Adds `runs` to `lines` as one line, if there are any.
 fn push_line<'a>(
     alloc: Global,
     runs: &[Run<'a>],
@@ -121,7 +121,8 @@ fn annotations_of<'a>(
     Ok(lines)
 }
 
-/// Returns the capital of a single small letter; `letter` if it is none.
+/// Returns the capital of `letter` if it is a single small letter from a to z or from à to þ, œ or
+/// ǽ; else `letter` itself.
 fn capital_of(letter: &str) -> &str {
     let mut chars = letter.chars();
     let (Some(c), None) = (chars.next(), chars.next()) else {
@@ -144,7 +145,8 @@ fn capital_of(letter: &str) -> &str {
     capital.unwrap_or(letter)
 }
 
-/// Returns whether an accent stands over a capital.
+/// Returns whether `letter` may be higher than a plain capital: a capital of Latin-1 with an accent
+/// or a cedilla, `Ǽ`, or a letter with combining marks.
 fn has_accent(letter: &str) -> bool {
     let mut chars = letter.chars();
     match (chars.next(), chars.next()) {
@@ -157,8 +159,8 @@ fn has_accent(letter: &str) -> bool {
 }
 
 impl<'a> Initial<'a> {
-    /// Returns the initial of the score `input`, whose tree is `nodes`, before that many `rows`:
-    /// the capital of this `letter`, with which the score begins.
+    /// Returns the initial of the score `input`, whose tree is `nodes`, before this number of
+    /// `rows`: the capital of this `letter`, with which the score begins.
     pub fn of(
         alloc: Global,
         nodes: &[Node],
@@ -181,15 +183,15 @@ impl<'a> Initial<'a> {
         })
     }
 
-    /// Returns how high its letter is: a capital has 66 hundredths of its size, and an accent over
-    /// it 20 more.
+    /// Returns the height of its letter: a capital has 66 hundredths of its size, and an accent
+    /// over it 20 more.
     fn height(&self) -> Distance {
         let hundredths = if has_accent(self.letter) { 86 } else { 66 };
         self.size.share(100).times(hundredths)
     }
 
-    /// Adds to `signs` what of it stands in the row with this `number`, from 0, which is the last
-    /// one if `is_last`, and returns how high the row goes then, if it goes up to `top` without it.
+    /// Adds to `signs` what is drawn of it in the row with this `number`, from 0, which is the last
+    /// one if `is_last`, and returns the top of the row with it; `top` is the one without.
     pub fn stand_in(
         &self,
         number: usize,
@@ -222,7 +224,8 @@ impl<'a> Initial<'a> {
         Ok(high)
     }
 
-    /// Adds the annotations to `signs`, around `middle`, and returns how high they go.
+    /// Adds the annotations to `signs`, around `middle`, and returns the top of the highest one; 0
+    /// if there are none.
     fn put_annotations(
         &self,
         levels: Levels,

@@ -1,7 +1,7 @@
-//! Where the first vowel of a syllable stands, by the language of a score (GregorioRef, "Vowel
+//! Finds the first vowel of a syllable, by the language of a score (GregorioRef, "Vowel
 //! Detection").
 
-/// A language, as far as its vowels go. One that is not known has those of Latin.
+/// A language, by its vowels. One that is not known has those of Latin.
 #[derive(Clone, Copy, Debug, PartialEq, Eq)]
 pub enum Language {
     Latin,
@@ -58,7 +58,7 @@ impl Language {
     }
 }
 
-/// Returns a letter without its accent, as a small one.
+/// Returns the small letter of `c` without its accent.
 pub(crate) fn base_letter(c: char) -> char {
     match c {
         'À'..='Å' | 'à'..='å' | 'Ā' | 'ā' | 'Ă' | 'ă' | 'Ą' | 'ą' => 'a',
@@ -93,7 +93,8 @@ fn follows_q(letters: &[char], at: usize) -> bool {
         .is_some_and(|c| *c == 'q')
 }
 
-/// Returns whether the vowel `letters[at]` counts.
+/// Returns whether the vowel `letters[at]` counts: no consonant in Latin, and no u of qu in
+/// English.
 fn counts(letters: &[char], at: usize, language: Language) -> bool {
     match language {
         Language::Latin => !is_consonant(letters, at),
@@ -102,7 +103,7 @@ fn counts(letters: &[char], at: usize, language: Language) -> bool {
     }
 }
 
-/// Returns which of `letters` is the first vowel that counts.
+/// Returns the index of the first of `letters` that is a vowel and counts, if there is one.
 fn vowel_at(letters: &[char], language: Language) -> Option<usize> {
     for (at, c) in letters.iter().enumerate() {
         if language.has_vowel(*c) && counts(letters, at, language) {
@@ -112,7 +113,8 @@ fn vowel_at(letters: &[char], language: Language) -> Option<usize> {
     None
 }
 
-/// Returns where the vowel that begins at `at` ends: in English with the vowels after it.
+/// Returns the index after the vowel that begins at `at`: in English with the vowels directly after
+/// it.
 fn vowel_end(letters: &[char], at: usize, language: Language) -> usize {
     let mut end = at.saturating_add(1);
     if language != Language::English {
@@ -127,8 +129,8 @@ fn vowel_end(letters: &[char], at: usize, language: Language) -> usize {
     end
 }
 
-/// Returns which of `letters`, small and without accents, are the first vowel; all of them if none
-/// is.
+/// Returns the index of the first vowel of `letters`, which are small and without accents, and the
+/// index after it; those of all letters if none is a vowel.
 pub(crate) fn first_vowel(letters: &[char], language: Language) -> (usize, usize) {
     let late = || letters.iter().position(|c| language.has_late_vowel(*c));
     match vowel_at(letters, language).or_else(late) {

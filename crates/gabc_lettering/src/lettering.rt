@@ -13,18 +13,18 @@ const TRANSLATION_SIZE: Distance = Distance(1200);
 
 pub const ABOVE_SIZE: Distance = Distance(1100);
 
-/// What stands at the end of a text that is cut.
+/// The end of a text that is cut.
 const DOTS: &str = "…";
 
-/// A letter of the text: without its accent, and where it stands.
+/// The left and the right end of a letter, or of the centre.
 #[derive(Clone, Copy, Debug)]
 struct Letter {
     left: Distance,
     right: Distance,
 }
 
-/// Characters of a text that may be parted by what is not kept: the bytes from `at` up to `end` are
-/// still to be added, in these styles.
+/// Characters that are being read, and may be parted by what is not kept: the bytes from `at` up to
+/// `end` are still to be added, in these styles.
 #[derive(Clone, Copy, Debug)]
 struct Open {
     at: u32,
@@ -32,14 +32,14 @@ struct Open {
     styles: u16,
 }
 
-/// The text of a syllable from 0 on: its words, and where its centre is. Beside it its translation,
-/// and the texts over the staff.
+/// The text of a syllable from 0 on: its words, its letters without accents (`letters`), and its
+/// centre; its translation, and its texts over the staff.
 #[derive(Debug, Drop)]
 pub struct Lettering<'a> {
     words: Vec<Words<'a>>,
     letters: Vec<char>,
     places: Vec<Letter>,
-    /// Where its centre begins, if a brace says so, and the centre.
+    /// The left end of its centre, if a brace opens it, and the centre, if braces give it.
     opened: Option<Distance>,
     centre: Option<Letter>,
     pub(crate) width: Distance,
@@ -51,8 +51,8 @@ pub struct Lettering<'a> {
     open: Option<Open>,
 }
 
-/// Adds `text` to `signs`, cut to `room`, as a text beside the sung one is, and returns how wide it
-/// is.
+/// Adds `text` to `signs` in italics, cut with dots if it is wider than `room`, and returns its
+/// width.
 fn put_beside<'a>(
     text: &'a str,
     x: Distance,
@@ -99,7 +99,7 @@ pub(crate) fn styles_of(number: u16) -> Styles {
     }
 }
 
-/// Returns the text of the special character that `name` says; one that is not known is its own
+/// Returns the text of the special character with this `name`; one that is not known is its own
 /// name (GregorioRef, "Special Characters").
 fn special_text(name: &str) -> &str {
     match name {
@@ -116,14 +116,14 @@ fn special_text(name: &str) -> &str {
     }
 }
 
-/// Returns what stands between the tags of a raw part.
+/// Returns the text between the tags of a raw part.
 fn inner_of(text: &str) -> &str {
     let begun = text.split_once('>').map_or(text, |(_, inner)| inner);
     begun.rsplit_once('<').map_or(begun, |(inner, _)| inner)
 }
 
 impl<'a> Lettering<'a> {
-    /// Returns a text of no words, for the score `input`, which is in this `language`.
+    /// Returns an empty text for the score `input`, which is in this `language`.
     pub fn new(alloc: Global, input: &'a str, language: Language) -> Lettering<'a> {
         Lettering {
             input,
@@ -140,7 +140,7 @@ impl<'a> Lettering<'a> {
         }
     }
 
-    /// Forgets all words.
+    /// Removes all words, the translation and the texts over the staff.
     pub fn clear(&mut self) {
         self.words.clear();
         self.letters.clear();
@@ -208,7 +208,7 @@ impl<'a> Lettering<'a> {
         }
     }
 
-    /// Returns where the middle of its centre is: as braces say, else that of its first vowel.
+    /// Returns the middle of its centre: as braces give it, else of its first vowel.
     pub(crate) fn middle(&self) -> Distance {
         if let Some(centre) = self.centre {
             return (centre.left + centre.right).half();
@@ -234,7 +234,7 @@ impl<'a> Lettering<'a> {
         Ok(())
     }
 
-    /// Adds its translation to `signs`, from `x` on, cut to `room`, and returns where it ends, if
+    /// Adds its translation to `signs`, from `x` on, cut to `room`, and returns its right end, if
     /// it has one.
     pub(crate) fn put_translation(
         &self,
@@ -249,8 +249,8 @@ impl<'a> Lettering<'a> {
         Ok(Some(x + width))
     }
 
-    /// Adds its texts over the staff to `signs`, from `x` on, each cut to `room`, and returns where
-    /// they end, if it has any.
+    /// Adds its texts over the staff to `signs`, from `x` on, each cut to `room`, and returns their
+    /// right end, if it has any.
     pub(crate) fn put_above(
         &self,
         x: Distance,
@@ -265,7 +265,7 @@ impl<'a> Lettering<'a> {
         Ok(end)
     }
 
-    /// Adds what is left of the characters that are being read, up to the byte `end`.
+    /// Adds the rest of the characters that are being read, up to the byte `end`.
     fn add_open(&mut self, end: u32) -> Result<(), AllocError> {
         let Some(open) = self.open else {
             return Ok(());
@@ -281,7 +281,7 @@ impl<'a> Lettering<'a> {
         Ok(())
     }
 
-    /// Passes `node`, which is not kept: the characters that are being read go on after it.
+    /// Skips `node`, which is not kept: the characters that are being read continue after it.
     pub fn pass_gap(&mut self, node: Node) -> Result<(), AllocError> {
         self.add_open(node.begin)?;
         if let Some(open) = self.open {
@@ -293,7 +293,7 @@ impl<'a> Lettering<'a> {
         Ok(())
     }
 
-    /// Adds a node of the text.
+    /// Adds `node`, which is one of the text.
     pub fn add_node(&mut self, node: Node) -> Result<(), AllocError> {
         self.close()?;
         let text = text_between(self.input, node.begin, node.end);
@@ -333,7 +333,7 @@ impl<'a> Lettering<'a> {
         }
     }
 
-    /// Parts its words into lines no wider than `room`, and returns those after the first one.
+    /// Breaks its words into lines no wider than `room`, and returns those after the first one.
     pub(crate) fn cut(
         &mut self,
         alloc: Global,

@@ -1,9 +1,8 @@
 //! Writes the texts of a picture: from the nodes of a tree (`gabc_nodes`) to words (`gabc_marks`).
 //!
 //! The text of a syllable is read node by node ([`Lettering`]), and put so that its vowel
-//! (`language`) stands under the first note. The values of headers are runs of letters in one style
-//! (`runs`), of which the title and the initial are made. The codes of messages stand over the
-//! rows.
+//! (`language`) is under the first note. The values of headers are runs of letters in one style
+//! (`runs`), of which the title and the initial are made. The codes of messages are over the rows.
 #![tactic(auto)]
 
 mod first_letter;

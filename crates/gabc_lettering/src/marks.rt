@@ -5,7 +5,7 @@ use gabc_nodes::{Kind, Node};
 use gabc_places::{Code, Severity};
 use std::alloc::AllocError;
 
-/// A message that a picture shows: its code, and the byte of the score at which it stands, from 0.
+/// A message that a picture shows: its code, and the byte of the score at its place, from 0.
 #[derive(Clone, Copy, Debug, PartialEq, Eq)]
 pub struct Mark {
     pub at: u32,
@@ -13,19 +13,19 @@ pub struct Mark {
 }
 
 impl Mark {
-    /// Returns whether it belongs to no syllable, if the last one ends at the byte `end`: it stands
-    /// after that, or tells a fatal fault.
+    /// Returns whether it comes after all syllables, if the last one ends before the byte `end`:
+    /// its place is there or later, or it is a fatal fault.
     fn is_after(&self, end: u32) -> bool {
         end <= self.at || self.code.severity() == Severity::Fatal
     }
 }
 
-/// The size of a code, and how far one row of codes stands over the next one.
+/// The size of a code, and the distance between two rows of codes.
 const CODE_SIZE: Distance = Distance(900);
 
 const CODE_ROW: Distance = Distance(1050);
 
-/// What stands between two codes, and how far the first row stands over all else.
+/// The space between two codes, and that between the first row of codes and the signs below it.
 const BETWEEN: Distance = Distance(300);
 
 const OVER: Distance = Distance(250);
@@ -51,7 +51,7 @@ fn code_words<'a>(text: &'a str, x: Distance, y: Distance) -> Words<'a> {
     }
 }
 
-/// Returns how wide a code is, in letters that are broader than others.
+/// Returns the width of a code: three tenths more than in plain letters.
 fn code_width(text: &str) -> Distance {
     text_width(text, CODE_SIZE).times(13).share(10)
 }
@@ -64,7 +64,8 @@ pub struct Marks<'a> {
     pub after: &'a [Mark],
 }
 
-/// Returns where the first syllable of `nodes` begins, and where the last one ends.
+/// Returns the first byte of the first syllable of `nodes`, and the byte after the last one;
+/// `u32::MAX` and 0 if there is none.
 fn syllables_in(nodes: &[Node]) -> (u32, u32) {
     let mut begin = None;
     let mut end = 0;
@@ -78,8 +79,8 @@ fn syllables_in(nodes: &[Node]) -> (u32, u32) {
 }
 
 impl<'a> Marks<'a> {
-    /// Returns `marks`, which stand in the order of their places, parted by the syllables of
-    /// `nodes`. Of a fatal fault, and after it, none belongs to a syllable.
+    /// Returns `marks`, which are in the order of their places, parted by the syllables of `nodes`.
+    /// Of a fatal fault, and after it, none belongs to a syllable.
     pub fn of(marks: &'a [Mark], nodes: &[Node]) -> Marks<'a> {
         if marks.is_empty() {
             return Marks {
@@ -106,8 +107,8 @@ impl<'a> Marks<'a> {
     }
 }
 
-/// Adds marks that belong to no syllable to `signs`, below `y`, a line for each, and returns how
-/// far down they go.
+/// Adds marks that belong to no syllable to `signs`, below `y`, a line for each, and returns the
+/// place of the last line, or `y`.
 pub fn put_mark_lines(
     marks: &[Mark],
     y: Distance,
@@ -124,7 +125,8 @@ pub fn put_mark_lines(
     Ok(down)
 }
 
-/// The codes over a row as they are put: where each row of them ends, and how many rows there are.
+/// The codes that are put over a row: the right end of each row of them, and the number of these
+/// rows.
 #[derive(Clone, Copy, Debug)]
 pub struct CodeRows {
     ends: [Distance; MOST_ROWS],
@@ -132,7 +134,7 @@ pub struct CodeRows {
 }
 
 impl CodeRows {
-    /// Returns rows with no codes.
+    /// Returns no rows of codes.
     pub fn new() -> CodeRows {
         CodeRows {
             ends: [Distance::ZERO; MOST_ROWS],
@@ -140,13 +142,14 @@ impl CodeRows {
         }
     }
 
-    /// Returns the lowest row with room from `x` on, which is the last one if none has.
+    /// Returns the number of the lowest row with room from `x` on, or of the highest row if none
+    /// has room.
     fn row_for(&self, x: Distance) -> usize {
         let free = self.ends.iter().position(|end| *end <= x);
         free.unwrap_or(MOST_ROWS - 1)
     }
 
-    /// Returns how high the codes stand over the row.
+    /// Returns the height of all rows of codes.
     pub fn height(&self) -> Distance {
         CODE_ROW.times(i32::try_from(self.count).unwrap_or(0))
     }

@@ -22,14 +22,14 @@ pub(crate) struct Run<'a> {
     pub(crate) styles: Styles,
 }
 
-/// Words beside each other from 0 on, and how wide they are.
+/// Words beside each other from 0 on, and their width.
 #[derive(Debug, Drop)]
 pub struct WordLine<'a> {
     pub(crate) words: Vec<Words<'a>>,
     pub width: Distance,
 }
 
-/// At which side of its room a line stands.
+/// The side of its room at which a line is set.
 #[derive(Clone, Copy, Debug, PartialEq, Eq)]
 pub(crate) enum Side {
     Left,
@@ -37,8 +37,8 @@ pub(crate) enum Side {
     Right,
 }
 
-/// Returns how many bytes the tag of a style has with which `text` begins, and the number of the
-/// styles that are in force after it, if they were `styles` before.
+/// Returns the length in bytes of the tag of a style with which `text` begins, and the number of
+/// the styles in force after it, if they were `styles` before; nothing if it begins with none.
 fn tag_at(text: &str, styles: u16) -> Option<(usize, u16)> {
     let inner = text.strip_prefix('<')?;
     let (is_end, inner) = match inner.strip_prefix('/') {
@@ -58,7 +58,7 @@ fn tag_at(text: &str, styles: u16) -> Option<(usize, u16)> {
     None
 }
 
-/// Adds `text` to `runs`, if it has letters.
+/// Appends `text` to `runs`, if it is not empty.
 fn push_run<'a>(text: &'a str, styles: u16, runs: &mut Vec<Run<'a>>) -> Result<(), AllocError> {
     if !text.is_empty() {
         runs.push(Run {
@@ -69,7 +69,7 @@ fn push_run<'a>(text: &'a str, styles: u16, runs: &mut Vec<Run<'a>>) -> Result<(
     Ok(())
 }
 
-/// Adds the value of a header to `runs`.
+/// Appends the `value` of a header to `runs`, cut at the tags of styles.
 pub(crate) fn add_runs<'a>(value: &'a str, runs: &mut Vec<Run<'a>>) -> Result<(), AllocError> {
     let mut styles = 0;
     let mut begin: usize = 0;
@@ -90,14 +90,15 @@ pub(crate) fn add_runs<'a>(value: &'a str, runs: &mut Vec<Run<'a>>) -> Result<()
     push_run(value.get(begin..).unwrap_or(""), styles, runs)
 }
 
-/// How many bytes of a text fit into a room: up to a blank, and up to a character.
+/// The numbers of bytes of a text that fit into a room: up to the last blank after which a word
+/// does not fit, or all; and up to the last character.
 #[derive(Clone, Copy, Debug)]
 struct Fits {
     words: usize,
     letters: usize,
 }
 
-/// Returns how many bytes of `text` fit into `room` in type of this `size`.
+/// Returns the numbers of bytes of `text` that fit into `room` in type of this `size`.
 fn fitting(text: &str, size: Distance, styles: Styles, room: Distance) -> Fits {
     let mut width = Distance::ZERO;
     let mut fits = Fits {
@@ -165,7 +166,7 @@ impl<'a> WordLine<'a> {
         Ok(())
     }
 
-    /// Returns where the line begins at this `side` of a room of this `width`, which begins at
+    /// Returns the left end of the line at this `side` of a room of this `width`, which begins at
     /// `left`.
     pub(crate) fn x_at(&self, side: Side, left: Distance, width: Distance) -> Distance {
         let free = width - self.width;
@@ -177,8 +178,8 @@ impl<'a> WordLine<'a> {
     }
 }
 
-/// Returns where the line breaks in `text`: how many bytes stand before that, and whether the line
-/// is full then. A line that is empty takes at least a character.
+/// Returns the number of bytes of `text` before the break of its line, and whether the line is full
+/// then. A line that is empty takes at least a character.
 fn break_of(text: &str, fits: Fits, is_empty: bool) -> (usize, bool) {
     if 0 < fits.words {
         return (fits.words, fits.words < text.len());
@@ -192,8 +193,8 @@ fn break_of(text: &str, fits: Fits, is_empty: bool) -> (usize, bool) {
 }
 
 /// Adds as much of the begin of `text` to `lines` as fits into the last one, in type of this
-/// `size`, and begins a further one if that is full. Returns how many bytes are added, or are
-/// blanks at the end of a line.
+/// `size`, and begins a further one if that is full. Returns the number of bytes that are added, or
+/// are blanks at the end of a line.
 fn add_front<'a>(
     alloc: Global,
     text: &'a str,
@@ -239,8 +240,8 @@ fn add_run<'a>(
     Ok(())
 }
 
-/// Returns `runs` as lines of words in type of this `size`, broken at blanks if it can be, each
-/// no wider than `room`.
+/// Returns `runs` as lines of words in type of this `size`, broken at blanks if possible, each no
+/// wider than `room` or one character.
 pub(crate) fn lines_of<'a>(
     alloc: Global,
     runs: &[Run<'a>],

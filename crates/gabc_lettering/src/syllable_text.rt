@@ -6,8 +6,8 @@ use crate::runs::WordLine;
 use gabc_marks::{Distance, Extent, Sign};
 use std::alloc::{AllocError, Global};
 
-/// Where the texts of a syllable are to stand: where its notes begin, the middle of the first one
-/// or of a bar, if there is one, and what a part may take of a row.
+/// The place for the texts of a syllable: the left end of its notes, the middle of the first one or
+/// of a bar, if there is one, and the width that a part may take of a row.
 #[derive(Clone, Copy, Debug)]
 pub struct TextPlace {
     pub left: Distance,
@@ -15,20 +15,20 @@ pub struct TextPlace {
     pub room: Distance,
 }
 
-/// How far the texts of a syllable go, once they are put, and the lines of a sung text that is
-/// wider than a row, after the first one.
+/// The extents of the texts of a syllable that are put, and the lines after the first one of a sung
+/// text that is wider than a row.
 #[derive(Debug, Drop)]
 pub struct TextReach<'a> {
     pub text: Option<Extent>,
     pub translation: Option<Extent>,
-    /// Where the texts over the staff end.
+    /// The right end of the texts over the staff.
     pub above: Option<Distance>,
     pub further: Vec<WordLine<'a>>,
 }
 
 impl<'a> Lettering<'a> {
     /// Adds the text to `signs`, with its translation and the texts over the staff. Of a text that
-    /// is wider than a row the first line is put.
+    /// is wider than `place.room` only the first line is put.
     pub fn put(
         &mut self,
         alloc: Global,

@@ -1,5 +1,5 @@
-//! What stands over a score by its headers: its name, its commentary, and its annotations if no
-//! initial has them.
+//! Writes the headers over a score: its name, its commentary, and its annotations if no initial has
+//! them.
 
 use crate::runs::{Run, Side, add_runs, lines_of};
 use gabc_marks::{Distance, Level, Sign, Styles, spaces, text_between};
@@ -10,7 +10,7 @@ const NAME_SIZE: Distance = Distance(2000);
 
 const HEAD_SIZE: Distance = Distance(1200);
 
-/// What stands between two lines beside the size of their type.
+/// The space between two lines, beyond the size of their type.
 const BETWEEN_LINES: Distance = Distance(200);
 
 /// Returns the values of the headers `name` of the tree `nodes` of `input`, in their order, without
@@ -36,7 +36,8 @@ pub(crate) fn headers<'a>(
     Ok(values)
 }
 
-/// Returns the bytes of the value of the last header `name` of the tree `nodes` of `input`.
+/// Returns the bytes of the value of the last header `name` of the tree `nodes` of `input`: the
+/// first one and the one after the last; 0 and 0 if there is none.
 fn header_bytes(nodes: &[Node], input: &str, name: &str) -> (u32, u32) {
     let mut is_named = false;
     let mut found = (0, 0);
@@ -52,13 +53,13 @@ fn header_bytes(nodes: &[Node], input: &str, name: &str) -> (u32, u32) {
 }
 
 /// Returns the value of the last header `name` of the tree `nodes` of `input`, without blanks at
-/// its ends; nothing if there is none.
+/// its ends; empty if there is none.
 pub fn header<'a>(nodes: &[Node], input: &'a str, name: &str) -> &'a str {
     let (begin, end) = header_bytes(nodes, input, name);
     text_between(input, begin, end).trim()
 }
 
-/// Where lines stand: from `x` on, in a room of this `width`, in type of this `size`.
+/// The room of lines: from `x` on, of this `width`, at this `side` of it, in type of this `size`.
 #[derive(Clone, Copy, Debug)]
 struct Room {
     x: Distance,
@@ -67,7 +68,7 @@ struct Room {
     side: Side,
 }
 
-/// Adds `runs` to `signs`, below `y`, and returns how far down they go.
+/// Adds `runs` to `signs` in lines below `y`, and returns the place of the last line, or `y`.
 fn put_lines<'a>(
     alloc: Global,
     runs: &[Run<'a>],
@@ -103,7 +104,7 @@ fn joined_runs<'a>(alloc: Global, values: &[&'a str]) -> Result<Vec<Run<'a>>, Al
 }
 
 /// Adds the name of the score to `signs`, in the middle of a picture of this `width`, below `y`,
-/// and returns how far down it goes.
+/// and returns the place below it.
 fn put_name<'a>(
     alloc: Global,
     name: &'a str,
@@ -125,8 +126,8 @@ fn put_name<'a>(
     Ok(down + Distance(400))
 }
 
-/// Adds what stands over the score to `signs`, in a picture of this `width`, below `y`, and returns
-/// how far down that goes; `has_initial` says whether the annotations stand over an initial.
+/// Adds the headers over the score to `signs`, in a picture of this `width`, below `y`, and returns
+/// the place below them; `has_initial` says whether an initial has the annotations.
 pub fn put_title<'a>(
     alloc: Global,
     nodes: &[Node],

@@ -1,4 +1,4 @@
--- The notes that heads show, and where they stand.
+-- The notes that heads show, and their heights.
 use Rattle.std.specs.Prelude.{ℕ, ◌+◌, ◌-◌, ◌*◌, List, [], ◌∷◌, ◌++◌, map, cond, ℤ, pos, ◌-ℤ◌}
 use Rattle.std.specs.List.{flat_map}
 use Rattle.gabc_marks.specs.declared.head.Head.{Head}
@@ -8,7 +8,7 @@ use Rattle.gabc_marks.specs.declared.joined.Family.{Family}
 use Rattle.gabc_marks.specs.declared.joined.Family.TheVariants as family
 use Rattle.gabc_marks.specs.declared.picture.Part.{Part}
 
--- how far below the lowest line of its staff a note of this pitch stands, in thousandths of a
+-- the distance of a note of this pitch below the lowest line of its staff, in thousandths of a
 -- space: a pitch is half a space above the one below it, and the lowest line is that of d, 3
 abbrev pub height_at : ℕ → ℤ
 height_at pitch = pos 1500 -ℤ pos (500 * pitch)

@@ -16,12 +16,13 @@ impl Distance {
         Distance(self.0.saturating_mul(count))
     }
 
-    /// Returns half of the distance.
+    /// Returns half of the distance, rounded towards 0.
     pub fn half(self) -> Distance {
         Distance(self.0 / 2)
     }
 
-    /// Returns what each of `count` shares of the distance has; the whole if `count` is below 1.
+    /// Returns the distance divided by `count`, rounded towards 0; the whole distance if `count` is
+    /// below 1.
     pub fn share(self, count: i32) -> Distance {
         if 1 < count {
             Distance(self.0 / count)

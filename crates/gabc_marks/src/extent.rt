@@ -1,8 +1,8 @@
-//! From where to where something goes.
+//! Extents along one axis.
 
 use crate::distance::Distance;
 
-/// Where a text or a row of notes begins and ends.
+/// The left and the right end of a text or of a row of notes.
 #[derive(Clone, Copy, Debug)]
 pub struct Extent {
     pub left: Distance,
@@ -10,7 +10,7 @@ pub struct Extent {
 }
 
 impl Extent {
-    /// That of nothing.
+    /// The extent of nothing.
     pub const NONE: Extent = Extent {
         left: Distance::ZERO,
         right: Distance::ZERO,

@@ -23,7 +23,7 @@ pub struct NabcOutline {
     pub metrics: Metrics,
 }
 
-/// A row of a table of outlines: the name, how wide it is, and how far it goes up and down.
+/// A row of a table of outlines: the name, the width, and the reach up and down.
 pub(crate) type Row = (&'static str, i16, i16, i16);
 
 /// Returns the row with this `name` of `rows`, which are in the order of their names.

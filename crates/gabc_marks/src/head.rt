@@ -6,7 +6,7 @@ ghost use Rattle.gabc_marks.specs.Heads.{height_at};
 use crate::distance::Distance;
 use crate::joined::Joined;
 
-/// How wide an outline is, and how far it goes up and down from its origin.
+/// The width of an outline, and its reach up and down from its origin.
 #[derive(Clone, Copy, Debug, PartialEq, Eq)]
 pub struct Metrics {
     pub width: Distance,
@@ -52,7 +52,7 @@ pub enum Single {
 #[derive(Clone, Copy, Debug, PartialEq, Eq)]
 pub enum Head {
     Single(Single),
-    /// A broad stroke: two notes, of which the second is that many steps lower.
+    /// A broad stroke: two notes, the second this number of steps lower than the first.
     Stroke(u8),
     /// A neume that is one outline.
     Joined(Joined),
@@ -67,8 +67,8 @@ pub struct NoteHead {
     pub pitch: u8,
 }
 
-/// Returns how far below the lowest line of its staff a note of this `pitch` stands, from 0 for
-/// `a`.
+/// Returns the distance of a note of this `pitch`, from 0 for `a`, below the lowest line of its
+/// staff: negative for a note above that line.
 pub fn height_of(pitch: u8) -> Distance
     ensures { result.0 ≡ height_at pitch }
 {
@@ -76,7 +76,7 @@ pub fn height_of(pitch: u8) -> Distance
 }
 
 impl Metrics {
-    /// Returns metrics of these numbers.
+    /// Returns the metrics with these numbers, in thousandths of a staff space.
     pub(crate) fn new(width: i32, up: i32, down: i32) -> Metrics {
         Metrics {
             width: Distance(width),
@@ -85,7 +85,7 @@ impl Metrics {
         }
     }
 
-    /// Returns those of a broad stroke that falls by `steps` of the staff.
+    /// Returns the metrics of a broad stroke that falls by `steps` steps.
     fn of_stroke(steps: u8) -> Metrics {
         let steps = i32::from(steps);
         Metrics::new(1460 + 120 * steps, 340, 500 * steps + 340)
@@ -93,7 +93,7 @@ impl Metrics {
 }
 
 impl Single {
-    /// Returns how wide the outline is, and how far it goes up and down from its note.
+    /// Returns the width of the outline, and its reach up and down from its note.
     pub fn metrics(self) -> Metrics {
         match self {
             Single::Punctum => Metrics::new(526, 335, 335),
@@ -124,8 +124,8 @@ impl Single {
 }
 
 impl Head {
-    /// Returns how wide the outline is, and how far it goes up and down from its first note. Of a
-    /// neume that has no outline it returns those of a punctum.
+    /// Returns the width of the outline, and its reach up and down from its first note. Of a neume
+    /// without an outline it returns the metrics of a punctum.
     pub fn metrics(self) -> Metrics {
         match self {
             Head::Single(single) => single.metrics(),

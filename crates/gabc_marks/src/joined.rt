@@ -3,7 +3,7 @@
 use crate::head::Metrics;
 use crate::outlines::outline_of;
 
-/// Which notes a joined outline shows, and in which form (GregorioRef, "Neume Fusion").
+/// The neume that a joined outline shows, and its form (GregorioRef, "Neume Fusion").
 #[derive(Clone, Copy, Debug, PartialEq, Eq)]
 pub enum Family {
     Pes,
@@ -23,7 +23,7 @@ pub enum Family {
     PorrectusFlexus,
 }
 
-/// How the last note of a joined outline ends.
+/// The ending of the last note of a joined outline.
 #[derive(Clone, Copy, Debug, PartialEq, Eq)]
 pub enum Ending {
     Plain,
@@ -32,9 +32,8 @@ pub enum Ending {
     Descendens,
 }
 
-/// An outline of a neume: its family, by how many steps each note is higher or lower than the one
-/// before, whether it begins with an initio debilis, and how it ends. Steps that the family does
-/// not have are 0.
+/// An outline of a neume: its family, the steps between each note and the one before, whether it
+/// begins with an initio debilis, and its ending. Steps that the family does not have are 0.
 #[derive(Clone, Copy, Debug, PartialEq, Eq)]
 pub struct Joined {
     pub family: Family,
@@ -46,7 +45,7 @@ pub struct Joined {
 }
 
 impl Joined {
-    /// Returns the number by which the table of outlines has it.
+    /// Returns its number in the table of outlines.
     fn key(self) -> u16 {
         let family = (self.family as u16).saturating_mul(4096);
         let first = u16::from(self.first).saturating_mul(512);
@@ -58,8 +57,8 @@ impl Joined {
             .fold(family, |key, more| key.saturating_add(*more))
     }
 
-    /// Returns how wide its outline is and how far it goes up and down from its first note, if
-    /// there is an outline of it.
+    /// Returns the width of its outline and its reach up and down from its first note, if the table
+    /// has one.
     pub fn metrics(self) -> Option<Metrics> {
         if 7 < self.first || 7 < self.second || 7 < self.third {
             return None;

@@ -2,7 +2,7 @@
 
 use crate::hand::Row;
 
-/// How many outlines there are.
+/// The number of outlines.
 const COUNT: usize = 308;
 
 /// The outlines in the order of their names.

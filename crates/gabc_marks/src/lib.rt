@@ -1,10 +1,9 @@
-//! What stands in a picture of a score: a display list between the layout, which makes it
+//! The content of a picture of a score: a display list between the layout, which makes it
 //! (`gabc_draw`), and the text of the picture, which is written from it (`gabc_svg`).
 //!
-//! A [`Picture`] has rows, each with a staff, and parts of syllables, which stand in the rows one
-//! after the other. A part has the heads of its notes and whatever else belongs to it. Heights are
-//! relative to the lowest line of the staff and go down; all distances are whole numbers
-//! ([`Distance`]).
+//! A [`Picture`] has rows, each with a staff, and parts of syllables, one after the other in the
+//! rows. A part has the heads of its notes and its signs. Heights are relative to the lowest line
+//! of the staff and go down; all distances are whole numbers ([`Distance`]).
 #![tactic(auto)]
 
 mod distance;

@@ -2,11 +2,11 @@
 
 use crate::head::Metrics;
 
-/// How many outlines there are.
+/// The number of outlines.
 const COUNT: usize = 501;
 
-/// The outlines in the order of their numbers: the number of each, how wide it is, and how far it
-/// goes up and down.
+/// The outlines in the order of their numbers: the number of each, its width, and its reach up and
+/// down.
 #[rattlefmt::skip]
 static OUTLINES: [(u16, u16, u16, u16); COUNT] = [
     (512, 526, 890, 307), (513, 526, 754, 402), (516, 733, 833, 268), (517, 263, 754, 268),
@@ -173,7 +173,7 @@ static OUTLINES: [(u16, u16, u16, u16); COUNT] = [
     (59080, 2987, 383, 1832), (59088, 2930, 383, 1832), (59096, 2930, 383, 1838),
 ];
 
-/// Returns how wide the outline with this number is, and how far it goes, if there is one.
+/// Returns the width and the reach of the outline with this number, if there is one.
 pub(crate) fn outline_of(key: u16) -> Option<Metrics> {
     let at = OUTLINES.binary_search_by_key(&key, |row| row.0).ok()?;
     let (_, width, up, down) = *OUTLINES.get(at)?;

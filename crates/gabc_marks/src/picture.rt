@@ -4,8 +4,8 @@ use crate::distance::Distance;
 use crate::head::NoteHead;
 use crate::sign::Sign;
 
-/// A syllable, or what stands of it in one row. It was read from the bytes of the file from `begin`
-/// up to before `end`.
+/// A syllable, or the part of it in one row, with the bytes of its syllable in the file: from
+/// `begin` up to before `end`.
 #[derive(Debug, Drop)]
 pub struct Part<'a> {
     pub begin: u32,
@@ -14,13 +14,13 @@ pub struct Part<'a> {
     pub number: u32,
     /// Whether it is the first part of its syllable.
     pub is_first: bool,
-    /// Where it stands in its row: the places of its heads and signs count from here.
+    /// Its place in its row, from which the places of its heads and signs count.
     pub x: Distance,
     pub heads: Vec<NoteHead>,
     pub signs: Vec<Sign<'a>>,
 }
 
-/// How far below the lowest line of a staff its texts stand.
+/// The distances of the texts of a staff below its lowest line.
 #[derive(Clone, Copy, Debug, PartialEq, Eq)]
 pub struct Levels {
     pub text: Distance,
@@ -33,20 +33,22 @@ pub struct Levels {
     pub fourth: Distance,
 }
 
-/// A row of the picture: the lowest line of its staff begins at `x`, `y` from above. It has the
-/// next `parts` parts of the picture; the last row has all that are left.
+/// A row of the picture: the lowest line of its staff is `y` below the top of the picture, and its
+/// places count from `x`. It has the next `parts` parts of the picture; the last row has all that
+/// are left.
 #[derive(Debug, Drop)]
 pub struct Row<'a> {
     pub x: Distance,
     pub y: Distance,
     pub levels: Levels,
     pub parts: usize,
-    /// What belongs to no syllable: the staff, the clef at its begin, the custos at its end,
-    /// hyphens.
+    /// The signs that belong to no syllable: the staff, the clef at its begin, the custos at its
+    /// end, hyphens.
     pub signs: Vec<Sign<'a>>,
 }
 
-/// A picture: its size, what stands over the score, its rows, and the parts in them.
+/// A picture: its size, the signs over and below the score (`title`), its rows, and the parts in
+/// them.
 #[derive(Debug, Drop)]
 pub struct Picture<'a> {
     pub width: Distance,

@@ -1,12 +1,12 @@
-//! Whatever is drawn and is no head of a note.
+//! The signs of a picture: whatever is drawn besides the heads of notes.
 
 use crate::distance::Distance;
 use crate::hand::NabcOutline;
 use crate::symbol::Symbol;
 use crate::words::{NabcLine, Words};
 
-/// A bow that begins at this place: a quadratic curve that bends towards a point, and ends at
-/// another one, both told from where it begins.
+/// A bow: a quadratic curve that begins at `x` and `y`. The point towards which it bends and the
+/// point at which it ends count from there.
 #[derive(Clone, Copy, Debug, PartialEq, Eq)]
 pub struct Bow {
     pub x: Distance,
@@ -17,7 +17,7 @@ pub struct Bow {
     pub to_y: Distance,
 }
 
-/// Something that is drawn beside the heads.
+/// A sign of a picture.
 #[derive(Clone, Copy, Debug)]
 pub enum Sign<'a> {
     /// An outline with its origin at this place.
@@ -26,8 +26,8 @@ pub enum Sign<'a> {
         x: Distance,
         y: Distance,
     },
-    /// A black rectangle, of which this place is the left end of its top: a stem, a bar, an
-    /// episema, a ledger line.
+    /// A black rectangle with its upper left corner at this place: a stem, a bar, an episema, a
+    /// ledger line.
     Rect {
         x: Distance,
         y: Distance,
@@ -41,7 +41,7 @@ pub enum Sign<'a> {
         width: Distance,
     },
     Words(Words<'a>),
-    /// An outline of NABC with its origin at `x`, so far below its line.
+    /// An outline of NABC with its origin at `x`, and `y` below its line.
     Nabc {
         outline: NabcOutline,
         line: NabcLine,
@@ -50,8 +50,8 @@ pub enum Sign<'a> {
     },
     /// A piece of a slur or of a brace.
     Bow(Bow),
-    /// A field around what a message is about, of which this place is the left end of its top:
-    /// `is_warning` says whether it is a warning.
+    /// A field around the subject of a message, with its upper left corner at this place;
+    /// `is_warning` says whether the message is a warning.
     Field {
         x: Distance,
         y: Distance,

@@ -1,5 +1,5 @@
-//! The spaces of a picture, each with its name, in thousandths of a staff space. What GregorioTeX
-//! has a dimension for stands beside it.
+//! The spaces of a picture, each with its name, in thousandths of a staff space. In brackets are
+//! the dimensions of GregorioTeX, if it has any.
 
 use crate::distance::Distance;
 
@@ -12,9 +12,9 @@ pub const BETWEEN_WORDS: Distance = Distance(550);
 pub const BETWEEN_NOTES_OF_WORDS: Distance = Distance(900);
 
 pub const BETWEEN_NOTES: Distance = Distance(600);
-/// Between the neumes of a syllable: after what no spacing follows, by `/`, `//`, `/0`, `/!`, and
-/// by a blank, which `/[..]` takes as its unit (interglyphspace, interelementspace, largerspace,
-/// halfspace, glyphspace).
+/// Between the neumes of a syllable: without a spacing, by `/`, `//`, `/0`, `/!`, and by a blank,
+/// which `/[..]` takes as its unit (interglyphspace, interelementspace, largerspace, halfspace,
+/// glyphspace).
 pub const AFTER_NEUME: Distance = Distance(220);
 
 pub const SMALL: Distance = Distance(450);
@@ -26,7 +26,8 @@ pub const HALF: Distance = Distance(120);
 pub const TINY: Distance = Distance(60);
 
 pub const LARGE: Distance = Distance(1000);
-/// After what is no neume (spaceafterlineclef, spacearounddivisio, alterationspace).
+/// After an alteration, a clef, a bar and a custos (spaceafterlineclef, spacearounddivisio,
+/// alterationspace).
 pub const AFTER_ALTERATION: Distance = Distance(180);
 
 pub const AFTER_CLEF: Distance = Distance(700);
@@ -47,7 +48,7 @@ pub const LETTERS_TOUCH: Distance = Distance(80);
 pub const AROUND_HYPHEN: Distance = Distance(200);
 /// Between two translations.
 pub const BETWEEN_TRANSLATIONS: Distance = Distance(600);
-/// What a custos at a line's end takes, and how far it stands from the end of the staff.
+/// The width that a custos takes at a line's end, and its distance from the end of the staff.
 pub const CUSTOS: Distance = Distance(900);
 
 pub const CUSTOS_TO_END: Distance = Distance(50);
@@ -57,7 +58,8 @@ pub const AFTER_LINE_CLEF: Distance = Distance(800);
 pub const AFTER_INITIAL: Distance = Distance(600);
 
 pub const OVER_INITIAL: Distance = Distance(500);
-/// From the lowest line of the staff to the text, and from what stands below the staff.
+/// From the lowest line of the staff to the text at the least; from the lowest sign to the text;
+/// and from the text, or the lowest sign if there is no text, to the end of the row.
 pub const TO_TEXT: Distance = Distance(1800);
 
 pub const BELOW_SIGNS: Distance = Distance(1400);

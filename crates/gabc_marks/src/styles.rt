@@ -1,6 +1,6 @@
 //! The styles of a text.
 
-/// How letters look: the styles of GABC, and italics for what is no sung text.
+/// The look of letters: the styles of GABC. Texts that are not sung are italic.
 #[derive(Clone, Copy, Debug, PartialEq, Eq)]
 pub struct Styles {
     pub bold: bool,

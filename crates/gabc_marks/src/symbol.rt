@@ -1,4 +1,4 @@
-//! What stands on a staff and is no note.
+//! The outlines of a staff that are no heads of notes.
 
 use crate::head::Metrics;
 
@@ -29,7 +29,7 @@ pub enum Symbol {
 }
 
 impl Symbol {
-    /// Returns how wide the outline is, and how far it goes up and down from its origin.
+    /// Returns the width of the outline, and its reach up and down from its origin.
     pub fn metrics(self) -> Metrics {
         let (width, up, down) = match self {
             Symbol::CClef => (526, 858, 858),

@@ -1,9 +1,9 @@
 //! The table of widths of letters. The numbers are the advance widths of Linux Libertine O Regular
 //! 5.3.0 (Debian: fonts-linuxlibertine), in thousandths of the size of the type. The face is free,
-//! under the SIL Open Font License 1.1 and the GPL with the font exception. No outline of it stands
-//! here.
+//! under the SIL Open Font License 1.1 and the GPL with the font exception. No outline of it is
+//! copied here.
 
-/// How many characters the table has.
+/// The number of characters in the table.
 const COUNT: usize = 331;
 
 /// Characters in order, each with its width.

@@ -1,5 +1,4 @@
-//! How wide texts are: by a table of widths of one face, so that a picture needs no font to be laid
-//! out.
+//! The widths of texts, by a table of one face: a picture is laid out without a font.
 
 use crate::distance::Distance;
 use crate::styles::Styles;
@@ -12,18 +11,17 @@ const USUAL: u32 = 500;
 
 const WIDE: u32 = 1000;
 
-/// How wide each letter of a typewriter is.
+/// The width of each letter of a typewriter, in thousandths of the size of the type.
 const TYPEWRITER: u32 = 602;
 
-/// Returns how wide the table says that `c` is.
+/// Returns the width of `c` in the table, if it is there.
 fn known_width(c: char) -> Option<u32> {
     let character = u16::try_from(c as u32).ok()?;
     let at = WIDTHS.binary_search_by_key(&character, |row| row.0).ok()?;
     Some(u32::from(WIDTHS.get(at)?.1))
 }
 
-/// Returns how wide `c` is, in thousandths of the size of the type. A mark that stands on the
-/// letter before it takes no room.
+/// Returns the width of `c` in thousandths of the size of the type: 0 for a combining mark.
 pub fn char_width(c: char) -> u32 {
     if let Some(width) = known_width(c) {
         return width;
@@ -35,7 +33,8 @@ pub fn char_width(c: char) -> u32 {
     }
 }
 
-/// Returns the capital of a letter, of which there is only one if it is in Latin-1.
+/// Returns the capital of a small letter from a to z or from à to þ, of œ and of ǽ; any other
+/// character is returned unchanged.
 fn capital_of(c: char) -> char {
     match c {
         'à'..='ö' | 'ø'..='þ' => char::from_u32((c as u32).saturating_sub(32)).unwrap_or(c),
@@ -56,8 +55,8 @@ fn small_capital_width(c: char) -> u32 {
     }
 }
 
-/// Returns `thousandths` of `size`, rounded to the nearest number: what is cut down would add up
-/// over the texts of a row.
+/// Returns `thousandths` of `size`, rounded to the nearest number: errors of rounding down would
+/// add up over the texts of a row.
 fn part_of(size: Distance, thousandths: u32) -> Distance {
     let width = i64::from(thousandths).saturating_mul(i64::from(size.0));
     Distance(i32::try_from(width.saturating_add(500) / 1000).unwrap_or(i32::MAX))

@@ -12,7 +12,7 @@ pub enum NabcLine {
     Fourth,
 }
 
-/// On which line of its row a text stands.
+/// The line of its row that a text is on.
 #[derive(Clone, Copy, Debug, PartialEq, Eq)]
 pub enum Level {
     /// The sung text.
@@ -22,7 +22,7 @@ pub enum Level {
     /// Texts over the staff.
     Above,
     Nabc(NabcLine),
-    /// That far below the lowest line of the staff.
+    /// This distance below the lowest line of the staff.
     At(Distance),
 }
 
@@ -37,8 +37,8 @@ pub struct Words<'a> {
     pub styles: Styles,
 }
 
-/// Returns the text of the bytes from `begin` up to `end` of `input`; nothing if they are not
-/// there.
+/// Returns the text of the bytes from `begin` up to `end` of `input`; empty if they are not whole
+/// characters of it.
 pub fn text_between<'a>(input: &'a str, begin: u32, end: u32) -> &'a str {
     input.get(begin as usize..end as usize).unwrap_or("")
 }

@@ -1,6 +1,6 @@
-//! What a node of a tree is.
+//! The kinds of the nodes of a tree.
 
-/// What a node is. The number of a kind stays as it is.
+/// The kind of a node. The number of a kind never changes.
 #[derive(Clone, Copy, Debug, PartialEq, Eq)]
 pub enum Kind {
     /// The whole input.
@@ -37,7 +37,7 @@ pub enum Kind {
     Brace,
     /// A translation with its brackets.
     Translation,
-    /// What stands between two of the marks `(`, `|` and `)`: GABC or a line of NABC.
+    /// The notes between two of the marks `(`, `|` and `)`: GABC or a line of NABC.
     Snippet,
     /// A neume of one or more notes.
     Glyph,
@@ -77,7 +77,7 @@ pub enum Kind {
     FurtherBlank,
     /// A U+FEFF, or the LF directly after a CR.
     Silent,
-    /// What is not read after a fatal fault.
+    /// The rest of the input, not read after a fatal fault.
     Unread,
 }
 
@@ -85,7 +85,7 @@ impl Kind {
     ghost use Rattle.std.specs.Prelude.{◌≡◌};
     ghost use Rattle.gabc_nodes.specs.Kind.{number_of};
 
-    /// Returns its number, which stays as it is: 0 for `File`, 1 for `Header` and so on.
+    /// Returns its number, which never changes: 0 for `File`, 1 for `Header` and so on.
     pub fn number(self) -> u16
         ensures { result ≡ number_of self }
     {

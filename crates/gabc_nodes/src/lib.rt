@@ -1,6 +1,6 @@
-//! The nodes of a tree: what `gabc_tree` makes of a score, and the crates that draw go over.
+//! The nodes of a tree, which `gabc_tree` makes of a score, and which the crates that draw read.
 //!
-//! A [`Node`] has its bytes, and says by a [`Kind`] and three numbers what it is.
+//! A [`Node`] has its bytes, a [`Kind`], and three numbers whose meaning depends on the kind.
 #![tactic(auto)]
 
 mod kind;

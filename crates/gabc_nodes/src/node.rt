@@ -2,8 +2,8 @@
 
 use crate::kind::Kind;
 
-/// A node: its bytes, how many nodes lie in it, what it is, and what its kind says of it in
-/// numbers.
+/// A node: its bytes, the number of nodes that lie in it, its kind, and three numbers whose meaning
+/// depends on the kind.
 ///
 /// Those of its bytes that lie in no node inside it are its own. In a tree `begin` and `end` count
 /// bytes of the input, from 0. While a tree is built they count bytes of a kept text.
@@ -13,15 +13,15 @@ pub struct Node {
     pub begin: u32,
     /// The byte after its last one.
     pub end: u32,
-    /// How many nodes lie in it. They stand directly after it.
+    /// The number of nodes that lie in it. They come directly after it.
     pub inner: u32,
-    /// What it is.
+    /// Its kind.
     pub kind: Kind,
-    /// The first number that its kind says.
+    /// The first of its numbers.
     pub a: u16,
-    /// The second.
+    /// The second one.
     pub b: u16,
-    /// The third.
+    /// The third one.
     pub c: u16,
 }
 
@@ -29,8 +29,8 @@ impl Node {
     ghost use Rattle.std.specs.Prelude.{◌≡◌};
     ghost use Rattle.gabc_nodes.specs.Node.{leaf};
 
-    /// Returns a node of the bytes from `begin` up to before `end`, in which no other lies, and of
-    /// which its `kind` says `number`.
+    /// Returns a node of this `kind` with the bytes from `begin` up to before `end`, in which no
+    /// other lies. Its first number is `number`, and the others are 0.
     pub fn leaf(kind: Kind, number: u16, begin: u32, end: u32) -> Node
         ensures { result ≡ leaf kind number begin end }
     {

@@ -4,8 +4,8 @@ use Rattle.std.specs.List.{flat_map}
 use Rattle.gabc_pen.specs.declared.note.Note.{Note}
 use Rattle.gabc_pen.specs.declared.plan.Planned.{Planned}
 
--- how often a note with the shape of this number sounds: bivirga and distropha twice, trivirga and
--- tristropha three times
+-- the number of times that a note with the shape of this number sounds: bivirga and distropha
+-- twice, trivirga and tristropha three times
 abbrev pub times_of_shape : ℕ → ℕ
 times_of_shape shape = cond (shape == 3 || shape == 7) 2 (cond (shape == 4 || shape == 8) 3 1)
 

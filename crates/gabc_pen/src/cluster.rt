@@ -5,10 +5,10 @@ use crate::nabc_rows::Reach;
 use gabc_marks::{Distance, Hand, Metrics, NabcOutline};
 use std::alloc::{AllocError, Global};
 
-/// What stands between two outlines.
+/// The space between two outlines.
 pub(crate) const BETWEEN: Distance = Distance(90);
 
-/// An outline at its place: its origin is so far below the line.
+/// An outline at its place: its origin is at `x`, and `y` below the line.
 #[derive(Clone, Copy, Debug)]
 pub(crate) struct Placed {
     pub(crate) outline: NabcOutline,
@@ -16,7 +16,7 @@ pub(crate) struct Placed {
     pub(crate) y: Distance,
 }
 
-/// How far the ink of outlines goes.
+/// The bounds of the ink of outlines.
 #[derive(Clone, Copy, Debug)]
 struct Ink {
     left: Distance,
@@ -26,7 +26,7 @@ struct Ink {
 }
 
 impl Ink {
-    /// Returns that of no outline.
+    /// The bounds of no outline.
     const NONE: Ink = Ink {
         left: Distance::ZERO,
         right: Distance::ZERO,
@@ -34,7 +34,7 @@ impl Ink {
         bottom: Distance::ZERO,
     };
 
-    /// Returns that of one outline.
+    /// Returns the bounds of one outline.
     fn of(placed: Placed) -> Ink {
         let metrics = placed.outline.metrics;
         Ink {
@@ -45,7 +45,7 @@ impl Ink {
         }
     }
 
-    /// Returns that of both together.
+    /// Returns the bounds of both together.
     fn join(self, other: Ink) -> Ink {
         Ink {
             left: self.left.min(other.left),
@@ -55,9 +55,9 @@ impl Ink {
         }
     }
 
-    /// Returns where letters of these metrics begin around the ink, and how far below the line.
-    /// Places count from 1 in rows of three, from the left upper corner on; `further` is what other
-    /// letters take there.
+    /// Returns the left end of letters with these `metrics` at this `place` around the ink, and
+    /// their distance below the line. Places count from 1 in rows of three, from the left upper
+    /// corner on; `further` is the width that other letters take there.
     fn place(self, metrics: Metrics, place: u16, further: Distance) -> (Distance, Distance) {
         let column = place.saturating_sub(1) % 3;
         let is_middle = column == 1;
@@ -77,8 +77,7 @@ impl Ink {
     }
 }
 
-/// Outlines around each other. `row` is the ink of those that stand beside each other, `ink` that
-/// of all.
+/// Outlines around each other: `row` bounds those beside each other, and `ink` all of them.
 #[derive(Debug, Drop)]
 pub(crate) struct Cluster {
     pub(crate) placed: Vec<Placed>,
@@ -87,7 +86,7 @@ pub(crate) struct Cluster {
 }
 
 impl Cluster {
-    /// Returns no outlines.
+    /// Returns a cluster without outlines.
     pub(crate) fn new(alloc: Global) -> Cluster {
         Cluster {
             placed: Vec::new(alloc),
@@ -96,7 +95,7 @@ impl Cluster {
         }
     }
 
-    /// Forgets all outlines.
+    /// Removes all outlines.
     pub(crate) fn clear(&mut self) {
         self.placed.clear();
         self.row = Ink::NONE;
@@ -115,8 +114,8 @@ impl Cluster {
         Ok(())
     }
 
-    /// Adds the outline that `hand` has by this `name` at the right of the others, `rise` over the
-    /// line, and returns whether it has one. Of no name there is nothing to add.
+    /// Adds the outline of `hand` with this `name` at the right of the others, `rise` over the
+    /// line, and returns whether `hand` has it. An empty `name` adds nothing and returns true.
     pub(crate) fn append(
         &mut self,
         hand: Hand,
@@ -143,8 +142,8 @@ impl Cluster {
         Ok(true)
     }
 
-    /// Adds letters at this `place` around those that stand beside each other. `further` is what
-    /// other letters take there.
+    /// Adds letters at this `place` around the outlines beside each other. `further` is the width
+    /// that other letters take there.
     pub(crate) fn surround(
         &mut self,
         outline: NabcOutline,
@@ -155,17 +154,17 @@ impl Cluster {
         self.push(Placed { outline, x, y })
     }
 
-    /// Returns where its ink begins.
+    /// Returns the left end of its ink.
     pub(crate) fn left(&self) -> Distance {
         self.ink.left
     }
 
-    /// Returns how wide its ink is.
+    /// Returns the width of its ink.
     pub(crate) fn width(&self) -> Distance {
         self.ink.right - self.ink.left
     }
 
-    /// Returns how high and how deep its ink goes.
+    /// Returns the reach of its ink, from the line on.
     pub(crate) fn reach(&self) -> Reach {
         Reach {
             up: -self.ink.top,

@@ -3,7 +3,7 @@
 use gabc_marks::{Bow, Distance, Sign};
 use std::alloc::AllocError;
 
-/// How high a curve is that goes from one place of the score to another one.
+/// The height of a curve whose begin and end the score gives apart.
 const HEIGHT: Distance = Distance(500);
 
 /// The least width of a curve.
@@ -19,7 +19,7 @@ pub enum CurveKind {
     Accented,
 }
 
-/// Whether a curve is told by its width, or is one of its ends.
+/// The role of a curve: a whole one with a width, or the begin or the end of one.
 #[derive(Clone, Copy, Debug, PartialEq, Eq)]
 pub enum CurveRole {
     Whole,
@@ -39,8 +39,8 @@ pub struct Curve {
     pub height: Distance,
 }
 
-/// Returns a bow from a place to another one, both told from the begin of `curve`, which bends
-/// towards a third one, told from where it begins.
+/// Returns a bow that begins at `from`, counted from the begin of `curve`; the point `bend` towards
+/// which it bends, and its end `to`, count from the begin of the bow.
 fn bow(
     curve: Curve,
     from: (Distance, Distance),
@@ -58,7 +58,7 @@ fn bow(
 }
 
 impl Curve {
-    /// Returns how far down its middle lies from its ends: upwards if it stands over the notes.
+    /// Returns the distance of its middle below its ends: negative for a curve over the notes.
     fn depth(self) -> Distance {
         if self.is_over {
             -self.height
@@ -107,7 +107,7 @@ impl Curve {
         Ok(())
     }
 
-    /// Draws it.
+    /// Draws it into `signs` in its form.
     fn put(self, signs: &mut Vec<Sign<'_>>) -> Result<(), AllocError> {
         match self.kind {
             CurveKind::Slur | CurveKind::Round => self.put_round(signs),
@@ -119,7 +119,8 @@ impl Curve {
         }
     }
 
-    /// Returns the number of those that it may be the end of: by its form and its side.
+    /// Returns the number of its form and its side, from 0 to 7: an end belongs to the begin with
+    /// the same number.
     fn number(self) -> usize {
         let form = match self.kind {
             CurveKind::Slur => 0,
@@ -130,7 +131,7 @@ impl Curve {
         if self.is_over { form + 1 } else { form }
     }
 
-    /// Returns the curve from `begin` up to this end.
+    /// Returns the whole curve from `begin` up to this end.
     fn from(self, begin: Curve) -> Curve {
         let y = if self.is_over {
             begin.y.min(self.y)
@@ -148,8 +149,8 @@ impl Curve {
     }
 }
 
-/// The curves of a row as they are drawn: those that are begun, by their numbers, and how high and
-/// how deep they go.
+/// The curves of a row while they are drawn: those that are begun, by their numbers, and the
+/// highest and the lowest place that any reaches.
 #[derive(Clone, Copy, Debug)]
 pub struct Curves {
     begun: [Option<Curve>; 8],
@@ -158,7 +159,7 @@ pub struct Curves {
 }
 
 impl Curves {
-    /// Returns those of a row of which nothing is drawn.
+    /// Returns the curves of a row before any is drawn.
     pub fn new() -> Curves {
         Curves {
             begun: [None; 8],
@@ -177,8 +178,9 @@ impl Curves {
         curve.put(signs)
     }
 
-    /// Goes past `curve`, in a row of this `width`, beyond which none goes. One that begins or ends
-    /// in another row is left out.
+    /// Takes `curve` of a row of this `width`: draws a whole one, no wider than the rest of the row
+    /// or `LEAST`, keeps a begin, and draws the curve that an end closes. One that begins or ends
+    /// in another row is not drawn.
     fn pass(
         &mut self,
         curve: Curve,

@@ -4,7 +4,7 @@ use crate::cluster::{BETWEEN, Cluster};
 use gabc_marks::{Distance, Hand, NabcOutline};
 use std::alloc::{AllocError, Global};
 
-/// How much higher a neume is drawn for each pitch, and the pitch of one that names none, `f`.
+/// The rise of a neume for each step of its pitch, and the default pitch: 5, of `f`.
 const RISE: Distance = Distance(90);
 
 const USUAL_PITCH: i32 = 5;
@@ -40,11 +40,11 @@ pub(crate) struct Descriptor {
     rise: Distance,
     /// Whether the hand lacks some of its letters.
     lacks_letters: bool,
-    /// A name that is looked for.
+    /// The name that is being looked up.
     name: String,
 }
 
-/// Adds points to their name: their letter, if they have one, and their number.
+/// Appends points to `name`: their `kind`, their letter, if they have one, and their `count`.
 fn push_points(kind: &str, letter: u16, count: u16, name: &mut String) -> Result<(), AllocError> {
     name.push_str(kind)?;
     if let Ok(letter @ b'a'..=b'z') = u8::try_from(letter) {
@@ -57,7 +57,7 @@ fn push_points(kind: &str, letter: u16, count: u16, name: &mut String) -> Result
 }
 
 impl Descriptor {
-    /// Returns a descriptor of nothing, in the hand of St. Gall.
+    /// Returns an empty descriptor in the hand of St. Gall.
     pub(crate) fn new(alloc: Global) -> Descriptor {
         Descriptor {
             hand: Hand::StGall,
@@ -71,7 +71,7 @@ impl Descriptor {
         }
     }
 
-    /// Forgets all its parts.
+    /// Removes all its parts; its hand stays.
     pub(crate) fn clear(&mut self) {
         self.glyphs.clear();
         self.before.clear();
@@ -81,8 +81,8 @@ impl Descriptor {
         self.lacks_letters = false;
     }
 
-    /// Adds the glyph that is spelled so, whose `pitch` is 1 plus a height, or 0: that of the first
-    /// one counts.
+    /// Adds a glyph with this `spelling`. Its `pitch` is 1 plus a height, or 0 for the default;
+    /// only that of the first glyph counts.
     pub(crate) fn add_glyph(&mut self, spelling: &str, pitch: u16) -> Result<(), AllocError> {
         if self.glyphs.is_empty() {
             let steps = match pitch {
@@ -105,7 +105,7 @@ impl Descriptor {
         }
     }
 
-    /// Adds points: before the glyphs, or after them.
+    /// Adds `count` points with this `letter`: before the glyphs if `is_before`, else after them.
     pub(crate) fn add_points(
         &mut self,
         is_before: bool,
@@ -119,7 +119,7 @@ impl Descriptor {
         }
     }
 
-    /// Adds the letters that are spelled so, at this `place`.
+    /// Adds letters with this `spelling` at this `place`, or records that the hand lacks them.
     pub(crate) fn add_letters(&mut self, spelling: &str, place: u16) -> Result<(), AllocError> {
         self.name.clear();
         for c in spelling.chars() {
@@ -136,8 +136,9 @@ impl Descriptor {
         Ok(())
     }
 
-    /// Puts its glyphs and points beside each other into `cluster`, with points as part of the
-    /// outline of the glyphs if this is so asked, and returns whether the hand has all of them.
+    /// Puts its glyphs and points beside each other into `cluster`, and returns whether the hand
+    /// has all of them. The points before the glyphs are part of their outline if `with_before`,
+    /// those after them if `with_after`.
     fn put_row(
         &mut self,
         with_before: bool,
@@ -162,8 +163,8 @@ impl Descriptor {
         cluster.append(self.hand, self.after.as_str(), self.rise)
     }
 
-    /// Puts its letters around what stands in `cluster`: of two at one place the second stands
-    /// outside.
+    /// Puts its letters around the outlines in `cluster`: of two at one place the second is outside
+    /// the first.
     fn put_letters(&self, cluster: &mut Cluster) -> Result<(), AllocError> {
         for (at, it) in self.letters.iter().enumerate() {
             let further = self
@@ -179,8 +180,8 @@ impl Descriptor {
         Ok(())
     }
 
-    /// Puts its outlines into `cluster`, as few as there are, and returns whether the hand has all
-    /// of them.
+    /// Puts its outlines into `cluster`, with points as part of the outline of the glyphs if the
+    /// hand has it so, and returns whether the hand has all of them and there is one.
     pub(crate) fn compose(&mut self, cluster: &mut Cluster) -> Result<bool, AllocError> {
         if self.lacks_letters {
             return Ok(false);

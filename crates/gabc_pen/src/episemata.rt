@@ -6,21 +6,22 @@ use crate::pen::{Drawn, Pen, STEP};
 use gabc_marks::Distance;
 use std::alloc::AllocError;
 
-/// How thick an episema is, and an ictus, and how long an ictus is.
+/// The thickness of an episema and of an ictus, and the length of an ictus.
 pub(crate) const THIN: Distance = Distance(90);
 
 pub(crate) const ICTUS: Distance = Distance(440);
 
-/// How far from its head an episema stands: of a head on a line, and of one in a space.
+/// The distance of an episema from the height of its note: of a note on a line, and of one in a
+/// space.
 const FROM_LINE: Distance = Distance(500);
 
 const FROM_SPACE: Distance = Distance(700);
 
-/// No episema goes over a gap that is wider than this.
+/// The widest gap between two neumes that an episema crosses.
 const MOST_GAP: Distance = Distance(500);
 
-/// A note of a snippet as it was drawn: in a neume that goes from `left` to `right`. `reach` says
-/// how many notes before it an episema of it may cover, and itself.
+/// A drawn note of a snippet, in a neume from `left` to `right`. `reach` is the number of notes
+/// that an episema of it may cover, itself and those before it.
 #[derive(Clone, Copy, Debug)]
 pub struct SnippetNote {
     pub drawn: Drawn,
@@ -36,8 +37,8 @@ struct Line {
     is_bridged: bool,
 }
 
-/// Returns the side of an episema of a note that is placed automatically: that on which no note of
-/// the neume stands.
+/// Returns the side of an episema of `drawn`: `side` itself, or if the score names none the side
+/// under a note that another one is over, and over any other note.
 fn episema_side(drawn: Drawn, side: Side) -> Side {
     match side {
         Side::Auto if drawn.covered => Side::Under,
@@ -46,7 +47,8 @@ fn episema_side(drawn: Drawn, side: Side) -> Side {
     }
 }
 
-/// Returns the side of the ictus of a note.
+/// Returns the side of the ictus of `drawn`: `side` itself, or if the score names none the side
+/// over a note that is over another one, and under any other note.
 fn ictus_side(drawn: Drawn, side: Side) -> Side {
     match side {
         Side::Auto if drawn.covers => Side::Over,
@@ -55,7 +57,7 @@ fn ictus_side(drawn: Drawn, side: Side) -> Side {
     }
 }
 
-/// Returns how many notes an episema of `note` covers that is told to stand on this side.
+/// Returns the number of notes that the episema of `note` with this `side` covers.
 fn covered_by(note: Note, side: Side) -> usize {
     usize::from(match side {
         Side::Auto => note.covers.auto,
@@ -64,15 +66,15 @@ fn covered_by(note: Note, side: Side) -> usize {
     })
 }
 
-/// Returns whether the note `back` notes before `later` is covered on this side by an episema of
-/// `later`.
+/// Returns whether an episema of `later` covers `it`, the note `back` notes before `later`, on this
+/// `side`.
 fn covers(it: Drawn, later: SnippetNote, back: usize, side: Side) -> bool {
     let told = covered_by(later.drawn.note, side).max(covered_by_auto(it, later, side));
     back < told.min(later.reach)
 }
 
-/// Returns how many notes an episema of `later` covers that is placed automatically, if that stands
-/// on this side at `it`.
+/// Returns the number of notes that the episema of `later` whose side the score does not name
+/// covers, or 0 if it is not on this `side` at `it`.
 fn covered_by_auto(it: Drawn, later: SnippetNote, side: Side) -> usize {
     if episema_side(it, Side::Auto) == side {
         covered_by(later.drawn.note, Side::Auto)
@@ -81,7 +83,8 @@ fn covered_by_auto(it: Drawn, later: SnippetNote, side: Side) -> usize {
     }
 }
 
-/// Returns the episema that covers the note `at` on this side: that of the last note that has one.
+/// Returns the episema that covers the note `at` on this `side`: that of the last note, at most
+/// seven notes later, of which one does.
 fn line_at(notes: &[SnippetNote], at: usize, side: Side) -> Option<Line> {
     let it = notes.get(at)?.drawn;
     let mut found = None;
@@ -98,7 +101,7 @@ fn line_at(notes: &[SnippetNote], at: usize, side: Side) -> Option<Line> {
     found
 }
 
-/// Draws the ictus of a note, outside an episema on the same side.
+/// Draws the ictus of `drawn` on this `side`: a step further out if `beside_episema`.
 fn put_ictus(
     drawn: Drawn,
     side: Side,
@@ -115,14 +118,16 @@ fn put_ictus(
     pen.rect(x, y, THIN, ICTUS)
 }
 
-/// Returns whether the episema of one note goes on over the next one.
+/// Returns whether `line`, the episema of the note `one`, continues as `other`, that of the note
+/// `next`.
 fn is_joined(one: SnippetNote, line: Line, next: SnippetNote, other: Line) -> bool {
     let are_whole = line.size == EpisemaSize::Whole && other.size == EpisemaSize::Whole;
     let is_near = one.left == next.left || next.left - one.right <= MOST_GAP;
     line.is_bridged && are_whole && is_near
 }
 
-/// An episema over or under several notes: where it begins and ends, and how far the notes go.
+/// An episema over or under notes in a row: the last of them, their left and right ends, and the
+/// heights of the highest and the lowest.
 #[derive(Clone, Copy, Debug)]
 struct Run {
     line: Line,
@@ -146,7 +151,7 @@ impl Run {
         }
     }
 
-    /// Returns the episema with that of the next note.
+    /// Returns the episema extended by `line`, that of the next `note`.
     fn with(self, note: SnippetNote, line: Line) -> Run {
         Run {
             line,
@@ -158,7 +163,7 @@ impl Run {
         }
     }
 
-    /// Returns where it begins and how wide it is: a small one takes six tenths of its head.
+    /// Returns its left end and its width: a small one is six tenths as wide as its note.
     fn extent(self) -> (Distance, Distance) {
         let width = self.right - self.left;
         let small = width.share(5).times(3);
@@ -170,7 +175,7 @@ impl Run {
         }
     }
 
-    /// Draws it on this side. It does not lie on a line of the staff.
+    /// Draws it on this `side`, off the lines of the staff.
     fn put(self, side: Side, pen: &mut Pen<'_>) -> Result<(), AllocError> {
         let far = if side == Side::Over {
             self.highest
@@ -189,8 +194,8 @@ impl Run {
     }
 }
 
-/// Returns the run that goes on with the note `at` on this side, and draws the one before if it
-/// ends.
+/// Returns the run after `note`, over which `line` is on this `side`: `run` extended, or a new one.
+/// Draws `run` if it ends before `note`.
 fn run_with(
     run: Option<Run>,
     note: SnippetNote,
@@ -222,7 +227,7 @@ fn put_lines(notes: &[SnippetNote], side: Side, pen: &mut Pen<'_>) -> Result<(),
     Ok(())
 }
 
-/// Draws ictus and episemata of `notes`, which stand one after the other.
+/// Draws ictus and episemata of `notes`, the notes of a snippet in order.
 pub fn put_signs(notes: &[SnippetNote], pen: &mut Pen<'_>) -> Result<(), AllocError> {
     for (at, note) in notes.iter().enumerate() {
         if let Some(told) = note.drawn.note.ictus {

@@ -8,8 +8,8 @@ use crate::note::Note;
 use gabc_marks::{Distance, Head, NoteHead, Single};
 use std::alloc::AllocError;
 
-/// The heads of a note: their outline, where the first of them begins, and how far right of the one
-/// before each further one does.
+/// The heads of a note: their outline, the left end `x` of the first, and the distance `stride`
+/// from each to the next.
 #[derive(Clone, Copy, Debug)]
 pub(crate) struct HeadRow {
     pub single: Single,
@@ -17,7 +17,7 @@ pub(crate) struct HeadRow {
     pub stride: Distance,
 }
 
-/// Adds a head at `x`, whose first note has this `pitch`.
+/// Appends a head at `x`, whose first note has this `pitch`, to `heads`.
 #[tactic(auto, using(crate::proofs::HeadsJoin::joined))]
 pub(crate) fn push_head(
     head: Head,
@@ -32,7 +32,7 @@ pub(crate) fn push_head(
     Ok(())
 }
 
-/// Adds a head for each time that `note` sounds, as `row` says.
+/// Appends a head for each time that `note` sounds, at the places of `row`, to `heads`.
 #[tactic(auto, using(crate::proofs::HeadsJoin::joined))]
 pub(crate) fn push_note(
     row: HeadRow,

@@ -1,8 +1,7 @@
-//! Draws what stands in one syllable: from the nodes of a tree (`gabc_nodes`) to heads and signs
-//! (`gabc_marks`).
+//! Draws one syllable: turns nodes of a tree (`gabc_nodes`) into heads and signs (`gabc_marks`).
 //!
-//! A pen writes neumes (`pen`, `neume`), by how their notes follow one another (`plan`) and by the
-//! outline that shows them (`outline`), with the signs around them (`rhythm`, `episemata`, `staff`,
+//! A pen writes neumes (`pen`, `neume`), by the joints of their notes (`plan`) and by the outline
+//! that shows them (`outline`), with the signs around them (`rhythm`, `episemata`, `staff`,
 //! `curves`). NABC over them is read (`nabc`) as descriptors (`descriptor`), each a cluster of
 //! outlines (`cluster`).
 #![tactic(auto)]

@@ -9,7 +9,7 @@ use gabc_marks::{
 use gabc_nodes::{Kind, Node};
 use std::alloc::{AllocError, Global};
 
-/// The size of what is written as its text, and its reach.
+/// The size of a descriptor that is written as its text, and its reach.
 const TEXT_SIZE: Distance = Distance(900);
 
 const TEXT_REACH: Reach = Reach {
@@ -17,8 +17,8 @@ const TEXT_REACH: Reach = Reach {
     down: Distance(250),
 };
 
-/// A part of a descriptor that is being read: its node, and from where on its bytes are still to be
-/// added to its spelling.
+/// A part of a descriptor that is being read: its node, and the first byte that is not in its
+/// spelling yet.
 #[derive(Clone, Copy, Debug)]
 struct Piece {
     node: Node,
@@ -28,7 +28,7 @@ struct Piece {
 /// The hand of each line of NABC.
 pub type Hands = PerLine<Hand>;
 
-/// The NABC that is being read: of a snippet on this line, from `begin` on, up to `x`.
+/// The NABC that is being read: a snippet on `line`, drawn from `begin` up to `x`.
 #[derive(Debug, Drop)]
 pub struct Nabc<'a> {
     input: &'a str,
@@ -51,7 +51,7 @@ fn is_of_laon(first: u16, second: u16) -> bool {
     matches!(letters, (Some(b'u'), Some(b'n')) | (Some(b'o'), Some(b'c')))
 }
 
-/// Returns the line of NABC with this number, from 1.
+/// Returns the line of NABC with this `number`, from 1; any other than 1 to 3 is the fourth.
 fn nabc_line(number: u16) -> NabcLine {
     match number {
         1 => NabcLine::First,
@@ -76,7 +76,8 @@ pub fn hands_of(nodes: &[Node]) -> Hands {
     hands
 }
 
-/// Returns how far to the right the next neume moves after a space that is spelled so.
+/// Returns the distance that the space spelled `text` moves the next neume right: negative for
+/// back-ticks, and 0 for any other text.
 fn distance_of(text: &str) -> Distance {
     match text {
         "/" => spaces::NABC_SMALL,
@@ -88,7 +89,7 @@ fn distance_of(text: &str) -> Distance {
 }
 
 impl<'a> Nabc<'a> {
-    /// Returns that of no snippet, of the score `input`, in these `hands`.
+    /// Returns the NABC of the score `input` in these `hands`, before its first snippet.
     pub fn new(alloc: Global, input: &'a str, hands: Hands) -> Nabc<'a> {
         Nabc {
             input,
@@ -104,7 +105,7 @@ impl<'a> Nabc<'a> {
         }
     }
 
-    /// Begins a snippet on the line with this number, from `x` on.
+    /// Begins a snippet on the line with the number `line`, from `x` on.
     pub fn begin(&mut self, line: u16, x: Distance) {
         self.line = nabc_line(line);
         self.descriptor.hand = self.hands.get(self.line);
@@ -112,7 +113,8 @@ impl<'a> Nabc<'a> {
         self.x = x;
     }
 
-    /// Adds to the spelling of the part that is being read what stands before the byte `end`.
+    /// Appends to the spelling of the part that is being read its bytes before the byte `end` of
+    /// the score.
     fn spell(&mut self, end: u32) -> Result<(), AllocError> {
         match self.piece {
             Some(piece) => {
@@ -123,7 +125,7 @@ impl<'a> Nabc<'a> {
         }
     }
 
-    /// Passes `node`, which is not kept: the part that is being read goes on after it.
+    /// Skips `node`, which is not kept: the part that is being read continues after it.
     pub fn pass_gap(&mut self, node: Node) -> Result<(), AllocError> {
         self.spell(node.begin)?;
         if let Some(piece) = self.piece {
@@ -135,7 +137,7 @@ impl<'a> Nabc<'a> {
         Ok(())
     }
 
-    /// Ends the part that is being read.
+    /// Ends the part that is being read, if there is one, and adds it to the descriptor.
     fn end_piece(&mut self) -> Result<(), AllocError> {
         self.spell(u32::MAX)?;
         let Some(Piece { node, .. }) = self.piece else {
@@ -151,8 +153,8 @@ impl<'a> Nabc<'a> {
         }
     }
 
-    /// Ends the descriptor that is being read, and draws it into `signs`, with its reach in
-    /// `rows`.
+    /// Ends the descriptor that is being read, if there is one, and draws it into `signs`, with its
+    /// reach in `rows`: as its text if the hand lacks a part of it.
     fn end_descriptor(
         &mut self,
         signs: &mut Vec<Sign<'a>>,
@@ -173,7 +175,8 @@ impl<'a> Nabc<'a> {
         Ok(())
     }
 
-    /// Draws the outlines of the descriptor into `signs`, and returns how wide it is.
+    /// Draws the outlines of the descriptor into `signs`, with their reach in `rows`, and returns
+    /// its width.
     fn put_cluster(
         &self,
         signs: &mut Vec<Sign<'a>>,
@@ -192,7 +195,8 @@ impl<'a> Nabc<'a> {
         Ok(self.cluster.width())
     }
 
-    /// Writes the descriptor of `node` into `signs` as its text, and returns how wide it is.
+    /// Writes the descriptor of `node` into `signs` as its text, with its reach in `rows`, and
+    /// returns its width.
     fn put_text(
         &self,
         node: Node,
@@ -213,8 +217,8 @@ impl<'a> Nabc<'a> {
         Ok(width)
     }
 
-    /// Adds `node`, a descriptor, a part of one or a space: what is drawn goes into `signs`, with
-    /// its reach in `rows`.
+    /// Adds `node`, a descriptor, a part of one or a space. A descriptor that is ended by it is
+    /// drawn into `signs`, with its reach in `rows`.
     pub fn add(
         &mut self,
         node: Node,
@@ -242,7 +246,7 @@ impl<'a> Nabc<'a> {
         Ok(())
     }
 
-    /// Ends the snippet, and returns from where to where it goes, if anything is in it.
+    /// Ends the snippet, and returns its extent, with the space after it, if anything is in it.
     pub fn end(
         &mut self,
         signs: &mut Vec<Sign<'a>>,

@@ -1,8 +1,8 @@
-//! The lines of NABC over a staff: how high each of them goes.
+//! The lines of NABC over a staff, each with its reach.
 
 use gabc_marks::{Distance, NabcLine, spaces};
 
-/// How high and how deep what stands on a line of NABC goes, from that line on.
+/// The reach of the signs on a line of NABC: the distances upwards and downwards from that line.
 #[derive(Clone, Copy, Debug)]
 pub struct Reach {
     pub up: Distance,
@@ -10,7 +10,7 @@ pub struct Reach {
 }
 
 impl Reach {
-    /// Returns the reach of what goes as far as either of both.
+    /// Returns the larger of both reaches, in each direction.
     pub fn join(self, other: Reach) -> Reach {
         Reach {
             up: self.up.max(other.up),
@@ -18,14 +18,14 @@ impl Reach {
         }
     }
 
-    /// Returns the height of the line if all of this stands over `top`, and how high that goes.
+    /// Returns the height of the line at which this reach lies over `top`, and its upper end.
     pub fn over(self, top: Distance) -> (Distance, Distance) {
         let y = top - spaces::BETWEEN_ROWS - self.down;
         (y, y - self.up)
     }
 }
 
-/// What there is for each line of NABC.
+/// A value for each line of NABC.
 #[derive(Clone, Copy, Debug)]
 pub struct PerLine<T> {
     pub first: T,
@@ -45,7 +45,7 @@ impl<T: Copy> PerLine<T> {
         }
     }
 
-    /// Returns what there is for `line`.
+    /// Returns the value for `line`.
     pub fn get(self, line: NabcLine) -> T {
         match line {
             NabcLine::First => self.first,
@@ -55,7 +55,7 @@ impl<T: Copy> PerLine<T> {
         }
     }
 
-    /// Puts `value` there for `line`.
+    /// Sets the value for `line`.
     pub fn set(&mut self, line: NabcLine, value: T) {
         match line {
             NabcLine::First => self.first = value,
@@ -66,7 +66,7 @@ impl<T: Copy> PerLine<T> {
     }
 }
 
-/// Returns the reach of what stands on a line together.
+/// Returns the reach of two parts of one line together; none if nothing is on it.
 fn joined(one: Option<Reach>, other: Option<Reach>) -> Option<Reach> {
     match (one, other) {
         (Some(one), Some(other)) => Some(one.join(other)),
@@ -74,16 +74,16 @@ fn joined(one: Option<Reach>, other: Option<Reach>) -> Option<Reach> {
     }
 }
 
-/// Returns the height of a line with this reach over `top`, and how high it goes; a line on which
-/// nothing stands takes no room.
+/// Returns the height of a line with this `reach` over `top`, and its upper end; an empty line
+/// takes no room.
 pub fn line_over(top: Distance, reach: Option<Reach>) -> (Distance, Distance) {
     reach.map_or((top, top), |reach| reach.over(top))
 }
 
-/// The lines of NABC, each with its reach, if something stands on it.
+/// The reach of each line of NABC, if anything is on it.
 pub type NabcRows = PerLine<Option<Reach>>;
 
-/// Returns the lines of both together.
+/// Returns the reaches of `one` and `other` together, line by line.
 pub fn join_rows(one: NabcRows, other: NabcRows) -> NabcRows {
     PerLine {
         first: joined(one.first, other.first),
@@ -93,7 +93,7 @@ pub fn join_rows(one: NabcRows, other: NabcRows) -> NabcRows {
     }
 }
 
-/// Adds what stands on `line` with this `reach` to `rows`.
+/// Widens the reach of `line` in `rows` by `reach`.
 pub fn add_reach(rows: &mut NabcRows, line: NabcLine, reach: Reach) {
     rows.set(line, joined(rows.get(line), Some(reach)));
 }

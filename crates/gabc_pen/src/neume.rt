@@ -1,4 +1,4 @@
-//! Neumes.
+//! Writes neumes: the first notes by one outline if there is one, the others one by one.
 
 ghost use Rattle.std.specs.Prelude.{◌≡◌, ◌≤◌, ◌-◌, ◌++◌, ◌∷◌, [], length, OnOk, IfOk, IfSome};
 ghost use Rattle.gabc_marks.specs.Heads.{pitches_of_heads};
@@ -11,8 +11,8 @@ use crate::plan::{GlyphKind, Joint, Planned, fall_between};
 use gabc_marks::{Distance, Head, NoteHead, height_of};
 use std::alloc::AllocError;
 
-/// Returns by how many steps the broad stroke falls that shows just `first` and `second`, if
-/// `first` begins one.
+/// Returns the number of steps by which the broad stroke that `first` begins falls, if it shows
+/// just `first` and `second`; nothing if there is none.
 fn stroke_of(first: Planned, second: Planned) -> Option<u8>
     ensures { IfSome result (λ fall. pitches_of_note first.note ++ pitches_of_note second.note
         ≡ first.note.pitch ∷ (first.note.pitch - fall) ∷ []) }
@@ -29,8 +29,8 @@ fn stroke_of(first: Planned, second: Planned) -> Option<u8>
     }
 }
 
-/// Writes `first`, with the note after it if both are a broad stroke, and returns the notes of
-/// `more` that are left.
+/// Writes `first`, with the first note of `more` if both are a broad stroke, and returns the notes
+/// of `more` that are left.
 #[tactic(auto, using(crate::proofs::HeadsJoin::joined))]
 fn write_next<'p>(
     first: Planned,
@@ -53,7 +53,8 @@ fn write_next<'p>(
     Ok(more)
 }
 
-/// Returns how many notes of a neume stand before its tail, and before each note by itself.
+/// Returns the number of notes before the first one that is an inclinatum, has the stem of a virga,
+/// or is not joined.
 fn front_of(planned: &[Planned]) -> usize
     ensures { result ≤ length planned.now }
 {
@@ -65,13 +66,14 @@ fn front_of(planned: &[Planned]) -> usize
     planned.len()
 }
 
-/// Returns in how many columns the heads of `planned` stand.
+/// Returns the number of columns of the heads of `planned`: a note over another one shares its
+/// column.
 fn columns_in(planned: &[Planned]) -> i32 {
     let count = planned.iter().filter(|it| it.joint != Joint::Over).count();
     i32::try_from(count).unwrap_or(i32::MAX)
 }
 
-/// Returns how many columns stand before the first broad stroke of `planned`, if it has one.
+/// Returns the number of columns before the first broad stroke of `planned`, if it has one.
 fn stroke_column(planned: &[Planned]) -> Option<i32> {
     for (at, it) in planned.iter().enumerate() {
         if it.joint == Joint::Stroke || it.joint == Joint::StemmedStroke {
@@ -81,8 +83,9 @@ fn stroke_column(planned: &[Planned]) -> Option<i32> {
     None
 }
 
-/// Returns where the head of `planned[at]` stands in an outline of this `width` that shows all of
-/// them: side by side from both ends up to a broad stroke, and evenly if there is none.
+/// Returns the distance of the head of `planned[at]` from the left end of an outline of this
+/// `width` that shows all of `planned`: side by side from both ends up to a broad stroke, and
+/// evenly spread if there is none.
 fn column_of(planned: &[Planned], at: usize, width: Distance) -> Distance {
     let through = at.saturating_add(1).min(planned.len());
     let number = columns_in(&planned[..through]).saturating_sub(1);
@@ -94,7 +97,8 @@ fn column_of(planned: &[Planned], at: usize, width: Distance) -> Distance {
     }
 }
 
-/// Returns how much lower than that of a head the black of `planned[at]` goes.
+/// Returns the foot of `planned[at]`, how much lower than a plain head its ink goes: 0 unless it
+/// begins a broad stroke.
 fn foot_of(planned: &[Planned], at: usize) -> Distance {
     match (planned.get(at), planned.get(at.saturating_add(1))) {
         (Some(it), Some(next)) if matches!(it.joint, Joint::Stroke | Joint::StemmedStroke) => {
@@ -105,12 +109,12 @@ fn foot_of(planned: &[Planned], at: usize) -> Distance {
     }
 }
 
-/// Returns whether `planned[at]` stands over the note before.
+/// Returns whether `planned[at]` is over the note before.
 fn is_over(planned: &[Planned], at: usize) -> bool {
     planned.get(at).is_some_and(|it| it.joint == Joint::Over)
 }
 
-/// Notes where the heads of `planned` stand in an outline of this `width` that shows all of them.
+/// Records the notes of `planned` as drawn by one outline of this `width` at the place of `pen`.
 fn note_columns(planned: &[Planned], width: Distance, pen: &mut Pen<'_>) -> Result<(), AllocError> {
     for (at, it) in planned.iter().enumerate() {
         pen.drawn.push(Drawn {

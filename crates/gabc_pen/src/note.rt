@@ -27,7 +27,7 @@ pub enum Shape {
     Linea,
 }
 
-/// How a note is liquescent.
+/// The liquescence of a note.
 #[derive(Clone, Copy, Debug, PartialEq, Eq)]
 pub enum Liquescence {
     None,
@@ -36,16 +36,16 @@ pub enum Liquescence {
     Diminished,
 }
 
-/// On which side of its note a sign stands.
+/// The side of a note on which a sign is drawn.
 #[derive(Clone, Copy, Debug, PartialEq, Eq)]
 pub enum Side {
-    /// None is told.
+    /// The score names no side.
     Auto,
     Over,
     Under,
 }
 
-/// How wide an episema is, and of a small one how it is aligned.
+/// The size of an episema: as wide as its notes, or small and aligned left, centred or right.
 #[derive(Clone, Copy, Debug, PartialEq, Eq)]
 pub enum EpisemaSize {
     Whole,
@@ -54,7 +54,8 @@ pub enum EpisemaSize {
     Right,
 }
 
-/// How many notes the episemata of a note cover, itself and those before it.
+/// The number of notes that the episemata of a note cover, itself and those before it: by an
+/// episema whose side the score does not name, by one over the notes, and by one under them.
 #[derive(Clone, Copy, Debug, PartialEq, Eq)]
 pub struct Covers {
     pub auto: u16,
@@ -65,9 +66,9 @@ pub struct Covers {
 /// A note with its signs.
 #[derive(Clone, Copy, Debug, PartialEq, Eq)]
 pub struct Note {
-    /// Its height, from 0 for `a`.
+    /// Its pitch in steps, from 0 for `a`.
     pub pitch: u8,
-    /// How often it sounds, and so how many heads it has.
+    /// The number of times that it sounds, which is the number of its heads.
     pub times: u8,
     pub shape: Shape,
     pub liquescence: Liquescence,
@@ -79,7 +80,7 @@ pub struct Note {
     pub is_hollow: bool,
     pub is_lined: bool,
     pub is_debilis: bool,
-    /// Whether an oriscus is told to point up, or down.
+    /// Whether the score has an oriscus point up (`true`) or down; `None` if it says neither.
     pub points_up: Option<bool>,
     /// The signs over the staff: the sum of 1 for `r1`, 2 for `r2`, 4 for `r3` and so on.
     pub over_staff: u16,
@@ -119,14 +120,14 @@ impl Shape {
         self == Shape::Oriscus || self == Shape::OriscusScapus
     }
 
-    /// Returns whether its stem stands at its right.
+    /// Returns whether it is a virga, a bivirga or a trivirga: its stem is at its right.
     pub fn is_virga(self) -> bool {
         self == Shape::Virga || self == Shape::Bivirga || self == Shape::Trivirga
     }
 }
 
-/// Returns how often a note with the shape of this number sounds: 2 for a bivirga or a distropha, 3
-/// for a trivirga or a tristropha.
+/// Returns the number of times that a note with the shape of this number sounds: 2 for a bivirga or
+/// a distropha, 3 for a trivirga or a tristropha.
 fn times_of(shape: u16) -> u8
     ensures { result ≡ times_of_shape shape }
 {
@@ -137,7 +138,8 @@ fn times_of(shape: u16) -> u8
     }
 }
 
-/// Returns the side with this number, from 1 for one that is not told.
+/// Returns the side with this `number`: 1 for one that the score does not name, 2 over, 3 under,
+/// and nothing for any other number.
 fn side_of(number: u16) -> Option<Side> {
     match number {
         1 => Some(Side::Auto),
@@ -171,7 +173,8 @@ impl EpisemaSize {
     }
 }
 
-/// Returns where an oriscus is told to point, by the number of its orientation.
+/// Returns whether an oriscus points up, by the `number` of its orientation: 1 is down, 2 is up,
+/// and any other names none.
 fn points_up(number: u16) -> Option<bool> {
     match number {
         1 => Some(false),
@@ -181,7 +184,7 @@ fn points_up(number: u16) -> Option<bool> {
 }
 
 impl Note {
-    /// Returns the note of `node`, whose numbers say its signs.
+    /// Returns the note of `node`, read from its numbers.
     pub fn of(node: Node) -> Note
         ensures pitch { result.pitch ≡ node.a % 16 }
         ensures times { result.times ≡ times_of_shape (node.b % 32) }
@@ -209,7 +212,8 @@ impl Note {
         }
     }
 
-    /// Returns its step over the lowest line of the staff.
+    /// Returns the number of steps from the lowest line of the staff up to it: negative below that
+    /// line.
     pub fn step(self) -> i32 {
         i32::from(self.pitch) - 3
     }

@@ -1,4 +1,4 @@
-//! Which outline shows a note, or the first notes of a neume.
+//! Finds the outline that shows a note, or the first notes of a neume.
 
 ghost use Rattle.std.specs.Prelude.{◌≡◌, IsTrue, IfSome};
 ghost use Rattle.gabc_marks.specs.Heads.{pitches_of_family};
@@ -53,7 +53,8 @@ fn whole_inclinatum(note: Note) -> Option<Single> {
     }
 }
 
-/// Returns the outline of an oriscus with its stem and its liquescence.
+/// Returns the outline of an oriscus with its stem. Of the liquescent ones only a deminutus without
+/// a stem has an outline of its own.
 fn whole_oriscus(planned: Planned) -> Single {
     let has_stem = planned.note.shape == Shape::OriscusScapus;
     match (planned.is_up, has_stem) {
@@ -88,8 +89,8 @@ fn whole_reversa(note: Note) -> Option<Single> {
     }
 }
 
-/// Returns the one outline that shows a note by itself, with its stem and its liquescence, if there
-/// is one.
+/// Returns the one outline that shows a note by itself, with its stem, if there is one. It shows no
+/// liquescence of a virga, a quilisma or a lined punctum.
 pub(crate) fn whole(planned: Planned) -> Option<Single> {
     let note = planned.note;
     match note.shape {
@@ -112,8 +113,8 @@ pub(crate) fn whole(planned: Planned) -> Option<Single> {
     }
 }
 
-/// Returns the only note of `planned` that is no punctum, and which one it is; nothing if all are,
-/// or if there are several.
+/// Returns the index and the shape of the only note of `planned` that is no punctum; nothing if all
+/// are puncta, or if several are not.
 fn other_shape(planned: &[Planned]) -> Option<(usize, Shape)> {
     let mut found = None;
     for (at, it) in planned.iter().enumerate() {
@@ -132,7 +133,7 @@ fn are_puncta(planned: &[Planned]) -> bool {
     planned.iter().all(|it| it.note.shape == Shape::Punctum)
 }
 
-/// Returns the family of the outline that shows a neume of this `kind`, if there may be one.
+/// Returns the family of the outline for `planned` in a neume of this `kind`, if there is one.
 fn family_of(kind: GlyphKind, planned: &[Planned]) -> Option<Family> {
     if are_puncta(planned) {
         return match kind.base {
@@ -159,8 +160,8 @@ fn family_of(kind: GlyphKind, planned: &[Planned]) -> Option<Family> {
     }
 }
 
-/// Returns by how many steps the note `at` is higher or lower than the one before; 0 if there is
-/// none.
+/// Returns the number of steps by which the note `at` is higher or lower than the one before; 0 if
+/// either is missing.
 fn steps_at(planned: &[Planned], at: usize) -> u8 {
     let before = at.checked_sub(1).and_then(|before| planned.get(before));
     match (before, planned.get(at)) {
@@ -169,7 +170,7 @@ fn steps_at(planned: &[Planned], at: usize) -> u8 {
     }
 }
 
-/// Returns how the outline ends whose last note is `note`.
+/// Returns the ending of an outline whose last note is `note`.
 fn ending_of(note: Note) -> Ending {
     match note.liquescence {
         Liquescence::None => Ending::Plain,
@@ -237,8 +238,8 @@ fn known(joined: Joined) -> Option<Joined> {
     }
 }
 
-/// Returns the outline of the notes of `planned` that has the best name, if there is one: a pes
-/// with an ending may be one with a square first note.
+/// Returns the outline of the notes of `planned`, from `first` to `last`, if the table has one: for
+/// a pes with an ending or an initio debilis that of a pes quadratum will do.
 fn candidate(kind: GlyphKind, planned: &[Planned], first: Note, last: Note) -> Option<Joined> {
     let joined = Joined {
         family: family_of(kind, planned)?,

@@ -15,20 +15,22 @@ use std::alloc::{AllocError, Global};
 /// Half a space of the staff: a step.
 pub(crate) const STEP: Distance = Distance(500);
 
-/// How broad a stem is.
+/// The width of a stem.
 pub(crate) const STEM: Distance = Distance(80);
 
-/// What stands between two heads that are not joined.
+/// The space between two heads that are not joined.
 const BETWEEN: Distance = Distance(160);
 
 /// The width of a punctum.
 pub const PUNCTUM: Distance = Distance(526);
 
-/// How much lower than a head a broad stroke of no height would go at its first note.
+/// The foot (`Drawn::foot`) of a broad stroke's first note, without the part that grows with the
+/// fall.
 pub(crate) const STROKE_FOOT: Distance = Distance(120);
 
-/// A note as it was drawn: where its head stands, whether the next note stands over it or it over
-/// the one before, and how much lower than that of a head its black goes.
+/// A drawn note: the left end `x` and the `width` of its heads; whether it is over the note before
+/// (`covers`), and the next one over it (`covered`); and its `foot`, how much lower than a plain
+/// head its ink goes.
 #[derive(Clone, Copy, Debug)]
 pub struct Drawn {
     pub note: Note,
@@ -40,18 +42,19 @@ pub struct Drawn {
 }
 
 impl Drawn {
-    /// Returns how far below the lowest line of the staff it stands.
+    /// Returns the distance of the note below the lowest line of the staff: negative above that
+    /// line.
     pub fn y(self) -> Distance {
         height_of(self.note.pitch)
     }
 
-    /// Returns where its head ends.
+    /// Returns the right end of its heads.
     pub fn right(self) -> Distance {
         self.x + self.width
     }
 }
 
-/// A pen: where it stands, the notes of the neume that it writes, and the signs that it has drawn.
+/// A pen: its place `x`, the notes of the neume that it writes, and the signs that it has drawn.
 /// `top` and `bottom` bound all that it has drawn.
 #[derive(Debug, Drop)]
 pub struct Pen<'a> {
@@ -74,13 +77,13 @@ impl<'a> Pen<'a> {
         }
     }
 
-    /// Widens the bounds by an outline at `y`.
+    /// Widens the bounds by an `outline` with its origin at the height `y`.
     pub(crate) fn reach(&mut self, y: Distance, outline: Metrics) {
         self.top = self.top.min(y - outline.up);
         self.bottom = self.bottom.max(y + outline.down);
     }
 
-    /// Draws a rectangle.
+    /// Draws a black rectangle with its upper left corner at `x` and `y`.
     pub fn rect(
         &mut self,
         x: Distance,
@@ -99,19 +102,20 @@ impl<'a> Pen<'a> {
         Ok(())
     }
 
-    /// Draws a symbol.
+    /// Draws `symbol` with its origin at `x` and `y`.
     pub fn symbol(&mut self, symbol: Symbol, x: Distance, y: Distance) -> Result<(), AllocError> {
         self.signs.push(Sign::Symbol { symbol, x, y })?;
         self.reach(y, symbol.metrics());
         Ok(())
     }
 
-    /// Draws a stem of this length, downwards from `y`.
+    /// Draws a stem of this `length`, downwards from `y`, with its left edge at `x`.
     fn stem(&mut self, x: Distance, y: Distance, length: Distance) -> Result<(), AllocError> {
         self.rect(x, y, STEM, length)
     }
 
-    /// Joins a head at `y` with the one before, at the right of which `x` is.
+    /// Draws the upright line that joins a head at the height `y` to the note drawn last, with its
+    /// right edge at `x`; draws nothing if no note was drawn.
     fn join(&mut self, x: Distance, y: Distance) -> Result<(), AllocError> {
         let Some(before) = self.drawn.last() else {
             return Ok(());
@@ -120,7 +124,8 @@ impl<'a> Pen<'a> {
         self.rect(x - STEM, y.min(from), STEM, (y - from).size())
     }
 
-    /// Notes that `note` was drawn at `x`, with heads of this `outline` that are so wide in all.
+    /// Records that `note` was drawn at `x`, with heads of this `outline` and of this `width` in
+    /// all, and widens the bounds.
     fn note(
         &mut self,
         note: Note,
@@ -140,7 +145,8 @@ impl<'a> Pen<'a> {
         Ok(())
     }
 
-    /// Draws the tail of a liquescent note whose head ends at `right`.
+    /// Draws the tail of an augmented or diminished `note` whose head ends at `right`; an
+    /// inclinatum has none.
     fn tail(&mut self, note: Note, right: Distance) -> Result<(), AllocError> {
         let y = height_of(note.pitch);
         match note.liquescence {
@@ -151,7 +157,8 @@ impl<'a> Pen<'a> {
         }
     }
 
-    /// Draws the lines at both sides of a head that begins at `x`, and its stem.
+    /// Draws the lines at both sides of a head that begins at `x` and has this `width`, and its
+    /// stem, if `note` has them.
     fn around_head(&mut self, note: Note, x: Distance, width: Distance) -> Result<(), AllocError> {
         let y = height_of(note.pitch);
         if note.is_lined {
@@ -172,7 +179,7 @@ impl<'a> Pen<'a> {
         Ok(())
     }
 
-    /// Draws what belongs to each head of `note`, which stand as `row` says.
+    /// Draws the lines and the stem of each head of `note`; `row` has the places of the heads.
     fn around_heads(&mut self, note: Note, row: HeadRow) -> Result<(), AllocError> {
         let mut at = row.x;
         for _ in 0..note.times {
@@ -182,7 +189,7 @@ impl<'a> Pen<'a> {
         Ok(())
     }
 
-    /// Notes that `note` was drawn, with heads as `row` says, and goes to its end.
+    /// Records that `note` was drawn with the heads of `row`, and moves the pen to its end.
     fn pass(&mut self, note: Note, row: HeadRow) -> Result<(), AllocError> {
         let width = row.stride.times(i32::from(note.times)) - BETWEEN;
         self.note(note, self.x, width, row.single.metrics())?;
@@ -190,7 +197,8 @@ impl<'a> Pen<'a> {
         Ok(())
     }
 
-    /// Places a note that one outline is, as often as it sounds, and returns its heads.
+    /// Places a note that the one outline `single` shows, once for each time that it sounds, and
+    /// returns its heads.
     fn place_whole(&mut self, single: Single, note: Note) -> Result<HeadRow, AllocError> {
         let row = HeadRow {
             single,
@@ -201,7 +209,8 @@ impl<'a> Pen<'a> {
         Ok(row)
     }
 
-    /// Places a note with what belongs to it, as often as it sounds, and returns its heads.
+    /// Places a note once for each time that it sounds, draws its lines, stems and tail, and
+    /// returns its heads.
     fn place_alone(&mut self, single: Single, note: Note) -> Result<HeadRow, AllocError> {
         let margin = if note.is_lined {
             Distance(160)
@@ -233,8 +242,8 @@ impl<'a> Pen<'a> {
         Ok(row)
     }
 
-    /// Returns what stands before a punctum inclinatum: less after another one, and if it is a step
-    /// away.
+    /// Returns the space before a punctum inclinatum: smaller after another inclinatum, smallest if
+    /// the pitches are one step apart, and 0 if no note was drawn.
     fn room_before_diamond(&self, note: Note) -> Distance {
         let Some(before) = self.drawn.last() else {
             return Distance::ZERO;
@@ -274,7 +283,7 @@ impl<'a> Pen<'a> {
         Ok(row)
     }
 
-    /// Notes that the last note stands over the one before.
+    /// Marks the last note as over the one before.
     fn mark_covering(&mut self) {
         let len = self.drawn.len();
         if 2 <= len {
@@ -305,7 +314,9 @@ impl<'a> Pen<'a> {
         }
     }
 
-    /// Draws what stands before a head: the line that joins it, or a stem; or it makes room.
+    /// Begins a head: draws the line that joins it to the one before, or the stem at its left, or
+    /// makes room before one that is not joined. The fall to `next`, the note after it, gives the
+    /// length of the stem.
     fn begin_head(&mut self, planned: Planned, next: Option<Planned>) -> Result<(), AllocError> {
         let y = height_of(planned.note.pitch);
         match planned.joint {
@@ -378,7 +389,7 @@ impl<'a> Pen<'a> {
         )
     }
 
-    /// Notes how much lower than that of a head the black of the last note goes.
+    /// Sets the foot of the last note: how much lower than a plain head its ink goes.
     fn mark_foot(&mut self, foot: Distance) {
         if let Some(last) = self.drawn.len().checked_sub(1) {
             self.drawn[last].foot = foot;
@@ -386,7 +397,8 @@ impl<'a> Pen<'a> {
     }
 }
 
-/// Returns `planned` as a virga if it begins a neume with a stem at its right.
+/// Returns `planned` with the shape of a virga if it begins a neume with a stem at its right, else
+/// as it is.
 fn as_virga(planned: Planned) -> Planned {
     let mut virga = planned;
     if planned.joint == Joint::Virga {
@@ -395,8 +407,8 @@ fn as_virga(planned: Planned) -> Planned {
     virga
 }
 
-/// Returns the head of a note; a punctum under one a step higher has no top. `next` is the note
-/// after it.
+/// Returns the head of a note: a punctum has no top if `next`, the note after it, is over it and
+/// one step higher.
 fn under(planned: Planned, next: Option<Planned>) -> Single {
     let single = plain_head(planned);
     let is_near = next.is_some_and(|next| {
@@ -409,7 +421,8 @@ fn under(planned: Planned, next: Option<Planned>) -> Single {
     }
 }
 
-/// Returns how far to the right a head moves, so that a broader one has room over it.
+/// Returns the distance that the head `single` moves right, so that a broader head of `next` has
+/// room over it; 0 if `next` is not over it.
 fn room_for_next(single: Single, next: Option<Planned>) -> Distance {
     match next {
         Some(next) if next.joint == Joint::Over => {

@@ -1,4 +1,4 @@
-//! How the notes of a neume follow one another.
+//! The joints between the notes of a neume.
 
 ghost use Rattle.std.specs.Prelude.{◌≡◌, ◌++◌, OnOk};
 ghost use Rattle.gabc_pen.specs.Notes.{pitches_of_planned, pitches_of_notes};
@@ -6,31 +6,30 @@ ghost use Rattle.gabc_pen.specs.Notes.{pitches_of_planned, pitches_of_notes};
 use crate::note::{Note, Shape};
 use std::alloc::AllocError;
 
-/// How a note is joined to the one before it.
+/// The way in which a note is joined to the one before it, or begins a neume.
 #[derive(Clone, Copy, Debug, PartialEq, Eq)]
 pub enum Joint {
-    /// It stands right of it, and is joined to it by a line.
+    /// Right of it, and joined to it by a line.
     Right,
-    /// It stands over it.
+    /// Over it.
     Over,
-    /// It stands right of it and has a stem at its left.
+    /// The first note of a neume, with a stem at its left.
     Stem,
-    /// It begins a neume and has a stem at its right.
+    /// The first note of a neume, with a stem at its right.
     Virga,
-    /// It begins a broad stroke that has a stem.
+    /// The first note of a broad stroke that has a stem.
     StemmedStroke,
-    /// It begins a broad stroke.
+    /// The first note of a broad stroke without a stem.
     Stroke,
-    /// It ends a broad stroke.
+    /// The second note of a broad stroke.
     StrokeEnd,
-    /// It is a punctum inclinatum.
+    /// A punctum inclinatum.
     Diamond,
-    /// It stands by itself.
+    /// Not joined.
     Alone,
 }
 
-/// A note of a neume: how it is joined to the one before it, and whether it is an oriscus that
-/// points up.
+/// A note of a neume with its joint; `is_up` says whether it is an oriscus that points up.
 #[derive(Clone, Copy, Debug, PartialEq, Eq)]
 pub struct Planned {
     pub note: Note,
@@ -69,15 +68,15 @@ pub(crate) const CLIMACUS: u16 = 9;
 const RESUPINUS: u16 = 2;
 
 impl GlyphKind {
-    /// Returns how many notes a neume of `count` notes has before its tail, if `diamonds` of them
+    /// Returns the number of notes before the tail in a neume of `count` notes, of which `diamonds`
     /// are inclinata.
     fn front(self, count: usize, diamonds: usize) -> usize {
         let resupinus = if self.tail == RESUPINUS { 1 } else { 0 };
         count.saturating_sub(diamonds).saturating_sub(resupinus)
     }
 
-    /// Returns how the note `at` of the neume is joined to the one before it, or nothing if it
-    /// belongs to the tail. `front` notes stand before the tail.
+    /// Returns the joint of the note `at`, from 0, if the base gives it one: none of the tail has
+    /// one, nor any in a neume of another base. `front` notes come before the tail.
     fn joint_at(self, at: usize, front: usize) -> Option<Joint> {
         match (self.base, at) {
             (PES, 0) => Some(Joint::Right),
@@ -101,7 +100,7 @@ impl GlyphKind {
     }
 }
 
-/// Returns how many of `notes` are inclinata.
+/// Returns the number of inclinata among `notes`.
 fn count_diamonds(notes: &[Note]) -> usize {
     notes
         .iter()
@@ -109,9 +108,9 @@ fn count_diamonds(notes: &[Note]) -> usize {
         .count()
 }
 
-/// Returns whether an oriscus points up: as it is told, else if the first other pitch after it is
-/// higher. `later` are the notes after it, and `following` is the first pitch after these that is
-/// another one (GregorioRef, "Oriscus Orientation").
+/// Returns whether the oriscus `note` points up: by its own sign if it has one, else if the first
+/// different pitch after it is higher. `later` are the notes after it in its neume, and `following`
+/// is the first different pitch after these (GregorioRef, "Oriscus Orientation").
 fn rises(note: Note, later: &[Note], following: Option<u8>) -> bool {
     if let Some(told) = note.points_up {
         return told;
@@ -124,7 +123,8 @@ fn rises(note: Note, later: &[Note], following: Option<u8>) -> bool {
     following.is_some_and(|pitch| note.pitch < pitch)
 }
 
-/// Returns by how many steps a broad stroke falls from `note` to the `next` one, if both are plain.
+/// Returns the number of steps, 1 to 5, by which a broad stroke falls from `note` to `next`;
+/// nothing if one of them is no punctum, if `note` is an initio debilis, or if they lie otherwise.
 pub(crate) fn fall_between(note: Note, next: Note) -> Option<u8> {
     let is_plain = note.shape == Shape::Punctum && next.shape == Shape::Punctum && !note.is_debilis;
     let fall = note.pitch.saturating_sub(next.pitch);
@@ -135,8 +135,8 @@ pub(crate) fn fall_between(note: Note, next: Note) -> Option<u8> {
     }
 }
 
-/// Returns the joint that `notes[at]` has in a neume of this `kind`: no broad stroke where its
-/// notes have shapes of their own, and nothing over a quadratum.
+/// Returns the joint of `notes[at]` in a neume of this `kind` with `front` notes before its tail:
+/// in no broad stroke if none falls between its notes, and not over a quadratum.
 fn joint_of(kind: GlyphKind, notes: &[Note], at: usize, front: usize) -> Joint {
     let Some(note) = notes.get(at) else {
         return Joint::Alone;
@@ -161,8 +161,8 @@ fn joint_of(kind: GlyphKind, notes: &[Note], at: usize, front: usize) -> Joint {
     }
 }
 
-/// Adds the notes of a neume of this `kind` to `planned`, each with how it is joined to the one
-/// before it. `following` is the first pitch after the neume that is not its last one.
+/// Appends the notes of a neume of this `kind` to `planned`, each with its joint. `following` is
+/// the first pitch after the neume that differs from its last one.
 pub fn plan_notes(
     kind: GlyphKind,
     notes: &[Note],

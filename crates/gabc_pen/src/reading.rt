@@ -1,8 +1,8 @@
-//! What spacings and numbers say.
+//! Reads the distances of spacings, and decimal numbers.
 
 use gabc_marks::{Distance, spaces};
 
-/// Returns how far the next note stands after a spacing of this `kind`, which is spelled `text`.
+/// Returns the distance to the next note over a spacing of this `kind`, which is spelled `text`.
 pub fn distance_of(kind: u16, text: &str) -> Distance {
     match kind {
         0 => spaces::SMALL,
@@ -15,8 +15,8 @@ pub fn distance_of(kind: u16, text: &str) -> Distance {
     }
 }
 
-/// Returns the distance of a spacing `/[..]`: a large one times the number in the brackets, from
-/// -0.5 to 10.
+/// Returns the distance of a spacing `/[..]`: a large one times the number in the brackets, which
+/// is bounded by -0.5 and 10, and 1 if it is no number.
 fn factor_of(text: &str) -> Distance {
     let inner = text.strip_prefix("/[").unwrap_or("1");
     let number = inner.strip_suffix(']').unwrap_or(inner);
@@ -24,8 +24,8 @@ fn factor_of(text: &str) -> Distance {
     Distance(factor.max(-500).min(10_000))
 }
 
-/// Returns the thousandths that a decimal number says, up to 99,999 and to three digits after the
-/// point; nothing if `number` is none.
+/// Returns a decimal number in thousandths: its whole part is bounded by 99,999, and digits after
+/// the third one of its fraction are dropped. Returns nothing if `number` is no decimal number.
 pub fn thousandths_of(number: &str) -> Option<i32> {
     let (sign, digits) = match number.strip_prefix('-') {
         Some(digits) => (-1, digits),

@@ -1,26 +1,26 @@
-//! What stands around the heads of a neume: ledger lines, signs over the staff, puncta mora
+//! Draws the signs around the heads of a neume: ledger lines, signs over the staff, puncta mora
 //! (GregorioRef, "Rhythmic signs").
 
 use crate::pen::{Drawn, Pen, STEP};
 use gabc_marks::{Distance, Symbol};
 use std::alloc::{AllocError, Global};
 
-/// How far a ledger line goes beyond its head.
+/// The length of a ledger line beyond each end of its head.
 const LEDGER_OVER: Distance = Distance(200);
 
-/// How far right of a head its mora stands, and how far right of another one at the same height.
+/// The distance from a head to its mora, and from that to a further one at the same height.
 const TO_MORA: Distance = Distance(340);
 
 const BETWEEN_MORAE: Distance = Distance(400);
 
-/// A mora: the note at which it stands, and its step over the lowest line.
+/// A mora: the index of the note beside which it is drawn, and its step over the lowest line.
 #[derive(Clone, Copy, Debug)]
 struct Dot {
     at: usize,
     step: i32,
 }
 
-/// Returns how far below the lowest line of the staff a step over it stands.
+/// Returns the distance below the lowest line of the staff of a `step` counted upwards from it.
 pub fn height_of_step(step: i32) -> Distance {
     -STEP.times(step)
 }
@@ -77,7 +77,7 @@ fn put_over_staff(head: Drawn, lines: i32, pen: &mut Pen<'_>) -> Result<(), Allo
     Ok(())
 }
 
-/// Returns how many morae stand at the note `at`: of two at one note, one belongs to the note
+/// Returns the number of morae for the note `at`: of two at one note, one belongs to the note
 /// before it (GregorioRef, "Punctum Mora").
 fn morae_at(heads: &[Drawn], at: usize) -> u16 {
     let own = heads.get(at).map_or(0, |head| head.note.morae);
@@ -88,8 +88,8 @@ fn morae_at(heads: &[Drawn], at: usize) -> u16 {
     if 1 < next { kept.max(1) } else { kept }
 }
 
-/// Adds the morae of the note `at` to `dots`, at the step of its head. Two of the next note stand
-/// at that one.
+/// Appends the morae for the note `at` to `dots`, at the step of its head. They are drawn beside
+/// the next note if that has two.
 fn add_dots(heads: &[Drawn], at: usize, dots: &mut Vec<Dot>) -> Result<(), AllocError> {
     let Some(head) = heads.get(at) else {
         return Ok(());
@@ -115,7 +115,8 @@ fn wanted_dots(alloc: Global, heads: &[Drawn]) -> Result<Vec<Dot>, AllocError> {
     Ok(dots)
 }
 
-/// Returns where a mora stands that is on a line: in the space over it, or below if that is taken.
+/// Returns a mora that is on a line, moved into the space over it, or below it if a note or a mora
+/// is there.
 fn beside_line(dot: Dot, heads: &[Drawn], placed: &[Dot]) -> Dot {
     let over = dot.step.saturating_add(1);
     let covered = heads.get(dot.at).is_some_and(|head| head.covered);
@@ -130,8 +131,8 @@ fn beside_line(dot: Dot, heads: &[Drawn], placed: &[Dot]) -> Dot {
     }
 }
 
-/// Adds to `placed` those of `dots` that stand on lines, if `on_lines`, each beside its line; else
-/// those that stand in spaces.
+/// Appends to `placed` the morae of `dots` on lines, each moved off its line, if `on_lines`, else
+/// those in spaces.
 fn place_dots(
     dots: &[Dot],
     heads: &[Drawn],
@@ -151,7 +152,7 @@ fn place_dots(
     Ok(())
 }
 
-/// Returns how far right the heads go that begin left of the end of `head`.
+/// Returns the right end of the heads that begin no further right than `head` ends.
 fn right_of(head: Drawn, heads: &[Drawn]) -> Distance {
     let end = head.right();
     heads
@@ -160,7 +161,7 @@ fn right_of(head: Drawn, heads: &[Drawn]) -> Distance {
         .fold(end, |right, other| right.max(other.right()))
 }
 
-/// Returns how many morae of `before` stand at the same note and the same height as `dot`.
+/// Returns the number of morae of `before` at the same note and the same step as `dot`.
 fn count_before(dot: Dot, before: &[Dot]) -> i32 {
     let count = before
         .iter()
@@ -169,7 +170,7 @@ fn count_before(dot: Dot, before: &[Dot]) -> i32 {
     i32::try_from(count).unwrap_or(0)
 }
 
-/// Draws the morae of `placed`, and returns how far right they go, or `right` if that is more.
+/// Draws the morae of `placed`, and returns their right end, or `right` if that is further right.
 fn draw_dots(
     placed: &[Dot],
     heads: &[Drawn],
@@ -188,8 +189,9 @@ fn draw_dots(
     Ok(reach)
 }
 
-/// Draws the morae of the neume whose heads are `heads`, and returns how far right it goes then: up
-/// to `right` without them. None stands on a line, and no two at one place.
+/// Draws the morae of the neume with these `heads`, and returns its right end with them; `right` is
+/// the one without. No mora is on a line, and of several at one note and step each is right of the
+/// one before.
 fn put_morae(
     alloc: Global,
     heads: &[Drawn],
@@ -203,8 +205,8 @@ fn put_morae(
     draw_dots(placed.as_slice(), heads, right, pen)
 }
 
-/// Draws what stands around the heads of a neume on a staff of `lines` lines, and returns how far
-/// right the neume goes then: up to `right` without that.
+/// Draws the signs around the `heads` of a neume on a staff of `lines` lines, and returns the right
+/// end of the neume with them; `right` is the one without.
 pub fn put_around(
     alloc: Global,
     heads: &[Drawn],

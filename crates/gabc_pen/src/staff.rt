@@ -1,4 +1,4 @@
-//! What stands on the staff and is no neume: clefs, alterations, bars, custodes.
+//! Draws the signs on the staff that are no neumes: clefs, alterations, bars, custodes.
 
 use crate::episemata::{ICTUS, THIN};
 use crate::pen::Pen;
@@ -7,10 +7,10 @@ use gabc_marks::{Distance, Symbol};
 use gabc_nodes::Node;
 use std::alloc::AllocError;
 
-/// How far over the staff the signs of a bar stand.
+/// The distance from the staff up to the signs over a bar.
 const OVER: Distance = Distance(800);
 
-/// A clef: whether it is an f clef, whether it has a flat, and on which line it stands, from 1.
+/// A clef: whether it is an f clef, whether it has a flat, and the number of its line, from 1.
 #[derive(Clone, Copy, Debug, PartialEq, Eq)]
 pub struct OneClef {
     is_fa: bool,
@@ -40,7 +40,7 @@ impl OneClef {
         }
     }
 
-    /// Returns how wide it is, with its flat.
+    /// Returns its width, with its flat.
     fn width(self) -> Distance {
         let own = self.symbol().metrics().width;
         if self.has_flat {
@@ -63,7 +63,7 @@ impl OneClef {
 }
 
 impl Clef {
-    /// Returns the clef of `node`, whose numbers say which it is.
+    /// Returns the clef of `node`, read from its numbers.
     pub fn of(node: Node) -> Clef {
         let second = OneClef {
             is_fa: node.c / 2 % 2 == 1,
@@ -80,8 +80,8 @@ impl Clef {
         }
     }
 
-    /// Returns where the second clef stands from the first one: beside it if both are too near to
-    /// stand one over the other.
+    /// Returns the distance from the left end of the first clef to that of the `second`: the second
+    /// is beside the first if both are too near for one over the other.
     fn second_x(self, second: OneClef) -> Distance {
         if self.first.step().abs_diff(second.step()) < 4 {
             self.first.width() + Distance(100)
@@ -90,7 +90,7 @@ impl Clef {
         }
     }
 
-    /// Returns how wide it is.
+    /// Returns its width.
     pub fn width(self) -> Distance {
         let own = self.first.width();
         self.second
@@ -107,7 +107,7 @@ impl Clef {
     }
 }
 
-/// Draws the alteration of `node`, in brackets if it is a reminder, and returns how wide it is.
+/// Draws the alteration of `node`, in brackets if it is a reminder, and returns its width.
 pub fn put_alteration(node: Node, pen: &mut Pen<'_>) -> Result<Distance, AllocError> {
     let symbol = match node.b {
         1 => Symbol::Flat,
@@ -127,7 +127,8 @@ pub fn put_alteration(node: Node, pen: &mut Pen<'_>) -> Result<Distance, AllocEr
     Ok(right + Symbol::BracketRight.metrics().width)
 }
 
-/// Draws an upright line of a bar, from a height over the lowest line of the staff to another one.
+/// Draws an upright line of a bar at `x`, from the height `low` over the lowest line of the staff
+/// up to `high`, and returns the distance from the place of `pen` to its right edge.
 fn put_upright(
     x: Distance,
     low: Distance,
@@ -138,7 +139,7 @@ fn put_upright(
     Ok(x + THIN - pen.x)
 }
 
-/// Draws a dotted bar up to the step `top`, and returns how wide it is.
+/// Draws a dotted bar up to the step `top`, and returns its width.
 fn put_dotted(top: i32, pen: &mut Pen<'_>) -> Result<Distance, AllocError> {
     let x = pen.x;
     for step in 0..top.saturating_add(1).min(10) {
@@ -148,7 +149,8 @@ fn put_dotted(top: i32, pen: &mut Pen<'_>) -> Result<Distance, AllocError> {
     Ok(THIN)
 }
 
-/// Draws a bar that parts two phrases: of the fourth kind, or of the sixth, which has two lines.
+/// Draws a bar over the whole staff, up to the height `top`, and returns its width: two lines if
+/// `is_final`, else one.
 fn put_whole_bar(top: Distance, is_final: bool, pen: &mut Pen<'_>) -> Result<Distance, AllocError> {
     let x = pen.x;
     let width = put_upright(x, Distance::ZERO, top, pen)?;
@@ -160,7 +162,7 @@ fn put_whole_bar(top: Distance, is_final: bool, pen: &mut Pen<'_>) -> Result<Dis
 }
 
 /// Draws the lines of the bar of `node` on a staff whose highest line has the step `top`, and
-/// returns how wide they are.
+/// returns their width.
 fn put_bar_lines(
     node: Node,
     is_dotted: bool,
@@ -198,7 +200,7 @@ fn put_bar_lines(
 }
 
 /// Draws the bar of `node` on a staff of `lines` lines, with its ictus and its brace over it, and
-/// returns how wide it is. `text` is how it is spelled.
+/// returns its width. `text` is its spelling.
 pub fn put_bar(
     node: Node,
     text: &str,
@@ -218,8 +220,8 @@ pub fn put_bar(
     Ok(width)
 }
 
-/// Returns the custos of this `pitch` on a staff of `lines` lines: its tail goes down if it stands
-/// high.
+/// Returns the custos of this `pitch` on a staff of `lines` lines: its tail goes down if it is more
+/// than `lines` steps over the lowest line.
 pub fn custos(pitch: u8, lines: i32) -> Symbol {
     if lines < i32::from(pitch) - 3 {
         Symbol::CustosDown

@@ -1,4 +1,4 @@
--- Characters as they stand in a text of XML or in the value of an attribute.
+-- Characters escaped for a text of XML or for the value of an attribute.
 use Rattle.std.specs.Prelude.{ℕ, ◌+◌, Bool, ◌&&◌, ◌||◌, ◌==◌, nat_lt, nat_le, cond, List, [], ◌∷◌, codes, encode_utf8}
 use Rattle.std.specs.List.{flat_map}
 use Rattle.std.specs.Str.{chars}
@@ -6,8 +6,8 @@ use Rattle.std.specs.Str.{chars}
 abbrev pub is_between : ℕ → ℕ → ℕ → Bool
 is_between low high c = nat_le low c && nat_le c high
 
--- whether a character is shown by the one that stands for nothing known, U+FFFD: what no XML may
--- hold, what steers a terminal, and the marks that turn the direction of a text
+-- whether a character is shown as the replacement character, U+FFFD: one that no XML may hold, one
+-- that steers a terminal, or a mark that turns the direction of a text
 abbrev pub is_hidden : ℕ → Bool
 is_hidden c =
     is_between 127 159 c || is_between 8206 8207 c || is_between 8232 8238 c || is_between 8294 8297 c || is_between 64976 65007 c

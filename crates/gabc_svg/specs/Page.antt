@@ -26,7 +26,7 @@ use Rattle.gabc_svg.specs.declared.tag.Tag.TheVariants as tag
 
 -- ---- texts
 
--- how far below the lowest line of the staff a level of a row stands
+-- the distance of a level of a row below the lowest line of the staff
 abbrev pub level_at : Levels → Level → ℤ
 level_at ls level.Text = ls.text.0
 level_at ls level.Translation = ls.translation.0
@@ -77,7 +77,7 @@ unfoldable pub use_content : List (List ℕ) → ℤ → ℤ → Content
 use_content texts x y =
     Empty tag.Use (outline texts ∷ valued name.X (signed_decimal x) ∷ valued name.Y (signed_decimal y) ∷ []) Nothing
 
--- how far below the lowest line of the staff that is which is so far below a line of NABC
+-- the distance below the lowest line of the staff of a place y below a line of NABC
 abbrev pub nabc_at : Levels → NabcLine → ℤ → ℤ
 nabc_at ls l y = saturate_signed w32 (level_at ls (level.Nabc l) +ℤ y)
 
@@ -92,7 +92,7 @@ unfoldable pub field_content : ℤ → ℤ → ℤ → ℤ → Bool → Content
 field_content x y width height is_warning =
     Empty tag.Rect (valued name.Class (cond is_warning (codes "mark w") (codes "mark")) ∷ sides x y width height) Nothing
 
--- from where to where a bow goes: to its end, bent towards a point
+-- the course of a bow: from its begin to its end, bent towards a point
 abbrev pub steps_of : Bow → List (List ℕ)
 steps_of b =
     codes "M" ∷ signed_decimal b.x.0 ∷ codes "," ∷ signed_decimal b.y.0
@@ -153,12 +153,13 @@ row_content row parts =
     Element tag.Group (valued name.Class (codes "row") ∷ moved_to row.x.0 row.y.0 ∷ [])
     (and_then (signs_content row.levels row.signs.items) (parts_content row.levels parts)) Nothing
 
--- how many of the parts that are left stand in a row before these rows: the last row has them all
+-- the number of parts in a row before these rows, of the number that is left: the last row has them
+-- all
 abbrev pub parts_in : Row → List Row → ℕ → ℕ
 parts_in row [] left = left
 parts_in row (next ∷ later) left = min row.parts left
 
--- those of these parts that stand in a row before these rows, from that part on
+-- the parts of a row before these rows, of these parts without the first `passed`
 abbrev pub parts_here : Row → List Row → List Part → ℕ → List Part
 parts_here row later parts passed = take (parts_in row later (length parts - passed)) (drop passed parts)
 

@@ -1,4 +1,4 @@
--- XML trees, as far as pictures need them, and their text.
+-- XML trees, as far as pictures need them, and their texts.
 use Rattle.std.specs.Prelude.{ℕ, List, [], ◌∷◌, ◌++◌, codes}
 use Rattle.std.specs.List.{flat_map}
 use Rattle.gabc_svg.specs.Escape.{escaped}
@@ -46,9 +46,9 @@ pub record Attribute : Type 0 where
   pub name : Name
   pub value : List (List ℕ)
 
--- what stands between two tags: nothing more; characters, and what stands after them; an element
--- with its name, its attributes and what it holds, and what stands after it; the same that holds
--- nothing, in its short form
+-- the content between two tags: none; characters, and the content after them; an element with its
+-- name, its attributes and its own content, and the content after it; an element without content,
+-- in its short form
 pub data Content : Type 0 where
   Nothing : Content
   Characters : List ℕ → Content → Content

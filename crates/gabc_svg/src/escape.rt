@@ -1,4 +1,4 @@
-//! Texts as they stand in XML.
+//! Texts escaped for XML.
 
 ghost use Rattle.std.specs.Prelude.{◌≡◌, ◌<◌, encode_utf8};
 ghost use Rattle.std.specs.Fmt.{decimal, signed_decimal};
@@ -9,7 +9,7 @@ ghost use Rattle.gabc_svg.specs.machine.Plain.{is_plain};
 use gabc_places::Put;
 use itoa::Buffer;
 
-/// Returns whether `c` is not shown as it is: no XML may hold it, or it steers a terminal, or turns
+/// Returns whether `c` is shown as U+FFFD: no XML may hold it, or it steers a terminal, or turns
 /// the direction of a text.
 fn is_hidden(c: u32) -> bool
     ensures { result ≡ hides c }
@@ -32,8 +32,8 @@ fn put_char<S: Put>(c: char, out: &mut S)
     out.put(c.encode_utf8(&mut buffer).as_bytes());
 }
 
-/// Puts the picture of the control character `c`, which stands below the blank; a blank for a tab
-/// or an LF.
+/// Puts the picture of the control character `c`, which is below the blank; a blank for a tab or an
+/// LF.
 fn put_control<S: Put>(c: u8, out: &mut S)
     requires { c < 32 }
     ensures { out.new ≡ S.taken out.old (escaped_control c) }
@@ -45,7 +45,7 @@ fn put_control<S: Put>(c: u8, out: &mut S)
     }
 }
 
-/// Puts `c` as it stands in a text or in the value of an attribute.
+/// Puts `c` escaped, as a text or the value of an attribute may have it.
 fn put_escaped_char<S: Put>(c: char, out: &mut S)
     ensures { out.new ≡ S.taken out.old (escaped_char c) }
 {
@@ -60,21 +60,21 @@ fn put_escaped_char<S: Put>(c: char, out: &mut S)
     }
 }
 
-/// Returns whether `byte` is a character that stands in a text as it is.
+/// Returns whether `byte` is a character of ASCII that escaping leaves as it is.
 fn is_plain(byte: u8) -> bool
     ensures { result ≡ is_plain byte }
 {
     32 <= byte && byte <= 126 && !(byte == b'&' || byte == b'<' || byte == b'>' || byte == b'"')
 }
 
-/// Returns whether all of `text` stands as it is.
+/// Returns whether all bytes of `text` are such characters.
 fn are_plain(text: &str) -> bool
     ensures { result ≡ list_all is_plain text.now }
 {
     text.bytes().all(|byte| is_plain(byte))
 }
 
-/// Puts the characters of `text`, each as it stands in a text or in the value of an attribute.
+/// Puts the characters of `text`, each escaped.
 fn put_chars<S: Put>(text: &str, out: &mut S)
     ensures { out.new ≡ S.taken out.old (escaped text.now) }
 {
@@ -83,7 +83,7 @@ fn put_chars<S: Put>(text: &str, out: &mut S)
     }
 }
 
-/// Puts `text` as it stands in a text or in the value of an attribute.
+/// Puts `text` escaped, as a text or the value of an attribute may have it.
 #[tactic(auto, using(crate::proofs::PlainTexts::plain_stays))]
 pub(crate) fn put_escaped<S: Put>(text: &str, out: &mut S)
     ensures { out.new ≡ S.taken out.old (escaped text.now) }

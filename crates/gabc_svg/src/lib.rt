@@ -1,8 +1,8 @@
 //! The text of a picture: the SVG of a display list of `gabc_marks`.
 //!
-//! What is written is the text of an XML tree (`specs/Xml`), and which tree that is, `specs/Page`
-//! says. So each text of a score stands in it as escaped character data, and nothing in a score can
-//! leave its place ([`laws`]).
+//! The text is that of an XML tree (`specs/Xml`), the one that `specs/Page` defines. So each text
+//! of a score is in it as escaped character data, and nothing in a score can leave its place
+//! ([`laws`]).
 #![tactic(auto)]
 
 mod escape;

@@ -32,7 +32,7 @@ fn family_name(family: Family) -> &'static str
     }
 }
 
-/// Returns what follows the steps in the name of a neume that ends so.
+/// Returns the end of a neume's name, after its steps, by its `ending`.
 fn ending_name(ending: Ending) -> &'static str
     ensures { result.now ≡ name_of_ending ending }
 {
@@ -104,7 +104,8 @@ pub(crate) fn name_of_symbol(symbol: Symbol) -> &'static str
     }
 }
 
-/// Puts the name of a neume that is one outline: its family, its steps, and how it begins and ends.
+/// Puts the name of a neume that is one outline: its family, its steps, and its begin and its
+/// ending.
 fn put_joined_name<S: Put>(joined: Joined, out: &mut S)
     ensures { out.new ≡ S.taken out.old (flat_map escaped (name_of_joined joined)) }
 {
@@ -131,7 +132,7 @@ pub(crate) fn put_head_name<S: Put>(head: Head, out: &mut S)
     }
 }
 
-/// Returns what begins the names of the outlines of a hand.
+/// Returns the prefix of the names of the outlines of `hand`.
 fn hand_name(hand: Hand) -> &'static str
     ensures { result.now ≡ name_of_hand hand }
 {

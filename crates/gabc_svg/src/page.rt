@@ -1,4 +1,4 @@
-//! The picture.
+//! Puts the text of a picture.
 
 ghost use Rattle.std.specs.Prelude.{◌≡◌, ◌≤◌, ◌+◌, ◌-◌, length};
 ghost use Rattle.std.specs.List.{flat_map};
@@ -13,7 +13,7 @@ use crate::xml::{begin_tag, begin_value, close_tag, put_attribute, put_number};
 use gabc_marks::{Distance, Levels, Part, Picture, Row};
 use gabc_places::Put;
 
-/// The levels of what stands in no row.
+/// The levels of signs that are in no row.
 const FLAT: Levels = Levels {
     text: Distance::ZERO,
     translation: Distance::ZERO,
@@ -24,7 +24,7 @@ const FLAT: Levels = Levels {
     fourth: Distance::ZERO,
 };
 
-/// Puts the text that says how far a group is moved.
+/// Puts the value of the attribute that moves a group by `x` and `y`.
 fn put_translation<S: Put>(x: Distance, y: Distance, out: &mut S)
     ensures { out.new ≡ S.taken out.old (flat_map escaped (translation x.0 y.0)) }
 {
@@ -35,7 +35,7 @@ fn put_translation<S: Put>(x: Distance, y: Distance, out: &mut S)
     put_escaped(")", out);
 }
 
-/// Puts the attribute that moves a group to this place.
+/// Puts the attribute that moves a group by `x` and `y`.
 #[tactic(auto, using(crate::proofs::Written::steps), unfolding(crate::specs::Xml::written_attribute))]
 fn put_moved<S: Put>(x: Distance, y: Distance, out: &mut S)
     ensures { out.new ≡ S.taken out.old (written_attribute (moved_to x.0 y.0)) }
@@ -55,7 +55,7 @@ fn put_part_attributes<S: Put>(part: &Part<'_>, out: &mut S)
     put_moved(part.x, Distance::ZERO, out);
 }
 
-/// Puts what stands in the group of `part` in a row with these `levels`.
+/// Puts the heads and the signs of `part` in a row with these `levels`.
 fn put_inner<S: Put>(levels: Levels, part: &Part<'_>, out: &mut S)
     ensures { out.new ≡ S.taken out.old
         (written (and_then (heads_content part.now.heads.items) (signs_content levels part.now.signs.items))) }
@@ -76,7 +76,7 @@ fn put_part<S: Put>(levels: Levels, part: &Part<'_>, out: &mut S)
     close_tag(Tag::Group, out);
 }
 
-/// Puts the groups of `parts`.
+/// Puts the groups of `parts` in a row with these `levels`.
 #[tactic(auto, using(crate::proofs::Written::steps))]
 fn put_parts<S: Put>(levels: Levels, parts: &[Part<'_>], out: &mut S)
     ensures { out.new ≡ S.taken out.old (written (parts_content levels parts.now)) }
@@ -88,7 +88,7 @@ fn put_parts<S: Put>(levels: Levels, parts: &[Part<'_>], out: &mut S)
     }
 }
 
-/// Puts the group of `row`, in which these `parts` stand.
+/// Puts the group of `row`, which has these `parts`.
 #[tactic(auto, using(crate::proofs::Written::steps), unfolding(crate::specs::Xml::written, crate::specs::Xml::opened, crate::specs::Page::row_content))]
 fn put_row<S: Put>(row: &Row<'_>, parts: &[Part<'_>], out: &mut S)
     ensures { out.new ≡ S.taken out.old (written (row_content row.now parts.now)) }
@@ -102,8 +102,8 @@ fn put_row<S: Put>(row: &Row<'_>, parts: &[Part<'_>], out: &mut S)
     close_tag(Tag::Group, out);
 }
 
-/// Returns how many of `left` parts stand in `row`, after which `later` come: all of them if it is
-/// the last one.
+/// Returns the number of the `left` parts that `row` has, after which `later` come: all of them if
+/// it is the last row.
 fn count_of(row: &Row<'_>, later: &[Row<'_>], left: usize) -> usize
     ensures count { result ≡ parts_in row.now later.now left }
     ensures within { result ≤ left }
@@ -115,7 +115,7 @@ fn count_of(row: &Row<'_>, later: &[Row<'_>], left: usize) -> usize
 }
 
 /// Puts the group of `row`, after which `later` come, with its parts of those from `passed` on, and
-/// returns where the parts of the next row begin.
+/// returns the index of the next row's first part.
 fn put_next_row<S: Put>(
     row: &Row<'_>,
     later: &[Row<'_>],
@@ -134,7 +134,7 @@ fn put_next_row<S: Put>(
     passed + count
 }
 
-/// Puts the groups of `rows`, in which `parts` stand: the last one has all that are left.
+/// Puts the groups of `rows` with their `parts`: the last one has all that are left.
 fn put_rows<S: Put>(rows: &[Row<'_>], parts: &[Part<'_>], out: &mut S)
     ensures { out.new ≡ S.taken out.old (written (rows_content rows.now parts.now)) }
 {
@@ -159,7 +159,7 @@ fn put_title<S: Put>(name: &str, out: &mut S)
     }
 }
 
-/// Puts the attribute that says how wide and how high the picture is.
+/// Puts the attribute with the width and the height of `picture`.
 #[tactic(auto, using(crate::proofs::Written::steps), unfolding(crate::specs::Xml::written_attribute))]
 fn put_view_box<S: Put>(picture: &Picture<'_>, out: &mut S)
     ensures { out.new ≡ S.taken out.old (written_attribute (view_box picture.now)) }

@@ -1,4 +1,4 @@
-//! Heads and signs.
+//! Puts heads and signs.
 
 ghost use Rattle.std.specs.Prelude.{◌≡◌, ◌∷◌, [], ◌++◌, codes};
 ghost use Rattle.std.specs.Fmt.{signed_decimal};
@@ -64,7 +64,7 @@ pub(crate) fn put_heads<S: Put>(heads: &[NoteHead], out: &mut S)
     }
 }
 
-/// Puts an outline at its place.
+/// Puts the outline of `symbol` with its origin at `x` and `y`.
 #[tactic(auto, using(crate::proofs::Written::steps), unfolding(crate::specs::Xml::written, crate::specs::Xml::opened, crate::specs::Page::use_content))]
 fn put_symbol<S: Put>(symbol: Symbol, x: Distance, y: Distance, out: &mut S)
     ensures { out.new ≡ S.taken out.old (written (use_content (symbol_name symbol ∷ []) x.0 y.0)) }
@@ -87,7 +87,7 @@ fn put_nabc_outline<S: Put>(nabc: NabcOutline, out: &mut S)
     out.put(b"\"");
 }
 
-/// Returns how far below the lowest line of the staff that is which is `y` below `line` of NABC, in
+/// Returns the distance below the lowest line of the staff of a place `y` below `line` of NABC, in
 /// a row with these `levels`.
 fn nabc_height(levels: Levels, line: NabcLine, y: Distance) -> Distance
     ensures { result.0 ≡ nabc_at levels line y.0 }
@@ -168,7 +168,7 @@ fn put_field<S: Put>(
     put_sides(x, y, width, height, out);
 }
 
-/// Puts the text that says from where to where `bow` goes.
+/// Puts the course of `bow`: its begin, the point towards which it bends, and its end.
 fn put_steps<S: Put>(bow: Bow, out: &mut S)
     ensures { out.new ≡ S.taken out.old (flat_map escaped (steps_of bow)) }
 {
@@ -186,7 +186,7 @@ fn put_steps<S: Put>(bow: Bow, out: &mut S)
     put_signed(bow.to_y.0, out);
 }
 
-/// Puts the attribute that says from where to where `bow` goes.
+/// Puts the attribute with the course of `bow`.
 #[tactic(auto, using(crate::proofs::Written::steps), unfolding(crate::specs::Xml::written_attribute))]
 fn put_course<S: Put>(bow: Bow, out: &mut S)
     ensures { out.new ≡ S.taken out.old (written_attribute (course bow)) }

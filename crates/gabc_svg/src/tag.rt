@@ -44,7 +44,7 @@ impl Tag {
     ghost use Rattle.std.specs.Prelude.{◌≡◌, ◌++◌, codes};
     ghost use Rattle.gabc_svg.specs.Xml.{closed, text_of_tag};
 
-    /// Returns what begins the tag that opens the element: its attributes follow.
+    /// Returns the begin of the tag that opens the element, up to its attributes.
     pub fn begin(self) -> &'static str
         ensures { result.now ≡ codes "<" ++ text_of_tag self }
     {
@@ -80,7 +80,7 @@ impl Name {
     ghost use Rattle.std.specs.Prelude.{◌≡◌, ◌++◌, codes};
     ghost use Rattle.gabc_svg.specs.Xml.{text_of_name};
 
-    /// Returns what begins the attribute in a text: its value follows.
+    /// Returns the begin of the attribute, with the blank before it, up to its value.
     pub fn begin(self) -> &'static str
         ensures { result.now ≡ codes " " ++ (text_of_name self ++ codes "=\"") }
     {

@@ -1,4 +1,4 @@
-//! Texts of a picture.
+//! Puts the texts of a picture.
 
 ghost use Rattle.std.specs.Prelude.{◌≡◌};
 ghost use Rattle.gabc_svg.specs.Xml.{written, written_attributes};
@@ -10,7 +10,8 @@ use crate::xml::{begin_tag, close_tag, put_attribute, put_distance, put_if};
 use gabc_marks::{Distance, Level, Levels, NabcLine, Styles, Words};
 use gabc_places::Put;
 
-/// Returns how far below the lowest line of the staff `level` stands in a row with these `levels`.
+/// Returns the distance of `level` below the lowest line of the staff, in a row with these
+/// `levels`.
 pub(crate) fn height_of_level(levels: Levels, level: Level) -> Distance
     ensures { result.0 ≡ level_at levels level }
 {

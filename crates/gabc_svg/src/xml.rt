@@ -1,4 +1,4 @@
-//! Tags and attributes.
+//! Puts tags and attributes.
 
 ghost use Rattle.std.specs.Prelude.{◌≡◌, ◌∷◌, [], ◌++◌, cond, codes};
 ghost use Rattle.std.specs.Fmt.{decimal, signed_decimal};
@@ -9,7 +9,7 @@ use crate::tag::{Name, Tag};
 use gabc_marks::Distance;
 use gabc_places::Put;
 
-/// Puts what begins a tag that opens the element `tag`: its attributes follow.
+/// Puts the begin of a tag that opens the element `tag`, up to its attributes.
 #[tactic(auto, using(crate::proofs::Written::steps), unfolding(crate::specs::Xml::opened))]
 pub(crate) fn begin_tag<S: Put>(tag: Tag, out: &mut S)
     ensures { out.new ≡ S.taken out.old (opened tag []) }
@@ -24,7 +24,7 @@ pub(crate) fn close_tag<S: Put>(tag: Tag, out: &mut S)
     out.put(tag.close().as_bytes());
 }
 
-/// Puts what begins the attribute `name`: its value follows.
+/// Puts the begin of the attribute `name`, up to its value.
 pub(crate) fn begin_value<S: Put>(name: Name, out: &mut S)
     ensures { out.new ≡ S.taken out.old (codes " " ++ (text_of_name name ++ codes "=\"")) }
 {
@@ -51,7 +51,8 @@ pub(crate) fn put_if<S: Put>(is_there: bool, name: Name, value: &str, out: &mut 
     }
 }
 
-/// Puts the attribute `name` with a distance as its value.
+/// Puts the attribute `name` with the distance `value` as its value, in thousandths of a staff
+/// space.
 #[tactic(auto, using(crate::proofs::Written::steps), unfolding(crate::specs::Xml::written_attribute))]
 pub(crate) fn put_distance<S: Put>(name: Name, value: Distance, out: &mut S)
     ensures { out.new ≡ S.taken out.old

@@ -21,8 +21,7 @@ use crate::text_facts::{
 };
 use crate::token::{TagEffect, TokenKind};
 use crate::token_state::{
-    Step, TokenState, is_plain, is_plain_letter, is_unmatched, kind_at_end, next_step,
-    settled_kind,
+    Step, TokenState, is_plain, is_plain_letter, is_unmatched, kind_at_end, next_step, settled_kind,
 };
 use crate::view::PieceKind;
 use gabc_places::{Char, Place, Room, Stage};

@@ -1,5 +1,4 @@
--- What is not kept of a body, by what becomes of each character where the reading by what is kept
--- stands.
+-- What is not kept of a body, by what becomes of each character in the reading by what is kept.
 use Rattle.std.specs.Prelude.{◌≡◌, ◌⊎◌, ℕ, List, [], ◌∷◌, ◌++◌, Bool, true, false, cond, not, ◌&&◌, ◌==◌, nat_le, length, map, take, drop, Option, Some, None, is_some, Ok}
 use Rattle.gabc_places.specs.Fate.{Fate, Keep, Comment, Ends, LeaveOut}
 use Rattle.std.specs.List.{All}
@@ -33,7 +32,7 @@ abbrev pub ends : Fate → Bool
 ends Ends = true
 ends _ = false
 
--- what is kept of the part that is read where it ends, if these characters are to come
+-- what is kept of the part that is being read at its end, if these characters are to come
 abbrev pub kept_at_end : ℕ → ℕ → BodyRead → List Char → List ℕ
 kept_at_end lines macros b [] = b.reading.kept
 kept_at_end lines macros b (x ∷ xs) = cond (ends (fate_at lines b x)) b.reading.kept (kept_at_end lines macros (read.past lines macros b x) xs)
@@ -48,7 +47,7 @@ is_cut_by (InNotes line) kept all = nat_le (length (whole_of line all)) (length 
 abbrev pub is_cut : ℕ → ℕ → BodyRead → Char → List Char → Bool
 is_cut lines macros b x xs = is_cut_by b.reading.part b.reading.kept (kept_at_end lines macros b (x ∷ xs))
 
--- what a character is of which this becomes, if it is not kept: its kind and its number
+-- the kind and the number of a character with this fate, if it is not kept
 abbrev pub out_by_fate : Bool → Fate → Option (Kind × ℕ)
 out_by_fate cut Keep = cond cut (Some (kind.LeftOut, 106)) None
 out_by_fate cut Comment = Some (kind.Comment, 0)
@@ -56,13 +55,13 @@ out_by_fate cut Ends = None
 out_by_fate cut (LeaveOut None) = Some (kind.FurtherBlank, 0)
 out_by_fate cut (LeaveOut (Some code)) = Some (kind.LeftOut, number_of_code code)
 
--- what the character is where the reading stands, before these characters
+-- the kind and the number of the character at this state of the reading, before these characters
 abbrev pub out_by_reading : ℕ → ℕ → BodyRead → Char → List Char → Option (Kind × ℕ)
 out_by_reading lines macros b x xs = out_by_fate (is_cut lines macros b x xs) (fate_at lines b x)
 
 -- ---- of an input
 
--- where the going over an input stands after these characters
+-- the state of the going over an input after these characters
 abbrev pub reached_after : Reached → List ℕ → Reached
 reached_after s [] = s
 reached_after s (c ∷ cs) = reached_after (past s c) cs
@@ -97,13 +96,13 @@ AllAreFound limits bytes =
 abbrev pub spaced : ℕ → ℕ
 spaced c = cond (is_blank c) 32 c
 
--- what is left of these characters without what is not kept, where the going over stands
+-- what is left of these characters without what is not kept, from this state of the going over on
 abbrev pub left_of : Reached → List ℕ → List ℕ
 left_of s [] = []
 left_of s (c ∷ cs) = cond (is_some (out_of s c)) (left_of (past s c) cs) (read_as c ∷ left_of (past s c) cs)
 
 -- Law: without what is not kept, an input is the text of its headers, then the kept texts of the
--- syllables, one after the other, and then what stands after them, each blank as U+0020.
+-- syllables, one after the other, and then what comes after them, each blank as U+0020.
 pub record IsKeptText (limits : Limits) (bytes : List ℕ) (heads : Heads) : Type 0 where
   pub tail : List ℕ
   pub is :
@@ -114,14 +113,14 @@ pub record IsKeptText (limits : Limits) (bytes : List ℕ) (heads : Heads) : Typ
 
 -- ---- findings
 
--- a finding of that code stands at a character that is left out
+-- a finding of that code is about a character that is left out
 abbrev pub is_error : Code → Bool
 is_error E1 = true
 is_error E2 = true
 is_error E3 = true
 is_error _ = false
 
--- A character of the input stands where the finding does. It is left out with its code, if a
+-- A character of the input is at the place of the finding. It is left out with its code, if a
 -- character of the syllables is still to come there.
 pub record IsLeftOutThere (limits : Limits) (bytes : List ℕ) (heads : Heads) (f : Finding) : Type 0 where
   pub before : List ℕ

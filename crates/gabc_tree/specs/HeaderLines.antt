@@ -1,4 +1,4 @@
--- The nodes of the lines of the headers: of a text that stands before the line `%%`. A line is the
+-- The nodes of the lines of the headers: of a text that comes before the line `%%`. A line is the
 -- list of its bytes, and `at` the byte of the text with which it begins.
 use Rattle.std.specs.Prelude.{if◌then◌else◌, ℕ, ◌+◌, ◌-◌, ◌==◌, List, [], ◌∷◌, ◌++◌, length, drop, slice_range, position, Option, Some, None}
 use Rattle.std.specs.List.{prefix_len}
@@ -21,7 +21,8 @@ span from to = record { from = from; to = to }
 abbrev pub part : Kind → ℕ → Span → Node
 part k number s = leaf k number (offset s.from) (offset s.to)
 
--- what is left of a part of the text from that byte on, when it is trimmed to this
+-- the span of a part of the text from that byte on, if this is left of it once its end is trimmed:
+-- without the blanks and LFs at its start
 abbrev pub span_of : ℕ → List ℕ → Span
 span_of from kept = span (from + (length kept - length (trim_start is_blank_or_lf kept))) (from + length kept)
 
@@ -33,7 +34,7 @@ name_span at name = span_of at (trim_end is_blank name)
 abbrev pub value_span : List ℕ → ℕ → ℕ → Span
 value_span text from to = span_of from (trim_end ends_no_value (slice_range text from to))
 
--- how many `;` the line begins with
+-- the number of `;` with which the line begins
 abbrev pub semicolons : List ℕ → ℕ
 semicolons l = prefix_len (λ c. c == 59) l
 
@@ -71,7 +72,7 @@ ended_at text h at l mark =
 abbrev pub header_at : Option Code → ℕ → List ℕ → Header
 header_at found at l = record { found = found; name = name_span at (before_colon l); value = at + length (before_colon l) + 1 }
 
--- the nodes of a line that stands in no value
+-- the nodes of a line that is in no value
 abbrev pub line_nodes : List ℕ → Option Code → ℕ → List ℕ → List Node
 line_nodes text found at l =
     if is_bare l then comment_of at 0 l
@@ -92,7 +93,7 @@ open_below h l = if has_mark 2 l then None else Some h
 
 -- ---- findings
 
--- what is found at line k, if the first of these findings stands there, and those after it
+-- the code that is found at line k, if the first of these findings is there, and those after it
 abbrev pub found_at : ℕ → List Finding → Option Code
 found_at k [] = None
 found_at k (f ∷ fs) = if f.place.line == k then Some f.code else None
@@ -103,8 +104,7 @@ found_after k (f ∷ fs) = if f.place.line == k then fs else f ∷ fs
 
 -- ---- the lines
 
--- the nodes of a line that stands in the value of this header, or in none, and the header that it
--- leaves open
+-- the nodes of a line in the value of this header, or in none, and the header that it leaves open
 abbrev pub nodes_of : List ℕ → Option Header → Option Code → ℕ → List ℕ → List Node
 nodes_of text None found at l = line_nodes text found at l
 nodes_of text (Some h) found at l = nodes_below text h at l

@@ -36,22 +36,22 @@ is_digit c = nat_le 49 c && nat_le c 57
 abbrev pub is_modifier : ℕ → Bool
 is_modifier c = is_in c (codes "SGM->~") || is_digit c
 
--- how many bytes a text has through its first digit
+-- the number of bytes of a text through its first digit: all if it has none
 abbrev pub through_digit : List ℕ → ℕ
 through_digit [] = 0
 through_digit (c ∷ t) = if is_digit c then 1 else suc (through_digit t)
 
--- what the first digit says, or 0
+-- the value of the first digit, or 0
 abbrev pub first_digit : List ℕ → ℕ
 first_digit [] = 0
 first_digit (c ∷ t) = if is_digit c then c - 48 else first_digit t
 
--- how many bytes a glyph has before its pitch: its code, and modifiers
+-- the number of bytes of a glyph before its pitch: its code, and modifiers
 abbrev pub glyph_before_pitch : List ℕ → ℕ
 glyph_before_pitch (a ∷ b ∷ t) = 2 + prefix_len is_modifier t
 glyph_before_pitch t = length t
 
--- how many a piece has
+-- the same of a piece of that kind
 abbrev pub before_pitch : PieceKind → List ℕ → ℕ
 before_pitch piece.Glyph t = glyph_before_pitch t
 before_pitch piece.Points t = through_digit t
@@ -66,7 +66,7 @@ pitch_at _ = None
 abbrev pub pitch_of : List ℕ → Option ℕ
 pitch_of t = pitch_at (drop (before_pitch (piece_kind t) t) t)
 
--- how many bytes a piece has
+-- the number of bytes of a piece
 abbrev pub piece_len : List ℕ → ℕ
 piece_len t = before_pitch (piece_kind t) t + (elim (pitch_of t) as (λ _. ℕ) [ None ↦ 0 | Some height ↦ 2 ])
 
@@ -88,7 +88,7 @@ piece_numbers_by piece.Letters pitch t =
 abbrev pub piece_numbers : List ℕ → Numbers
 piece_numbers t = piece_numbers_by (piece_kind t) (pitch_of t) t
 
--- the node of the piece with which a text begins, if the text stands at that byte
+-- the node of the piece with which a text begins, if the text begins at that byte
 abbrev pub piece_node : ℕ → ℕ → List ℕ → Node
 piece_node base at t =
     node_at base (record { from = at; to = at + piece_len t }) 0 (kind_of_piece (piece_kind t)) (piece_numbers t)

@@ -17,9 +17,9 @@ use Rattle.gabc_nodes.specs.declared.node.Node.{Node}
 use Rattle.gabc_nodes.specs.Node.{leaf}
 use Rattle.gabc_tree.specs.CodeNumber.{number_of_code}
 
--- The state of the reading: the character before, the byte and the place of the next one, how many
--- characters of the headers are to come, whether a comment is open, and of the body the characters
--- that are to be kept and the findings to come.
+-- The state of the reading: the character before, the byte and the place of the next one, the
+-- number of characters of the headers to come, whether a comment is open, and of the body the
+-- characters that are to be kept and the findings to come.
 pub record Reached : Type 0 where
   pub previous : ℕ
   pub byte : ℕ
@@ -31,7 +31,7 @@ pub record Reached : Type 0 where
 
 -- ---- the findings
 
--- a finding of that code stands at a character that is left out
+-- a finding of that code is about a character that is left out
 abbrev pub leaves_out : Code → Bool
 leaves_out E1 = true
 leaves_out E2 = true
@@ -53,7 +53,7 @@ abbrev pub from_here : Place → List Finding → List Finding
 from_here here [] = []
 from_here here (f ∷ fs) = cond (not (leaves_out f.code) || is_before f.place here) (from_here here fs) (f ∷ fs)
 
--- the code of the first of them, if it stands here
+-- the code of the first of them, if it is here
 abbrev pub code_at : Place → List Finding → Option Code
 code_at here [] = None
 code_at here (f ∷ fs) = cond (is_at f.place here) (Some f.code) None
@@ -65,7 +65,7 @@ abbrev pub comes_next : List ℕ → ℕ → Bool
 comes_next [] c = false
 comes_next (d ∷ ds) c = (c == d) || ((d == 32) && is_blank c)
 
--- what it is if it is not kept: its kind and its number
+-- its kind and its number, if it is not kept
 abbrev pub out_by_code : List ℕ → ℕ → Option Code → Option (Kind × ℕ)
 out_by_code kept c (Some code) = Some (LeftOut, number_of_code code)
 out_by_code [] c None = None

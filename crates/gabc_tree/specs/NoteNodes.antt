@@ -62,11 +62,11 @@ abbrev pub last_to : ℕ → List Item → ℕ
 last_to to [] = to
 last_to to (i ∷ items) = last_to i.span.to items
 
--- the first glyph of the segment at the head of the items: its kind, and how many notes it has
+-- the first glyph of the segment at the head of the items: its kind, and the number of its notes
 abbrev pub glyph_at : List ℕ → List Item → Option (GlyphKind × ℕ)
 glyph_at kept items = let notes = notes_in kept (take_while is_in_segment items) in longest_glyph (length notes) notes
 
--- the glyph that begins with an item, which these items stand after, if it is a note
+-- the glyph that begins with an item, if that is a note; these items come after it
 abbrev pub glyph_from : List ℕ → Item → List Item → Option (GlyphKind × ℕ)
 glyph_from kept i items = if is_note i.kind then glyph_at kept (i ∷ items) else None
 
@@ -81,7 +81,7 @@ glyph_node base g i items =
     (suc (length (later_items g items))) kind.Glyph (glyph_numbers g.0 g.1)
 
 -- Of at most n items and their nodes: each glyph's node, then those of its items, and between
--- glyphs those of what stands there.
+-- glyphs those of the other items.
 abbrev pub glyph_nodes : ℕ → List ℕ → ℕ → List Item → List Node → List Node
 glyph_nodes base kept zero items nodes = []
 glyph_nodes base kept (suc n) [] nodes = []

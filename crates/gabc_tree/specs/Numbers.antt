@@ -1,4 +1,4 @@
--- What the kinds of nodes say of items in numbers.
+-- The numbers of the nodes of items.
 use Rattle.std.specs.Prelude.{ℕ, ◌+◌, ◌-◌, ◌*◌, ◌==◌, List, [], ◌∷◌, Bool, ◌&&◌, ◌||◌, drop, min, codes, Option, Some, None, if◌then◌else◌}
 use Rattle.gabc_patterns.specs.Pattern.{is_in}
 use Rattle.gabc_patterns.specs.Derivative.{same_texts}
@@ -104,7 +104,7 @@ number_of_over_staff s =
 abbrev pub number_of_covered : Covered → ℕ
 number_of_covered c = c.auto + 8 * c.over + 64 * c.under
 
--- of one note 16 and the number of its shape
+-- of one note 16 plus the number of its shape
 abbrev pub number_of_base : Base → ℕ
 number_of_base base.Pes = 0
 number_of_base base.Clivis = 1
@@ -126,11 +126,11 @@ number_of_tail tail.Resupinus = 2
 
 -- ---- the numbers of a note
 
--- what stands after the pitch of a note
+-- the suffixes of a note: what comes after its pitch
 abbrev pub after_pitch : List ℕ → List ℕ
 after_pitch t = drop 1 (from_pitch t)
 
--- of a note with these signs, which sounds so, and which begins an element or not
+-- of a note with this sound and these signs, which begins an element or not
 abbrev pub note_numbers_by : Note → Sound → Bool → NoteSigns → Numbers
 note_numbers_by n sound begins signs = record {
   a = min 15 n.height + 16 * number_of_over_staff signs.over_staff + 4096 * number_of_bit signs.hollow
@@ -172,7 +172,7 @@ clef_numbers t = three
     (elim (clef_at t) as (λ _. ℕ) [ None ↦ 0 | Some clef ↦ clef.line ])
     (elim (clef_at (after_join t)) as (λ _. ℕ) [ None ↦ 0 | Some clef ↦ 1 + 2 * clef_letter clef + 8 * clef.line ])
 
--- 1 and the digit with which the text begins, or 0
+-- 1 plus the digit with which the text begins, or 0
 abbrev pub digit_after : List ℕ → ℕ
 digit_after [] = 0
 digit_after (c ∷ t) = if is_digit c then 1 + (c - 48) else 0
@@ -206,12 +206,12 @@ break_numbers t = three
     (if begins_with (codes "+") (drop 1 t) then 1 else if begins_with (codes "-") (drop 1 t) then 2 else 0)
     0
 
--- 1 and the digit, if the text is one digit and a `]`; else 0
+-- 1 plus the digit, if the text is one digit and a `]`; else 0
 abbrev pub last_digit : List ℕ → ℕ
 last_digit (d ∷ b ∷ []) = if is_digit d && (b == 93) then 1 + (d - 48) else 0
 last_digit _ = 0
 
--- 1 and the digit of the macro that an attribute calls, or 0
+-- 1 plus the digit of the macro that an attribute calls, or 0
 abbrev pub attribute_number : List ℕ → ℕ
 attribute_number t =
     if begins_with (codes "[nm") t || begins_with (codes "[gm") t || begins_with (codes "[em") t then last_digit (drop 3 t) else

@@ -3,8 +3,8 @@ use Rattle.std.specs.Prelude.{ℕ, ◌≡◌, ◌≤◌, List, [], ◌∷◌, �
 use Rattle.std.specs.List.{slice_range, concat}
 use Rattle.gabc_nodes.specs.declared.node.Node.{Node}
 
--- What belongs to each stretch between two bytes, in order, if these nodes stand between them:
--- the bytes between two nodes belong to the one in which both lie.
+-- The own bytes of a node or of the input between two bytes, in order, if these nodes lie between
+-- them: the bytes between two nodes belong to the one in which both lie.
 pub data AreOwn (bytes : List ℕ) : ℕ → ℕ → List Node → List (List ℕ) → Type 0 where
   over : {from to : ℕ} → from ≤ to → AreOwn bytes from to [] (slice_range bytes from to ∷ [])
   node : {from to : ℕ} {n : Node} {inside after : List Node} {own more : List (List ℕ)} → from ≤ n.begin → length inside ≡ n.inner → AreOwn bytes n.begin n.end inside own → AreOwn bytes n.end to after more → AreOwn bytes from to (n ∷ inside ++ after) (slice_range bytes from n.begin ∷ own ++ more)

@@ -1,4 +1,4 @@
--- Where nodes of kept texts stand in the input, and what is not kept between them. The kept bytes
+-- The places of nodes of kept texts in the input, and what is not kept between them. The kept bytes
 -- of an input are counted from 0.
 use Rattle.std.specs.Prelude.{ℕ, ◌+◌, ◌-◌, min, List, [], ◌∷◌, ◌++◌, Bool, cond, ◌&&◌, ◌==◌, nat_le, nat_lt, length, drop}
 use Rattle.gabc_nodes.specs.declared.kind.Kind.{Kind}
@@ -10,22 +10,24 @@ use Rattle.gabc_nodes.specs.Kind.{number_of}
 abbrev pub offset : ℕ → ℕ
 offset n = min n 4294967295
 
--- how many bytes these nodes have
+-- the number of bytes that these nodes have
 abbrev pub bytes_in : List Node → ℕ
 bytes_in [] = 0
 bytes_in (s ∷ out) = s.end - s.begin + bytes_in out
 
--- of what is not kept, what stands before a byte that would stand at n without it
+-- the nodes of what is not kept before a byte that would be the byte n without them
 abbrev pub before_byte : ℕ → List Node → List Node
 before_byte n [] = []
 before_byte n (s ∷ out) = cond (nat_le s.begin n) (s ∷ before_byte (n + (s.end - s.begin)) out) []
 
--- What is not kept from a place on, and how many bytes of the input before that place are not kept.
+-- The nodes of what is not kept from a place on, and the number of bytes before that place that are
+-- not kept.
 pub record Reach : Type 0 where
   pub out : List Node
   pub passed : ℕ
 
--- what is not kept from there to the kept byte n, the place there, and where that byte stands
+-- what is not kept from there to the kept byte n, the place there, and the byte of the input that
+-- it is
 abbrev pub up_to : Reach → ℕ → List Node
 up_to r n = before_byte (n + r.passed) r.out
 
@@ -40,24 +42,24 @@ byte_at r n = n + (reach_to r n).passed
 abbrev pub is_snippet : Kind → Bool
 is_snippet k = number_of k == number_of Snippet
 
--- all that stands between its marks is a snippet's
+-- whatever is between its marks belongs to a snippet
 abbrev pub is_between : Node → Bool
 is_between n = is_snippet n.kind && nat_lt 0 n.begin
 
--- the last kept byte before which nothing of the node stands
+-- the last kept byte before which no byte of the node comes
 abbrev pub first_of : Node → ℕ
 first_of n = cond (is_between n) (n.begin - 1) n.begin
 
 abbrev pub begin_of : Reach → Node → ℕ
 begin_of r n = cond (is_between n) (byte_at r (n.begin - 1) + 1) (byte_at r n.begin)
 
--- what of what is not kept lies in it, after that place
+-- the nodes of what is not kept that lie in it, after that place
 abbrev pub inside_of : Reach → Node → List Node
 inside_of r n =
     cond (is_snippet n.kind) (up_to r n.end)
     (cond (nat_lt n.begin n.end) (up_to r (n.end - 1)) [])
 
--- where it ends, if it begins at that byte
+-- the byte before which it ends, if it begins at that byte
 abbrev pub end_by : Reach → ℕ → Node → ℕ
 end_by r begin n =
     cond (is_snippet n.kind) (byte_at r n.end)

@@ -1,4 +1,4 @@
--- The signs of a note: what its suffixes say beside its shape.
+-- The signs of a note, read from its suffixes: all but its shape.
 use Rattle.std.specs.Prelude.{ℕ, suc, ◌==◌, List, [], ◌∷◌, Bool, not, ◌&&◌, ◌||◌, drop, min, max, codes, Option, Some, None, if◌then◌else◌}
 use Rattle.std.specs.List.{list_any}
 use Rattle.gabc_patterns.specs.Pattern.{is_in}
@@ -18,19 +18,19 @@ use Rattle.gabc_tree.specs.declared.signs.NoteSigns.{NoteSigns}
 
 -- ---- the suffixes of a note
 
--- A suffix: a character, and the digits after it. Of a `_` the count says how many stand in a row
--- from it on, and the digits are those after the last of them.
+-- A suffix: a character, and the digits after it. For a `_` the count is the number of them in a
+-- row from it on, and the digits are those after the last of them.
 pub record Suffix : Type 0 where
   pub sign : ℕ
   pub count : ℕ
   pub digits : List ℕ
 
--- how many `_` begin the text
+-- the number of `_` with which the text begins
 abbrev pub bars : List ℕ → ℕ
 bars [] = 0
 bars (c ∷ t) = if c == 95 then suc (bars t) else 0
 
--- how many `_` stand in a row after that character: after another than a `_` none count
+-- the number of `_` in a row after that character: 0 after another than a `_`
 abbrev pub more_bars : ℕ → List ℕ → ℕ
 more_bars c t = if c == 95 then bars t else 0
 
@@ -49,7 +49,7 @@ suffixes (c ∷ t) = if is_digit c then suffixes t else suffix_at c t ∷ suffix
 abbrev pub has : ℕ → List Suffix → Bool
 has c ss = list_any (λ s. s.sign == c) ss
 
--- how many of them are that sign
+-- the number of them with that sign
 abbrev pub count_of : ℕ → List Suffix → ℕ
 count_of c [] = 0
 count_of c (s ∷ ss) = if s.sign == c then suc (count_of c ss) else count_of c ss
@@ -98,7 +98,7 @@ with_cover c side.Auto n = record c { auto = max c.auto n }
 with_cover c side.Over n = record c { over = max c.over n }
 with_cover c side.Under n = record c { under = max c.under n }
 
--- what the longest episema of each side covers, at most 7 notes
+-- the number of notes that the longest episema of each side covers, at most 7
 abbrev pub covered : List Suffix → Covered
 covered [] = record { auto = 0; over = 0; under = 0 }
 covered (s ∷ ss) = if s.sign == 95 then with_cover (covered ss) (side_by s.digits) (min 7 s.count) else covered ss

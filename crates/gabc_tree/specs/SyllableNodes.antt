@@ -37,7 +37,7 @@ items_nodes force kept s = cond (s.line == 0) (gabc_nodes (offset s.span.from) f
 abbrev pub snippet_nodes : InForce → List ℕ → Snippet → List Node
 snippet_nodes force kept s = around (snippet_node s) (items_nodes force kept s)
 
--- what is in force after a snippet
+-- the alterations and the clef in force after a snippet
 abbrev pub force_past : InForce → List ℕ → Snippet → InForce
 force_past force kept s = cond (s.line == 0) (passed force (steps_of (text_at s.span kept))) force
 
@@ -51,7 +51,7 @@ notes_nodes force kept (s ∷ snippets) = snippet_nodes force kept s ++ notes_no
 
 -- ---- the syllable
 
--- how many bytes of its kept text its text has: those before its `(`, or all
+-- the number of bytes of its text in its kept text: those before its `(`, or all
 abbrev pub text_len : List ℕ → List Snippet → ℕ
 text_len kept [] = length kept
 text_len kept (s ∷ snippets) = cond (nat_lt 0 s.span.from && nat_lt s.span.from (length kept)) (s.span.from - 1) (length kept)

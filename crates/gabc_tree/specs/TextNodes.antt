@@ -49,7 +49,7 @@ begins_with front s = starts_with (λ a b. a == b) s front
 abbrev pub is_escape : List ℕ → Bool
 is_escape s = begins_with (codes "$") s && nat_lt 1 (length s)
 
--- which raw part it is, by its spelling
+-- the number of a raw part, by its spelling
 abbrev pub raw_number : List ℕ → ℕ
 raw_number s = if begins_with (codes "<v>") s then 0 else (if begins_with (codes "<sp>") s then 1 else 2)
 
@@ -66,16 +66,16 @@ number_of_style s = position_or_len (is_same s) all_styles
 
 -- ---- the node of a token
 
--- of a tag with these bytes, numbers and spelling, by what it does
+-- of a tag with these bytes, numbers and spelling, by its effect
 abbrev pub tag_node : Span → ℕ → List ℕ → TagEffect → Node
 tag_node span n s (Opens r) = text_node span kind.StyleTag 0 (number_of_style r) 0
 tag_node span n s (Closes r) = text_node span kind.StyleTag 0 (number_of_style r) 1
 tag_node span n s Mark = text_node span kind.SpanMark n (number_of_mark (mark_at s)) 0
 tag_node span n s _ = text_node span kind.Tag n 0 0
 
--- Of a token, by its kind and what its tag does: `n` are the numbers there, `is_piece` says of a
--- blank that it is a piece, `is_first` of a translation that none stands before it, and `s` is how
--- it is spelled. No other token is in the text of a syllable with notes.
+-- Of a token, by its kind and the effect of its tag: `n` are the numbers there, `is_piece` says of
+-- a blank that it is a piece, `is_first` of a translation that none comes before it, and `s` is its
+-- spelling. No other token is in the text of a syllable with notes.
 abbrev pub node_by : Span → ℕ → Bool → Bool → List ℕ → TokenKind → TagEffect → Option Node
 node_by span n is_piece is_first s Letter e = Some (text_node span (if is_escape s then kind.Escape else kind.Characters) n 0 0)
 node_by span n is_piece is_first s Blank e = Some (text_node span kind.TextBlank n (bit is_piece 1) 0)
@@ -90,7 +90,7 @@ node_by span n is_piece is_first s _ e = None
 abbrev pub span_at : List Token → Token → Span
 span_at before k = record { from = bytes_before before; to = bytes_before (k ∷ before) }
 
--- a blank is a piece after a word's piece, if no blank stands between, and if a piece follows
+-- a blank is a piece after a word's piece, if no blank is between, and if a piece follows
 abbrev pub is_piece_at : List Token → Token → List Token → Bool
 is_piece_at before k after = is_blank_at before k.kind && list_any (λ t. is_some (kind_of t)) after
 

@@ -1,5 +1,5 @@
--- The tree of a score: the nodes of what is kept, put where they stand in the input, with what is
--- not kept between them.
+-- The tree of a score: the nodes of what is kept, at their places in the input, with what is not
+-- kept between them.
 use Rattle.std.specs.Prelude.{ℕ, ◌+◌, ◌-◌, List, [], ◌∷◌, ◌++◌, cond, ◌==◌, nat_lt, length, map, take, Option, Some, None, true}
 use Rattle.std.specs.List.{flat_map}
 use Rattle.std.specs.Char.{len_utf8}
@@ -42,7 +42,7 @@ body_end base (s ∷ syllables) = body_end (offset (base + length s.made.kept)) 
 abbrev pub kept_characters : List PlacedSyllable → List ℕ
 kept_characters syllables = flat_map (λ (s : PlacedSyllable). chars s.made.kept) syllables
 
--- how many characters the first n bytes of a text have
+-- the number of characters that begin in the first n bytes of a text
 abbrev pub characters_before : ℕ → List ℕ → ℕ
 characters_before n [] = 0
 characters_before n (c ∷ t) = cond (n == 0) 0 (1 + characters_before (n - len_utf8 c) t)
@@ -66,7 +66,7 @@ abbrev pub file_nodes : List Node → List Node → ℕ → ℕ → Option Fault
 file_nodes out nodes kept len fault =
     around (leaf File 0 0 (offset len)) (placed_from (before_all out) nodes ++ rest_of (reach_after (before_all out) nodes) kept len fault)
 
--- what these bytes say as a score
+-- the score of these bytes
 abbrev pub score_in : Limits → List ℕ → Score
 score_in limits bytes = let decoded = decoded_of limits true bytes in score_of limits (ending_by decoded.fault) decoded.text
 

@@ -19,11 +19,11 @@ use std::marker::Model;
 #[derive(Drop)]
 pub(crate) struct BodyNodes {
     nodes: Vec<Node>,
-    /// What is kept of the syllables.
+    /// The kept texts of the syllables, one after the other.
     kept: String,
     /// The number of the next kept byte.
     base: u32,
-    /// What is in force there.
+    /// The alterations in force there.
     alterations: Alterations,
     /// Room for the nodes of one syllable.
     of_one: Vec<Node>,
@@ -44,8 +44,8 @@ impl Model for BodyNodes {
     } };
 }
 
-/// Moves `nodes`, which count the bytes of a text whose first byte is the kept byte `base`, to
-/// where they stand in what is kept.
+/// Moves `nodes`, which count the bytes of a text whose first byte is the kept byte `base`, so that
+/// they count all kept bytes.
 fn move_each(base: u32, nodes: &mut [Node])
     ensures { nodes.new ≡ map (moved_by base) nodes.old }
 {
@@ -61,7 +61,7 @@ fn move_all(base: u32, nodes: &mut Vec<Node>)
     move_each(base, nodes.as_mut_slice());
 }
 
-/// Adds `made` to `nodes` and `text` to `kept`. If there is no memory for both, neither changes.
+/// Adds `made` to `nodes` and `text` to `kept`. If memory runs out, neither changes.
 fn append(
     nodes: &mut Vec<Node>,
     made: &[Node],
@@ -113,7 +113,7 @@ impl BodyNodes {
         self.nodes.as_slice()
     }
 
-    /// Returns what is kept of the syllables.
+    /// Returns the kept texts of the syllables, one after the other.
     pub(crate) fn kept(&self) -> &str
         ensures { chars result.now ≡ self.now.kept }
     {
@@ -127,8 +127,8 @@ impl BodyNodes {
         self.base
     }
 
-    /// Adds the nodes of `syllable` and its kept text. If there is no memory for both, it stays as
-    /// it was. A kept text of 2^32 bytes or more is refused too: no limit allows one.
+    /// Adds the nodes of `syllable` and its kept text. If memory runs out, nothing changes. A kept
+    /// text of 2^32 bytes or more is refused too: no limit allows one.
     pub(crate) fn add(&mut self, syllable: SyllableSlices<'_>) -> Result<(), AllocError>
         ensures added { OnOk result ((s : PlacedSyllable) → Shows syllable.entry s →
             self.new ≡ past_syllables self.old (s ∷ [])) }

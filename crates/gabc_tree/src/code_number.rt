@@ -5,7 +5,7 @@ ghost use Rattle.gabc_tree.specs.CodeNumber.{number_of_code};
 
 use gabc_places::Code;
 
-/// Returns the number of `code`, which stays as it is: 101 for E1, 201 for W1, 301 for F1.
+/// Returns the number of `code`, which never changes: 101 for E1, 201 for W1, 301 for F1.
 pub fn number_of_code(code: Code) -> u16
     ensures { result ≡ number_of_code code }
 {

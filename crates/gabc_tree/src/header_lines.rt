@@ -13,7 +13,7 @@ use std::alloc::AllocError;
 /// A header whose value is not ended yet.
 #[derive(Clone, Copy)]
 pub(crate) struct Header {
-    /// What is found at it.
+    /// The code that is found at it, if any.
     found: Option<Code>,
     /// Its name.
     name: Span,
@@ -35,7 +35,7 @@ fn is_blank_or_lf(byte: u8) -> bool
     is_blank(byte) || byte == b'\n'
 }
 
-/// Returns whether `byte` is left out at the end of a name, or of a value.
+/// Returns whether `byte` is left out at the end of a value if `of_value`, else of a name.
 fn is_last(of_value: bool, byte: u8) -> bool
     ensures { result ≡ is_last of_value byte }
 {
@@ -61,7 +61,7 @@ fn is_bare(row: &[u8]) -> bool
     true
 }
 
-/// Returns where the first `:` of `row` stands.
+/// Returns the index of the first `:` of `row`, if it has one.
 fn first_colon(row: &[u8]) -> Option<usize>
     ensures place { result ≡ first_colon row.now }
     ensures within { IfSome result (λ at. at < length row.now) }
@@ -74,7 +74,9 @@ fn first_colon(row: &[u8]) -> Option<usize>
     None
 }
 
-/// Returns how many `;` stand at `byte` that are a mark, if after it stand `run`, or what is bare.
+/// Returns the length of the mark of `;` that begins at `byte`, or 0 if none does: `run` is the
+/// length of the mark directly after it, and `bare` says whether the rest of the line after it is
+/// bare.
 fn run_with(byte: u8, bare: bool, run: usize) -> usize
     requires { run + 1 < 2 ^ 64 }
     ensures { result ≡ run_with byte bare run }
@@ -86,14 +88,15 @@ fn run_with(byte: u8, bare: bool, run: usize) -> usize
     }
 }
 
-/// Returns whether what stands at `byte` is bare, if what follows it is or is not.
+/// Returns whether the rest of a line from `byte` on is bare; `bare` says whether it is after
+/// `byte`.
 fn bare_with(byte: u8, bare: bool) -> bool
     ensures { result ≡ bare_with byte bare }
 {
     byte == b'%' || is_blank(byte) && bare
 }
 
-/// Returns where the first mark of `least` or more `;` begins in `row`.
+/// Returns the index at which the first mark of `least` or more `;` begins in `row`, if it has one.
 fn first_mark(row: &[u8], least: usize) -> Option<usize>
     requires { 1 ≤ least }
     ensures place { result ≡ first_mark least row.now }
@@ -112,7 +115,7 @@ fn first_mark(row: &[u8], least: usize) -> Option<usize>
     found
 }
 
-/// Returns how many `;` stand at the start of `row`.
+/// Returns the number of `;` at the start of `row`.
 fn semicolons(row: &[u8]) -> usize
     ensures number { result ≡ semicolons row.now }
     ensures within { result ≤ length row.now }
@@ -125,7 +128,8 @@ fn semicolons(row: &[u8]) -> usize
     row.len()
 }
 
-/// Returns `part` without what is left out at the end of a name, or of a value.
+/// Returns `part` without the bytes that are left out at the end of a value if `of_value`, else of
+/// a name.
 fn kept_part(part: &[u8], of_value: bool) -> &[u8]
     ensures kept { result.now ≡ trim_end (is_last of_value) part.now }
     ensures within { length result.now ≤ length part.now }
@@ -139,7 +143,7 @@ fn kept_part(part: &[u8], of_value: bool) -> &[u8]
     &part[..len]
 }
 
-/// Returns how many blanks and LFs stand at the start of `part`.
+/// Returns the number of blanks and LFs at the start of `part`.
 fn lead_of(part: &[u8]) -> usize
     ensures number { result ≡ lead_of part.now }
     ensures within { result ≤ length part.now }
@@ -152,8 +156,8 @@ fn lead_of(part: &[u8]) -> usize
     part.len()
 }
 
-/// Returns what is left of `part`, which begins at the byte `at`, when it is trimmed as a name, or
-/// as a value.
+/// Returns the span of `part`, which begins at the byte `at`, trimmed as a value if `of_value`,
+/// else as a name.
 fn trimmed(at: usize, part: &[u8], of_value: bool) -> Span
     requires { at + length part.now < 2 ^ 63 }
     ensures span { result ≡ span_of at (trim_end (is_last of_value) part.now) }
@@ -167,21 +171,22 @@ fn trimmed(at: usize, part: &[u8], of_value: bool) -> Span
     }
 }
 
-/// Returns where the first `%` of `part` stands.
+/// Returns the index of the first `%` of `part`, if it has one.
 fn first_percent(part: &[u8]) -> Option<usize>
     ensures { result ≡ position (λ c. c == 37) part.now }
 {
     part.iter().position(|byte| *byte == b'%')
 }
 
-/// Returns a node of that kind and number, with these bytes.
+/// Returns a node of this `kind` and `number`, with the bytes of `span`.
 fn part(kind: Kind, number: u16, span: Span) -> Node
     ensures { result ≡ part kind number span }
 {
     Node::leaf(kind, number, offset(span.from), offset(span.to))
 }
 
-/// Adds the comment of `row`, which begins at the byte `at` and is bare from `from` on.
+/// Adds the comment of `row`, if it has one; `row` begins at the byte `at` and is bare from `from`
+/// on.
 fn add_comment(at: usize, from: usize, row: &[u8], out: &mut Vec<Node>) -> Result<(), AllocError>
     requires from { from ≤ length row.now }
     requires fits { at + length row.now < 2 ^ 63 }
@@ -197,8 +202,8 @@ fn add_comment(at: usize, from: usize, row: &[u8], out: &mut Vec<Node>) -> Resul
     Ok(())
 }
 
-/// Adds a header that counts, with its name and its value. The value ends before the byte `mark` of
-/// `text`, and the header before the byte `to`.
+/// Adds a header that counts, with its name and its value, and with the number `code`. The value
+/// ends before the byte `mark` of `text`, and the header before the byte `to`.
 fn add_kept(
     text: &[u8],
     header: Header,
@@ -225,7 +230,8 @@ fn add_kept(
     Ok(())
 }
 
-/// Adds a header, as `add_kept` does, or one that is left out.
+/// Adds a header as `add_kept` does, with 202 if a code is found at it; or a node of one that is
+/// left out, with E4 or E5.
 fn add_header(
     text: &[u8],
     header: Header,
@@ -255,7 +261,7 @@ fn add_header(
     }
 }
 
-/// Adds the header whose mark begins at `mark` of `row`, and what follows the mark.
+/// Adds the `header` whose mark begins at `mark` of `row`, and the comment after the mark.
 fn end_header(
     text: &[u8],
     header: Header,
@@ -276,8 +282,8 @@ fn end_header(
     add_comment(at, to, row, out)
 }
 
-/// Adds the nodes of a line with a `:` that stands in no value, if its value ends there. Else it
-/// returns the header.
+/// Adds the nodes of a line with a `:` that is in no value, if its value ends there, else returns
+/// the header that it leaves open.
 fn header_line(
     text: &[u8],
     found: Option<Code>,
@@ -309,7 +315,8 @@ fn header_line(
     }
 }
 
-/// Adds the nodes of a line that stands in no value, and returns the header that it leaves open.
+/// Adds the nodes of a line that is in no value, and returns the header that it leaves open, if
+/// any.
 fn first_line(
     text: &[u8],
     found: Option<Code>,
@@ -360,8 +367,8 @@ fn line_below(
     }
 }
 
-/// Adds the nodes of a line, which stands in the value of `header` if there is one, and returns the
-/// header that it leaves open.
+/// Adds the nodes of a line, which is in the value of `header` if there is one, and returns the
+/// header that it leaves open, if any.
 fn next_line(
     text: &[u8],
     header: Option<Header>,
@@ -383,7 +390,7 @@ fn next_line(
     }
 }
 
-/// Returns what is found at `line`, if the first of `findings` stands there.
+/// Returns the code of the first of `findings`, if its place is on `line`.
 fn found_at(line: u64, findings: &[Finding]) -> Option<Code>
     ensures { result ≡ found_at line findings.now }
 {
@@ -393,7 +400,7 @@ fn found_at(line: u64, findings: &[Finding]) -> Option<Code>
     }
 }
 
-/// Returns those of `findings` that stand after `line`, if the first may stand there.
+/// Returns `findings` without the first one, if its place is on `line`, else all of them.
 fn found_after(line: u64, findings: &[Finding]) -> &[Finding]
     ensures { result.now ≡ found_after line findings.now }
 {
@@ -416,8 +423,8 @@ fn first_row(text: &[u8]) -> &[u8]
     text
 }
 
-/// Adds to `out` the nodes of the lines of headers (GregorioRef, "Headers"): of `text`, which
-/// stands before the line `%%` and in which `findings` were found, in their order.
+/// Adds to `out` the nodes of the lines of headers (GregorioRef, "Headers"): of `text`, which comes
+/// before the line `%%` and in which `findings` were found, in their order.
 pub(crate) fn header_lines(
     text: &[u8],
     findings: &[Finding],

@@ -25,15 +25,15 @@ fn front_of(bytes: &[u8], len: usize) -> &[u8]
     }
 }
 
-/// Returns the bytes of `text` that stand before the line `%%`, after which the body begins at the
-/// byte `body`.
+/// Returns the bytes of `text` before the line `%%`, after which the body begins at the byte
+/// `body`.
 fn front_before(text: &Text, body: usize) -> &[u8]
     ensures { result.now ≡ take (body - 2) (encode_utf8_all text.now) }
 {
     front_of(text.as_str().as_bytes(), body.saturating_sub(2))
 }
 
-/// Returns the `%%` after which the body begins at the byte `body`.
+/// Returns the node of the `%%` after which the body begins at the byte `body`.
 fn score_line(body: usize) -> Node
     ensures { result ≡ leaf ScoreLine 0 (offset_of (body - 2)) (offset_of body) }
 {
@@ -52,8 +52,8 @@ fn add_heads(text: &Text, heads: &Heads, out: &mut Vec<Node>) -> Result<(), Allo
     Ok(())
 }
 
-/// Adds the nodes of the headers of `text` to `out`, and returns the byte of the text at which they
-/// end: the one after the `%%`.
+/// Appends the nodes of the headers of `text` to `out`, and returns the byte of the text after the
+/// `%%`. If a fault ends the headers, it adds none and returns 0.
 pub(crate) fn header_nodes(
     alloc: Global,
     text: &Text,

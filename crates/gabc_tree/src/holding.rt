@@ -7,7 +7,7 @@ ghost use Rattle.gabc_tree.specs.SyllableNodes.{around};
 use crate::placing::offset;
 use gabc_nodes::Node;
 
-/// Lets the node at the index `at` hold all those after it.
+/// Sets the count of the node at the index `at` so that all nodes after it lie in it.
 pub(crate) fn hold(nodes: &mut Vec<Node>, at: usize)
     requires { at < length nodes.old.items }
     ensures { (front : List Node) (node : Node) (inside : List Node)

@@ -9,7 +9,7 @@ use gabc_nodes::{Kind, Node};
 use std::alloc::{AllocError, Global};
 use std::marker::Model;
 
-/// Returns whether nodes of that `kind` are one if they follow one another.
+/// Returns whether nodes of this `kind` become one if they follow one another.
 fn is_run(kind: Kind) -> bool
     ensures { result ≡ runs kind }
 {
@@ -19,7 +19,7 @@ fn is_run(kind: Kind) -> bool
     }
 }
 
-/// Returns whether a node of the kind `next` may be one with a node of that `kind` before it.
+/// Returns whether a node of the kind `next` may become one with a node of this `kind` before it.
 fn is_joined(kind: Kind, next: Kind) -> bool
     ensures { result ≡ join kind next }
 {
@@ -38,7 +38,7 @@ fn goes_on(node: Node, next: Node) -> bool
 #[derive(Drop)]
 pub(crate) struct Joining {
     done: Vec<Node>,
-    /// The last node, which may go on.
+    /// The last node, which may be extended.
     last: Option<Node>,
 }
 
@@ -63,7 +63,7 @@ impl Joining {
         }
     }
 
-    /// Adds `node`, or lets the last node go on to its end.
+    /// Adds `node`, or extends the last node to its end if both become one.
     #[tactic(auto, using(crate::proofs::not_kept_nodes::Joins::goes_on_joined, crate::proofs::not_kept_nodes::Joins::stays_joined))]
     pub(crate) fn add(&mut self, node: Node) -> Result<(), AllocError>
         ensures { OnOk result ((more : List Node) →

@@ -1,6 +1,6 @@
-//! The tree of a score: what was read of it, with its places.
+//! The tree of a score: all that was read of it, with its bytes.
 //!
-//! [`tree_of`] reads a score in memory and gives its nodes in the order of the input, each before
+//! [`tree_of`] reads a score in memory and returns its nodes in the order of the input, each before
 //! those that lie in it. A byte belongs to the innermost node that holds it: the spelling of a note
 //! is its own bytes, and the input is written again from the ranges of the nodes. What is not kept
 //! (comments, what is left out, further blanks) is a node too.
@@ -16,9 +16,9 @@
 //!
 //! The nodes are made in three steps. While the score is read, a taker (`taking`) has the makers of
 //! nodes (`text_nodes`, `note_nodes`, `nabc_nodes`) make those of each syllable. They and
-//! `header_lines` speak of the bytes of a kept text alone, so that none of them knows of comments
-//! or places. What is not kept is found beside what is kept (`not_kept`). Then the nodes are put
-//! where they stand in the input (`placing`).
+//! `header_lines` count the bytes of a kept text alone, so that none of them knows of comments or
+//! places. What is not kept is found by going over the input and the kept texts together
+//! (`not_kept`). Then the nodes are moved to their places in the input (`placing`).
 #![tactic(auto)]
 
 mod body_nodes;

@@ -25,7 +25,7 @@ enum PieceKind {
     Letters,
 }
 
-/// Returns what the piece with which `text` begins is, by its first two letters.
+/// Returns the kind of the piece with which `text` begins, by its first two letters.
 fn piece_kind(text: &[u8]) -> PieceKind
     ensures { result ≡ piece_kind text.now }
 {
@@ -36,7 +36,7 @@ fn piece_kind(text: &[u8]) -> PieceKind
     }
 }
 
-/// Returns whether `byte` may stand after the code of a glyph, before the `h` of its pitch.
+/// Returns whether `byte` may come after the code of a glyph, before the `h` of its pitch.
 fn is_modifier(byte: u8) -> bool
     ensures { result ≡ is_modifier byte }
 {
@@ -53,7 +53,7 @@ fn is_digit(byte: u8) -> bool
     b'1' <= byte && byte <= b'9'
 }
 
-/// Returns how many modifiers and digits `text` begins with.
+/// Returns the number of modifiers and digits with which `text` begins.
 fn modifiers_len(text: &[u8]) -> usize
     ensures value { result ≡ prefix_len is_modifier text.now }
     ensures within { result ≤ length text.now }
@@ -66,7 +66,7 @@ fn modifiers_len(text: &[u8]) -> usize
     text.len()
 }
 
-/// Returns how many bytes `text` has through its first digit: all if it has none.
+/// Returns the number of bytes of `text` through its first digit: all if it has none.
 fn len_through_digit(text: &[u8]) -> usize
     requires { 1 ≤ length text.now }
     ensures value { result ≡ through_digit text.now }
@@ -81,7 +81,7 @@ fn len_through_digit(text: &[u8]) -> usize
     text.len()
 }
 
-/// Returns the digit of the first digit of `text`, or 0 if it has none.
+/// Returns the value of the first digit of `text` from 1 to 9, or 0 if it has none.
 fn first_digit(text: &[u8]) -> u16
     ensures { result ≡ first_digit text.now }
 {
@@ -93,7 +93,7 @@ fn first_digit(text: &[u8]) -> u16
     0
 }
 
-/// Returns how many bytes the glyph with which `text` begins has before its pitch.
+/// Returns the number of bytes before the pitch of the glyph with which `text` begins.
 fn glyph_before_pitch(text: &[u8]) -> usize
     requires { 1 ≤ length text.now }
     ensures value { result ≡ glyph_before_pitch text.now }
@@ -107,7 +107,8 @@ fn glyph_before_pitch(text: &[u8]) -> usize
     }
 }
 
-/// Returns how many bytes the piece of that kind, with which `text` begins, has before its pitch.
+/// Returns the number of bytes before the pitch of the piece of this `kind` with which `text`
+/// begins.
 fn len_before_pitch(kind: PieceKind, text: &[u8]) -> usize
     requires { 1 ≤ length text.now }
     ensures value { result ≡ before_pitch kind text.now }
@@ -120,7 +121,7 @@ fn len_before_pitch(kind: PieceKind, text: &[u8]) -> usize
     }
 }
 
-/// Returns the height of the pitch with which `text` begins, an `h` and a letter, if one does.
+/// Returns the height of the pitch with which `text` begins, an `h` and a letter, if it does.
 fn pitch_at(text: &[u8]) -> Option<u8>
     ensures value { result ≡ pitch_at text.now }
     ensures long { IsSome result → 2 ≤ length text.now }
@@ -131,7 +132,7 @@ fn pitch_at(text: &[u8]) -> Option<u8>
     }
 }
 
-/// Returns the two letters with which `text` begins.
+/// Returns the first two bytes of `text`; 0 for one that it does not have.
 fn letters_at(text: &[u8]) -> (u16, u16)
     ensures first { result.0 ≡ slice_index text.now 0 }
     ensures second { result.1 ≡ slice_index text.now 1 }
@@ -143,7 +144,8 @@ fn letters_at(text: &[u8]) -> (u16, u16)
     }
 }
 
-/// Returns the numbers of the glyph `text`, with that pitch.
+/// Returns the numbers of the glyph `text` with this `pitch`: its two letters, and 1 plus the
+/// pitch, or 0.
 fn numbers_of_glyph(text: &[u8], pitch: Option<u8>) -> Numbers
     ensures { result ≡ piece_numbers_by piece.Glyph pitch text.now }
 {
@@ -155,7 +157,8 @@ fn numbers_of_glyph(text: &[u8], pitch: Option<u8>) -> Numbers
     Numbers { a, b, c }
 }
 
-/// Returns the numbers of the points `text`.
+/// Returns the numbers of the points `text`: 1 for prepuncta, their letter or 0, and their first
+/// digit.
 fn numbers_of_points(text: &[u8]) -> Numbers
     ensures { (pitch : Option ℕ) → result ≡ piece_numbers_by piece.Points pitch text.now }
 {
@@ -174,7 +177,7 @@ fn numbers_of_points(text: &[u8]) -> Numbers
     }
 }
 
-/// Returns the numbers of the letters `text`.
+/// Returns the numbers of the letters `text`: 1 for tironian letters, 0, and their first digit.
 fn numbers_of_letters(text: &[u8]) -> Numbers
     ensures { (pitch : Option ℕ) → result ≡ piece_numbers_by piece.Letters pitch text.now }
 {
@@ -189,7 +192,7 @@ fn numbers_of_letters(text: &[u8]) -> Numbers
     }
 }
 
-/// A piece of a descriptor: the kind of its node, how many bytes it has, and its numbers.
+/// A piece of a descriptor: the kind of its node, its length in bytes, and its numbers.
 #[derive(Clone, Copy)]
 struct Piece {
     kind: Kind,
@@ -197,7 +200,7 @@ struct Piece {
     numbers: Numbers,
 }
 
-/// Returns the numbers of the piece of that kind, with which `text` begins, and with that pitch.
+/// Returns the numbers of the piece of this `kind` with which `text` begins, with this `pitch`.
 fn numbers_of_piece(kind: PieceKind, pitch: Option<u8>, text: &[u8]) -> Numbers
     ensures { result ≡ piece_numbers_by kind pitch text.now }
 {
@@ -208,7 +211,7 @@ fn numbers_of_piece(kind: PieceKind, pitch: Option<u8>, text: &[u8]) -> Numbers
     }
 }
 
-/// Returns the kind of the node of a piece of that kind.
+/// Returns the kind of the node of a piece of this `kind`.
 fn kind_of_piece(kind: PieceKind) -> Kind
     ensures { result ≡ kind_of_piece kind }
 {
@@ -242,7 +245,7 @@ fn piece_at(text: &[u8]) -> Piece
     }
 }
 
-/// Returns how many pieces the descriptor `text` has.
+/// Returns the number of pieces of the descriptor `text`.
 fn count_pieces(text: &[u8]) -> usize
     ensures pieces { (base : ℕ) → result ≡ length (pieces_of base text.now) }
     ensures few { result ≤ length text.now }

@@ -1,4 +1,5 @@
-//! What of an input is not kept: comments, what is left out, further blanks, and what is silent.
+//! The nodes of what is not kept of an input: comments, what is left out, further blanks, and what
+//! is silent.
 
 ghost use Rattle.std.specs.Prelude.{◌≡◌, ◌↔◌, ℕ, ◌+◌, ◌<◌, ◌≤◌, ◌^◌, List, [], ◌∷◌, ◌++◌, length, IfOk, OnOk, IsTrue, None, true, false};
 ghost use Rattle.std.specs.Char.{len_utf8};
@@ -30,7 +31,7 @@ pub(crate) fn read_as(c: char) -> char
     if c == '\r' { '\n' } else { c }
 }
 
-/// Returns whether a finding of `code` stands at a character that is left out.
+/// Returns whether a finding of `code` is about a character that is left out.
 fn is_left_out(code: Code) -> bool
     ensures { result ≡ leaves_out code }
 {
@@ -40,7 +41,7 @@ fn is_left_out(code: Code) -> bool
     }
 }
 
-/// Returns whether `one` stands before `other`.
+/// Returns whether `one` is before `other`.
 pub(crate) fn is_earlier(one: Place, other: Place) -> bool
     ensures { result ≡ is_before one other }
 {
@@ -61,7 +62,7 @@ fn is_blank(c: char) -> bool
     c == ' ' || c == '\t' || c == '\n'
 }
 
-/// Returns the findings from the first on that leaves out a character at `here` or later.
+/// Returns `findings` from the first one on that leaves out a character at `here` or later.
 #[inline(always)]
 fn from_here(findings: &[Finding], here: Place) -> &[Finding]
     ensures { result.now ≡ findings_from here findings.now }
@@ -76,7 +77,8 @@ fn from_here(findings: &[Finding], here: Place) -> &[Finding]
     rest
 }
 
-/// Returns whether `next`, which is to be kept, is `c`: a blank may be kept as U+0020.
+/// Returns whether `c` is kept as `next`, the next character that is to be kept: a blank may be
+/// kept as U+0020.
 #[inline(always)]
 fn is_kept_as(next: char, c: char) -> bool
     ensures { result ≡ kept_as next c }
@@ -118,8 +120,8 @@ fn past_first(kept: &str) -> &str
     }
 }
 
-/// Returns the kind and the number of `c`, which is not kept and of which nothing is found, if some
-/// of the body is still to be kept: `kept`.
+/// Returns the kind and the number of `c`, which is not kept and of which nothing is found. It has
+/// none if nothing of the body is still to be kept, which `kept` says.
 fn out_in_silence(kept: &str, c: char) -> Option<(Kind, u16)>
     ensures { result ≡ out_by_code (chars kept.now) c None }
 {
@@ -138,11 +140,11 @@ struct Reading<'a> {
     /// The byte and the place of the next one.
     byte: u32,
     place: Place,
-    /// How many characters of the headers are to come.
+    /// The number of characters of the headers that are to come.
     heads: usize,
     /// Whether a comment is open.
     comment: bool,
-    /// What of the body is to be kept.
+    /// The characters of the body that are still to be kept.
     kept: &'a str,
     /// The findings from here on that leave out a character.
     findings: &'a [Finding],
@@ -168,7 +170,7 @@ impl<'a> Model for Reading<'a> {
 impl<'a> Reading<'a> {
     ghost use Rattle.gabc_tree.specs.NotKept.{begun, past_shown};
 
-    /// Returns the place before the first character.
+    /// Returns the state before the first character: the headers have `heads` characters.
     fn new(heads: usize, kept: &'a str, findings: &'a [Finding]) -> Reading<'a>
         ensures { result ≡ begun heads (chars kept.now) findings.now }
     {
@@ -219,7 +221,7 @@ impl<'a> Reading<'a> {
         }
     }
 
-    /// Goes past `c`, which is read and of which `out` says whether it is not kept.
+    /// Updates the state past `c`, which is read; `out` is its kind and number if it is not kept.
     #[inline(always)]
     fn pass_shown(&mut self, c: char, out: Option<(Kind, u16)>)
         requires { self.old.heads ≡ 0 → out ≡ out_in_body self.old c }
@@ -242,8 +244,8 @@ impl<'a> Reading<'a> {
         self.findings = from_here(self.findings, self.place);
     }
 
-    /// Goes past `c`, of which `out` says whether it is not kept, and which ends before the byte
-    /// `end`.
+    /// Updates the state past `c`, which ends before the byte `end`; `out` is its kind and number
+    /// if it is not kept.
     #[inline(always)]
     fn pass(&mut self, c: char, out: Option<(Kind, u16)>, end: u32)
         requires out { out ≡ what_is_out self.old c }
@@ -271,8 +273,8 @@ impl<'a> Reading<'a> {
             && byte_comes_next(self.kept, byte)
     }
 
-    /// Goes past `byte` if it is the next character and is kept of the body, and returns whether it
-    /// did.
+    /// Updates the state past `byte` if it is the next character and is kept of the body, and
+    /// returns whether it did.
     #[inline(always)]
     fn pass_byte(&mut self, byte: u8) -> bool
         requires { self.old.byte + 1 < 2 ^ 32 }
@@ -289,8 +291,8 @@ impl<'a> Reading<'a> {
     }
 }
 
-/// Goes past the first characters of `text` that are kept and have one byte each, as far as all
-/// before them are so, and returns the rest of `text`.
+/// Updates `reading` past the characters at the begin of `text` that are all kept and have one byte
+/// each, and returns the rest of `text`.
 #[inline(always)]
 fn pass_kept<'i>(reading: &mut Reading<'_>, text: &'i str) -> &'i str
     requires { reading.old.byte + length text.now < 2 ^ 32 }
@@ -309,7 +311,8 @@ fn pass_kept<'i>(reading: &mut Reading<'_>, text: &'i str) -> &'i str
     text.split_at(count).1
 }
 
-/// Goes past `c`, the next character of the input, and adds its node if it is not kept.
+/// Updates `reading` past `c`, the next character of the input, and adds its node to `joining` if
+/// it is not kept.
 fn pass(reading: &mut Reading<'_>, joining: &mut Joining, c: char) -> Result<(), AllocError>
     requires { reading.old.byte + len_utf8 c < 2 ^ 32 }
     ensures byte { OnOk result (reading.new.byte ≡ reading.old.byte + len_utf8 c) }
@@ -327,8 +330,8 @@ fn pass(reading: &mut Reading<'_>, joining: &mut Joining, c: char) -> Result<(),
     Ok(())
 }
 
-/// Returns the nodes of what is not kept of `input`, whose headers have `heads` characters, of
-/// whose body `kept` is kept, and in which `findings` were found. It fails only for want of memory.
+/// Returns the nodes of what is not kept of `input`: its headers have `heads` characters, `kept` is
+/// kept of its body, and `findings` were found in it. It fails only if memory runs out.
 pub(crate) fn not_kept(
     alloc: Global,
     input: &str,

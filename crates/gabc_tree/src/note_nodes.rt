@@ -20,7 +20,7 @@ use std::alloc::AllocError;
 struct ItemPlace {
     /// Whether the item before is part of an element.
     inside: bool,
-    /// How many notes of the glyph whose node was made last are still to come.
+    /// The number of notes still to come of the glyph whose node was made last.
     left: usize,
 }
 
@@ -32,14 +32,14 @@ impl ItemPlace {
     };
 }
 
-/// The items of a glyph: how many they are, and the byte after the last one.
+/// The items of a glyph: their number, and the byte after the last one.
 #[derive(Clone, Copy)]
 struct Extent {
     items: usize,
     end: usize,
 }
 
-/// Returns the kind of the node of an item of that kind.
+/// Returns the kind of the node of an item of this `kind`.
 fn kind_of_item(kind: ItemKind) -> Kind
     ensures { result ≡ kind_of_item kind }
 {
@@ -56,7 +56,7 @@ fn kind_of_item(kind: ItemKind) -> Kind
     }
 }
 
-/// Returns whether an item of that kind is a note.
+/// Returns whether an item of this `kind` is a note.
 fn is_note(kind: ItemKind) -> bool
     ensures { result ≡ is_note kind }
 {
@@ -66,7 +66,7 @@ fn is_note(kind: ItemKind) -> bool
     }
 }
 
-/// Returns the number of `base`: of one note 16 and the number of its shape.
+/// Returns the number of `base`: for one note 16 plus the number of its shape.
 fn number_of_base(base: Base) -> u16
     ensures { result ≡ number_of_base base }
 {
@@ -97,7 +97,7 @@ fn number_of_tail(tail: Tail) -> u16
     }
 }
 
-/// Returns the numbers of a glyph of that kind with `count` notes.
+/// Returns the numbers of a glyph of this `kind` with `count` notes.
 fn numbers_of_glyph(kind: GlyphKind, count: usize) -> Numbers
     ensures { result ≡ glyph_numbers kind count }
 {
@@ -127,7 +127,8 @@ fn numbers_of(kept: &str, item: Item, begins: bool, force: &Alterations) -> Numb
     }
 }
 
-/// Returns a node of a kept text whose bytes count from `base` on.
+/// Returns a node of this `kind` with the bytes of `span` in a kept text whose bytes count from
+/// `base` on, with these `numbers`, and with `inner` nodes in it.
 pub(crate) fn node_at(base: usize, span: Span, inner: usize, kind: Kind, numbers: Numbers) -> Node
     requires begin { base + span.from < 2 ^ 32 }
     requires end { base + span.to < 2 ^ 32 }
@@ -145,8 +146,8 @@ pub(crate) fn node_at(base: usize, span: Span, inner: usize, kind: Kind, numbers
     }
 }
 
-/// Returns the extent of the items through the `left`-th note of `later`, with an item before them
-/// that ends at the byte `end`.
+/// Returns the extent of the items of `later` through their note number `left`, together with one
+/// item before them that ends at the byte `end`.
 #[tactic(auto, using(crate::proofs::NodesOfItems::through_item))]
 fn extent_through(left: usize, end: usize, later: &ItemReader<'_>) -> Extent
     requires few { length later.now < 2 ^ 32 }
@@ -171,8 +172,8 @@ fn extent_through(left: usize, end: usize, later: &ItemReader<'_>) -> Extent
     extent
 }
 
-/// Adds the node of the glyph that begins with `item`, if none of the notes of the glyph before are
-/// `left` and it is a note. Returns how many of the notes of its glyph are left after `item`.
+/// Adds the node of the glyph that begins with `item`, if `item` is a note and no notes of the
+/// glyph before are `left`. Returns the number of notes of its glyph that are left after `item`.
 fn add_glyph(
     kept: &str,
     base: usize,
@@ -208,8 +209,9 @@ fn add_glyph(
     Ok(left)
 }
 
-/// Adds the node of `item` at `place`, and before it that of the glyph that it begins, and passes
-/// it. `later` are the items after it. Returns the place after the item.
+/// Adds the node of `item` at `place`, and before it that of the glyph that it begins, if it begins
+/// one. `later` are the items after it. Changes `alterations` to those in force after the item, and
+/// returns the place after it.
 fn add_item(
     kept: &str,
     base: usize,
@@ -237,8 +239,8 @@ fn add_item(
 }
 
 /// Adds to `out` the nodes of the snippet of notes `kept`, whose bytes count from `base` on, and
-/// passes its items: each item is a node, and before the first note of a glyph stands that of the
-/// glyph, in which lie the items through its last note.
+/// passes its items: each item is a node, and before the first note of a glyph comes the node of
+/// the glyph, in which lie the items through its last note.
 pub(crate) fn gabc_nodes(
     kept: &str,
     base: usize,

@@ -1,4 +1,4 @@
-//! The numbers that the kinds of nodes say of items.
+//! The numbers of the nodes of items.
 
 ghost use Rattle.std.specs.Prelude.{◌≡◌, ◌≤◌, ◌+◌, ◌^◌, ◌<◌, length, IfSome};
 ghost use Rattle.gabc_neumes.specs.Sound.{line_at, clef_at};
@@ -11,7 +11,7 @@ use crate::signs::{
 use gabc_neumes::{Alter, Clef, Sound, sign_of};
 use gabc_notes::{ItemKind, Note, height_of};
 
-/// What its kind says of a node in numbers.
+/// The three numbers of a node.
 #[derive(Clone, Copy, Debug, PartialEq, Eq)]
 pub(crate) struct Numbers {
     pub(crate) a: u16,
@@ -20,7 +20,7 @@ pub(crate) struct Numbers {
 }
 
 impl Numbers {
-    /// Those of a kind that says nothing.
+    /// The numbers of a kind that has none: 0.
     pub(crate) const NONE: Numbers = Numbers { a: 0, b: 0, c: 0 };
 }
 
@@ -125,7 +125,7 @@ fn number_of_over_staff(signs: OverStaff) -> u16
         + 128 * number_of_bit(signs.sharp)
 }
 
-/// Returns the number of what episemata cover.
+/// Returns the number of the notes that episemata cover: three bits for each side.
 fn number_of_covered(covered: Covered) -> u16
     requires { (covered.auto ≤ 7) × (covered.over ≤ 7) × (covered.under ≤ 7) }
     ensures value { result ≡ number_of_covered covered }
@@ -134,7 +134,7 @@ fn number_of_covered(covered: Covered) -> u16
     u16::from(covered.auto) + 8 * u16::from(covered.over) + 64 * u16::from(covered.under)
 }
 
-/// Returns what follows the pitch of `text`, a note.
+/// Returns the suffixes of `text`, a note: the bytes after its pitch.
 fn after_pitch(text: &[u8]) -> &[u8]
     ensures { result.now ≡ after_pitch text.now }
 {
@@ -145,8 +145,8 @@ fn after_pitch(text: &[u8]) -> &[u8]
     }
 }
 
-/// Returns the numbers of `note`, which sounds so and is spelled `text`. `begins` says whether it
-/// begins an element.
+/// Returns the numbers of `note` with this `sound`, which is spelled `text`. `begins` says whether
+/// it begins an element.
 pub(crate) fn numbers_of_note(note: Note, sound: Sound, text: &[u8], begins: bool) -> Numbers
     ensures { result ≡ note_numbers note sound text.now begins }
 {
@@ -171,7 +171,7 @@ pub(crate) fn numbers_of_note(note: Note, sound: Sound, text: &[u8], begins: boo
     }
 }
 
-/// Returns the height of the pitch with which `text` begins.
+/// Returns the height of the pitch with which `text` begins; 0 if it is empty.
 fn height_at(text: &[u8]) -> u16
     ensures { result ≡ height_of_text text.now }
 {
@@ -198,7 +198,7 @@ fn numbers_of_alteration(text: &[u8]) -> Numbers
     }
 }
 
-/// Returns the line of a clef that `text` begins with.
+/// Returns the line of a clef, from 1 to 5, with which `text` begins, if it does.
 fn line_at(text: &[u8]) -> Option<u8>
     ensures value { result ≡ line_at text.now }
     ensures small { IfSome result (λ line. line ≤ 5) }
@@ -209,7 +209,7 @@ fn line_at(text: &[u8]) -> Option<u8>
     }
 }
 
-/// Returns the clef with which `text` begins.
+/// Returns the clef with which `text` begins, if it does.
 fn clef_at(text: &[u8]) -> Option<Clef>
     ensures value { result ≡ clef_at text.now }
     ensures small { IfSome result (λ clef. clef.line ≤ 5) }
@@ -223,7 +223,7 @@ fn clef_at(text: &[u8]) -> Option<Clef>
     Some(Clef { f, flat, line })
 }
 
-/// Returns what follows the first `@` of `text`: nothing where it has none.
+/// Returns the bytes after the first `@` of `text`: none if it has no `@`.
 fn after_join(text: &[u8]) -> &[u8]
     ensures { result.now ≡ after_join text.now }
 {
@@ -259,7 +259,7 @@ fn numbers_of_clef(text: &[u8]) -> Numbers
     Numbers { a, b, c }
 }
 
-/// Returns 1 and the digit with which `text` begins, or 0 if it begins with none.
+/// Returns 1 plus the digit with which `text` begins, or 0 if it begins with none.
 fn digit_after(text: &[u8]) -> u16
     ensures { result ≡ digit_after text.now }
 {
@@ -331,7 +331,7 @@ fn numbers_of_break(text: &[u8]) -> Numbers
     Numbers { a, b, c: 0 }
 }
 
-/// Returns 1 and the digit of the macro that the attribute `text` calls, or 0 if it calls none
+/// Returns 1 plus the digit of the macro that the attribute `text` calls, or 0 if it calls none
 /// (GregorioRef, "Macros").
 fn number_of_attribute(text: &[u8]) -> u16
     ensures { result ≡ attribute_number text.now }
@@ -357,14 +357,14 @@ fn number_of_fusion(text: &[u8]) -> u16
     }
 }
 
-/// Returns the numbers that say one thing.
+/// Returns numbers of which the first is `a`, and the others are 0.
 fn one_number(a: u16) -> Numbers
     ensures { result ≡ three a 0 0 }
 {
     Numbers { a, ..Numbers::NONE }
 }
 
-/// Returns the numbers of an item of that kind, which is no note and is spelled `text`.
+/// Returns the numbers of an item of this `kind`, which is no note and is spelled `text`.
 pub(crate) fn numbers_of_other(kind: ItemKind, text: &[u8]) -> Numbers
     ensures numbers { result ≡ other_numbers kind text.now }
     ensures small { result.c < 64 }

@@ -1,4 +1,4 @@
-//! At which byte of an input a place stands.
+//! Finds the bytes of an input at which places are.
 
 ghost use Rattle.std.specs.Prelude.{◌≡◌, ◌<◌, take, length, None, IfSome};
 ghost use Rattle.gabc_places.specs.Text.{utf8_prefix_of};
@@ -10,8 +10,8 @@ use crate::tree::front_within;
 use gabc_places::{Limits, Place};
 use std::marker::Model;
 
-/// A walk over a text: it stands before `rest`, at the byte `byte` and at the place `here`, after
-/// the character `previous`.
+/// A walk over a text: it is before `rest`, at the byte `byte` and at the place `here`, after the
+/// character `previous`.
 #[derive(Clone, Copy, Debug)]
 struct Walk<'a> {
     rest: &'a str,
@@ -20,7 +20,8 @@ struct Walk<'a> {
     here: Place,
 }
 
-/// Returns the place after `c`, which stands at `here`: the same if it is not shown.
+/// Returns the place after `c`, whose place is `here`: the same if `is_left_out`, since it is not
+/// shown.
 fn place_past(here: Place, c: char, is_left_out: bool) -> Place
     ensures { result ≡ here_past here c is_left_out }
 {
@@ -44,7 +45,7 @@ impl<'a> Walk<'a> {
         }
     }
 
-    /// Returns the walk past the next character, if that stands before `place` or is not shown.
+    /// Returns the walk past the next character, if that is before `place` or is not shown.
     fn past(&self, place: Place) -> Option<Walk<'a>>
         requires { IsWithin self.now }
         ensures past { IfSome result (λ next. GoesPast self.now next place) }
@@ -66,8 +67,8 @@ impl<'a> Walk<'a> {
         })
     }
 
-    /// Returns the walk at the first character that is shown and does not stand before `place`, or
-    /// at the end.
+    /// Returns the walk at the first character that is shown and is not before `place`, or at the
+    /// end.
     fn to(&self, place: Place) -> Walk<'a>
         requires { IsWithin self.now }
         ensures past { GoesPast self.now result place }
@@ -82,8 +83,8 @@ impl<'a> Walk<'a> {
     }
 }
 
-/// Finds the bytes at which places of an input stand. It goes on from the place that it found last,
-/// so that places in order take one way through the input.
+/// A reader of the bytes at which places of an input are. It continues from the place that it found
+/// last, so that places in order are found in one pass over the input.
 #[derive(Debug, Drop)]
 pub struct PlaceReader<'a> {
     text: &'a str,
@@ -115,8 +116,8 @@ impl<'a> PlaceReader<'a> {
         }
     }
 
-    /// Returns the byte of the input, from 0, at which `place` stands: that of the first character
-    /// that is shown and does not stand before it, or else the end of what is read.
+    /// Returns the byte of the input, from 0, at `place`: that of the first character that is shown
+    /// and is not before it, or else the end of what is read.
     pub fn byte_of(&mut self, place: Place) -> u32
         ensures byte { result ≡ byte_in self.old place }
         ensures same { self.new ≡ self.old }

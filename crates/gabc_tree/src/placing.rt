@@ -1,4 +1,4 @@
-//! Nodes of kept texts, put where they stand in the input.
+//! Moves nodes of kept texts to their places in the input.
 
 ghost use Rattle.std.specs.Prelude.{◌≡◌, ◌+◌, ◌<◌, ◌≤◌, ◌^◌, ◌∷◌, ◌++◌, length, drop, [], OnOk, IfOk, IsTrue};
 ghost use Rattle.gabc_tree.specs.Tree.{rest_of};
@@ -10,7 +10,7 @@ use gabc_places::Fault;
 use std::alloc::{AllocError, Global};
 use std::marker::Model;
 
-/// Returns `n` as an offset or a count of a node. None is above 4,294,967,295.
+/// Returns `n` as an offset or a count of a node, bounded by 4,294,967,295.
 pub(crate) fn offset(n: usize) -> u32
     ensures { result ≡ offset_of n }
 {
@@ -21,8 +21,8 @@ pub(crate) fn offset(n: usize) -> u32
     }
 }
 
-/// Returns `node`, which counts the bytes of a text whose first byte is the kept byte `base`, where
-/// it stands in what is kept.
+/// Returns `node`, which counts the bytes of a text whose first byte is the kept byte `base`, with
+/// its bytes counted among all kept bytes.
 pub(crate) fn moved(base: u32, node: Node) -> Node
     ensures { result ≡ moved_by base node }
 {
@@ -33,7 +33,7 @@ pub(crate) fn moved(base: u32, node: Node) -> Node
     }
 }
 
-/// Returns whether a node of that `kind` is a snippet.
+/// Returns whether a node of this `kind` is a snippet.
 fn is_snippet(kind: Kind) -> bool
     ensures { result ≡ is_a_snippet kind }
 {
@@ -43,15 +43,16 @@ fn is_snippet(kind: Kind) -> bool
     }
 }
 
-/// Returns whether all between the marks of `node` is its own: of a snippet.
+/// Returns whether `node` is a snippet after a mark, so that whatever is between its marks belongs
+/// to it.
 fn is_between(node: Node) -> bool
     ensures { result ≡ is_between_marks node }
 {
     is_snippet(node.kind) && 0 < node.begin
 }
 
-/// Returns how many of the nodes `out`, which are not kept, stand before a byte that would stand at
-/// `n` without them, and how many bytes they have.
+/// Returns the number of the nodes `out`, which are not kept, before a byte that would be the byte
+/// `n` without them, and the number of bytes that they have.
 fn before(out: &[Node], n: usize) -> (usize, usize)
     requires { n + bytes_in out.now < 2 ^ 63 }
     ensures count { result.0 ≡ length (before_byte n out.now) }
@@ -71,14 +72,14 @@ fn before(out: &[Node], n: usize) -> (usize, usize)
     (count, bytes)
 }
 
-/// Puts nodes where they stand in an input, one after the other, with what is not kept between
-/// them.
+/// A list of nodes that are moved to their places in an input, one after the other, with those of
+/// what is not kept between them.
 #[derive(Drop)]
 pub(crate) struct Placing<'a> {
     nodes: Vec<Node>,
-    /// What is not kept and stands after the last node's first byte.
+    /// The nodes of what is not kept after the last node's first byte.
     out: &'a [Node],
-    /// How many bytes before that are not kept.
+    /// The number of bytes before that are not kept.
     passed: usize,
 }
 
@@ -99,8 +100,8 @@ impl<'a> Model for Placing<'a> {
 }
 
 impl<'a> Placing<'a> {
-    /// Returns a list of the node `first` alone, before all of `out`, which is not kept. It has
-    /// room for `room` nodes.
+    /// Returns a list of the node `first` alone, before all of `out`, which is not kept. It has a
+    /// capacity of `room` nodes.
     pub(crate) fn new(
         alloc: Global,
         first: Node,
@@ -122,7 +123,8 @@ impl<'a> Placing<'a> {
         })
     }
 
-    /// Adds what is not kept before the kept byte `kept`, and returns where that byte stands.
+    /// Adds what is not kept before the kept byte `kept`, and returns the place of that byte in the
+    /// input.
     #[tactic(auto, using(crate::proofs::placed_nodes::Fronts::is_front))]
     fn pass(&mut self, kept: usize) -> Result<usize, AllocError>
         requires { kept < 2 ^ 62 }
@@ -141,8 +143,8 @@ impl<'a> Placing<'a> {
         Ok(kept + self.passed)
     }
 
-    /// Adds what is not kept before `node`, whose bytes are kept bytes, and returns where it
-    /// begins. All that stands between its marks is a snippet's.
+    /// Adds what is not kept before `node`, whose bytes are kept bytes, and returns the byte of the
+    /// input at which it begins. Whatever is between its marks belongs to a snippet.
     fn begin(&mut self, node: Node) -> Result<usize, AllocError>
         ensures passed { OnOk result (self.new ≡ record {
           nodes = self.old.nodes ++ up_to self.old.reach (first_of node);
@@ -158,8 +160,9 @@ impl<'a> Placing<'a> {
         }
     }
 
-    /// Returns how many nodes of what is not kept lie in `node`, whose bytes are kept bytes and
-    /// which begins at the byte `begin` of the input, after all that was passed, and where it ends.
+    /// Returns the number of nodes of what is not kept that lie in `node`, and the byte of the
+    /// input before which it ends. Its bytes are kept bytes, and it begins at the byte `begin` of
+    /// the input, after all that was passed.
     fn end(&self, node: Node, begin: usize) -> (usize, usize)
         ensures inside { result.0 ≡ length (inside_of self.now.reach node) }
         ensures end { result.1 ≡ end_by self.now.reach begin node }
@@ -177,7 +180,7 @@ impl<'a> Placing<'a> {
         (0, begin)
     }
 
-    /// Returns whether all of what is not kept and was not passed stands after `node`, whose bytes
+    /// Returns whether all of what is not kept and was not passed comes after `node`, whose bytes
     /// are kept bytes.
     #[tactic(auto, using(crate::proofs::placed_nodes::Ahead::none_left, crate::proofs::placed_nodes::Ahead::first_later, crate::proofs::placed_nodes::Ahead::ahead_nodes, crate::proofs::placed_nodes::Ahead::ahead_reach))]
     fn is_ahead(&self, node: Node) -> bool

@@ -1,4 +1,4 @@
-//! The signs of a note: what its suffixes say beside its shape.
+//! The signs of a note, read from its suffixes: all but its shape.
 
 ghost use Rattle.std.specs.Prelude.{◌≡◌, ◌≢◌, ◌≤◌, ◌⊎◌, ◌∷◌, ◌||◌, List, not, true, false, length};
 ghost use Rattle.gabc_patterns.specs.Pattern.{is_in};
@@ -6,22 +6,22 @@ ghost use Rattle.gabc_notes.specs.Notes.{digits_of, is_sign, is_digit as is_digi
 ghost use Rattle.gabc_tree.specs.Signs.{Suffix, suffixes, side_after, side_by, size_after, size_by, last_size, with_cover, signs_of};
 ghost use Rattle.gabc_tree.specs.machine.Signs.{names, over_with, with_r, orientation_with, liquescence_with, with_episema, suffixes_read};
 
-/// The most notes that a node says an episema to cover.
+/// The most notes that an episema covers by the numbers of a node.
 const MOST_COVERED: u8 = 7;
 
-/// The most puncta mora that a node says a note to have.
+/// The most puncta mora that a note has by the numbers of a node.
 const MOST_MORAE: u8 = 3;
 
-/// On which side of its note a sign stands.
+/// The side of its note on which a sign is.
 #[derive(Clone, Copy, Debug, PartialEq, Eq)]
 pub(crate) enum Side {
-    /// None is told.
+    /// The score names no side.
     Auto,
     Over,
     Under,
 }
 
-/// How a note is liquescent.
+/// The liquescence of a note.
 #[derive(Clone, Copy, Debug, PartialEq, Eq)]
 pub(crate) enum Liquescence {
     None,
@@ -33,7 +33,8 @@ pub(crate) enum Liquescence {
     Diminished,
 }
 
-/// How wide a horizontal episema is, and of a small one how it is aligned.
+/// The size of a horizontal episema: as wide as its note, or small and aligned left, centred or
+/// right.
 #[derive(Clone, Copy, Debug, PartialEq, Eq)]
 pub(crate) enum EpisemaSize {
     Whole,
@@ -42,7 +43,7 @@ pub(crate) enum EpisemaSize {
     Right,
 }
 
-/// The direction in which an oriscus is told to point.
+/// The direction in which an oriscus points by its sign, if it has one.
 #[derive(Clone, Copy, Debug, PartialEq, Eq)]
 pub(crate) enum Orientation {
     NotTold,
@@ -50,7 +51,7 @@ pub(crate) enum Orientation {
     Up,
 }
 
-/// Which signs stand over the staff at a note, from `r1` to `r8`.
+/// The signs over the staff at a note, from `r1` to `r8`.
 #[derive(Clone, Copy, Debug, PartialEq, Eq)]
 pub(crate) struct OverStaff {
     pub(crate) accent: bool,
@@ -63,7 +64,7 @@ pub(crate) struct OverStaff {
     pub(crate) sharp: bool,
 }
 
-/// How many notes the longest episema of each side covers, at most `MOST_COVERED`.
+/// The number of notes that the longest episema of each side covers, at most `MOST_COVERED`.
 #[derive(Clone, Copy, Debug, PartialEq, Eq)]
 pub(crate) struct Covered {
     pub(crate) auto: u8,
@@ -75,11 +76,11 @@ pub(crate) struct Covered {
 /// Symbols", "Rhythmic signs").
 #[derive(Clone, Copy, Debug, PartialEq, Eq)]
 pub(crate) struct NoteSigns {
-    /// How many puncta mora it has, at most `MOST_MORAE`.
+    /// The number of its puncta mora, at most `MOST_MORAE`.
     pub(crate) morae: u8,
     /// The side of its first ictus.
     pub(crate) ictus: Option<Side>,
-    /// What its episemata cover.
+    /// The numbers of notes that its episemata cover.
     pub(crate) covered: Covered,
     /// The size of its last small episema.
     pub(crate) size: EpisemaSize,
@@ -88,7 +89,7 @@ pub(crate) struct NoteSigns {
     pub(crate) liquescence: Liquescence,
     /// Whether it is a cavum, or a hollow punctum inclinatum.
     pub(crate) hollow: bool,
-    /// Whether lines stand at both of its sides.
+    /// Whether it has lines at both of its sides.
     pub(crate) lined: bool,
     pub(crate) over_staff: OverStaff,
     pub(crate) orientation: Orientation,
@@ -106,7 +107,7 @@ impl OverStaff {
         sharp: false,
     };
 
-    /// Returns the signs with that of `digits` after an `r`, if they name one.
+    /// Returns the signs with the one that `digits` after an `r` name, if they name one.
     fn with(self, digits: &[u8]) -> OverStaff
         ensures { result ≡ over_with self digits.now }
     {
@@ -166,7 +167,7 @@ fn is_digit(byte: u8) -> bool
     b'0' <= byte && byte <= b'9'
 }
 
-/// Returns the side that `digits` name: the last one counts.
+/// Returns the side that `digits` name: the last 0 or 1 counts.
 fn side_by(digits: &[u8]) -> Side
     ensures { result ≡ side_by digits.now }
 {
@@ -181,7 +182,7 @@ fn side_by(digits: &[u8]) -> Side
     side
 }
 
-/// Returns the size that `digits` name: the last one counts.
+/// Returns the size that `digits` name: the last digit from 3 to 5 counts.
 fn size_by(digits: &[u8]) -> EpisemaSize
     ensures { result ≡ size_by digits.now }
 {
@@ -204,7 +205,7 @@ impl Covered {
         under: 0,
     };
 
-    /// Returns what is covered with an episema of `count` notes at that side.
+    /// Returns the numbers with an episema of `count` notes on this `side` added.
     fn with(self, side: Side, count: u8) -> Covered
         ensures { result ≡ with_cover self side count }
     {
@@ -218,7 +219,8 @@ impl Covered {
     }
 }
 
-/// Returns what counts of `sign`, one of `~`, `<` and `>`, and `other`: the first of these three.
+/// Returns the liquescence of `sign`, one of `~`, `<` and `>`, and `other` together: the one that
+/// comes first in this order.
 fn liquescence_with(sign: u8, other: Liquescence) -> Liquescence
     ensures { result ≡ liquescence_with sign other }
 {
@@ -232,7 +234,7 @@ fn liquescence_with(sign: u8, other: Liquescence) -> Liquescence
 }
 
 impl NoteSigns {
-    /// Those of a note without suffixes.
+    /// The signs of a note without suffixes.
     pub(crate) const NONE: NoteSigns = NoteSigns {
         morae: 0,
         ictus: None,
@@ -291,7 +293,7 @@ impl NoteSigns {
     }
 
     /// Returns the signs with the suffix before them that begins with `sign`, which is no `_`.
-    /// `later` stands after it.
+    /// `later` are the bytes after `sign`.
     fn with_suffix(self, sign: u8, later: &[u8]) -> NoteSigns
         requires other { sign ≢ 95 }
         requires morae { self.morae ≤ 3 }
@@ -325,25 +327,25 @@ impl NoteSigns {
     }
 }
 
-/// What the suffixes of a note say from a byte on.
+/// The suffixes of a note as they are read from a byte on.
 #[derive(Clone, Copy)]
 struct SuffixesRead {
     signs: NoteSigns,
-    /// How many `_` they begin with, at most `MOST_COVERED`.
+    /// The number of `_` with which they begin, at most `MOST_COVERED`.
     run: u8,
     /// The side that the digits after these `_` name.
     side: Side,
 }
 
 impl SuffixesRead {
-    /// Of no suffixes.
+    /// No suffixes.
     const NONE: SuffixesRead = SuffixesRead {
         signs: NoteSigns::NONE,
         run: 0,
         side: Side::Auto,
     };
 
-    /// Returns what they say with `signs` in place of theirs, if no `_` begins them.
+    /// Returns suffixes with these `signs` that begin with no `_`.
     fn without_run(signs: NoteSigns) -> SuffixesRead
         ensures { result ≡ record { signs = signs; run = 0; side = Side.Auto } }
     {
@@ -354,7 +356,7 @@ impl SuffixesRead {
         }
     }
 
-    /// Returns what they say with a `_` before them. `later` are their bytes.
+    /// Returns the suffixes with a `_` before them. `later` are their bytes.
     fn with_bar(self, later: &[u8]) -> SuffixesRead
         requires { self ≡ suffixes_read later.now }
         ensures { result ≡ suffixes_read (95 ∷ later.now) }
@@ -378,7 +380,7 @@ impl SuffixesRead {
         }
     }
 
-    /// Returns what they say with `byte` before them. `later` are their bytes.
+    /// Returns the suffixes with `byte` before them. `later` are their bytes.
     fn with_byte(self, byte: u8, later: &[u8]) -> SuffixesRead
         requires { self ≡ suffixes_read later.now }
         ensures { result ≡ suffixes_read (byte ∷ later.now) }
@@ -391,7 +393,7 @@ impl SuffixesRead {
     }
 }
 
-/// Returns the signs that the suffixes of `text` are: what stands after the pitch of a note.
+/// Returns the signs of the suffixes `text`: the bytes after the pitch of a note.
 pub(crate) fn signs_in(text: &[u8]) -> NoteSigns
     ensures { result ≡ signs_of (suffixes text.now) }
 {

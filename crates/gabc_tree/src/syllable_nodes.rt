@@ -16,7 +16,7 @@ use gabc_nodes::{Kind, Node};
 use gabc_places::Span;
 use std::alloc::AllocError;
 
-/// A syllable by the slices of which its nodes are made.
+/// The slices of a syllable of which its nodes are made.
 #[derive(Clone, Copy)]
 pub(crate) struct SyllableSlices<'a> {
     /// Its kept text.
@@ -27,7 +27,7 @@ pub(crate) struct SyllableSlices<'a> {
     pub position: Position,
     /// The spans that are open after it.
     pub spans: Spans,
-    /// Whether blanks stand before its text.
+    /// Whether blanks come before its text.
     pub word_start: bool,
 }
 
@@ -63,7 +63,7 @@ fn position_number(position: Position) -> u16
 }
 
 /// Returns 1 if the span of `eu` is open after the text of `syllable`, 2 if that of `nlba` is, and
-/// 4 if blanks stand before its text, in one sum.
+/// 4 if blanks come before its text, in one sum.
 fn flags_of(syllable: SyllableSlices<'_>) -> u16
     ensures { result ≡ flags (placed_by syllable.entry) }
 {
@@ -73,8 +73,8 @@ fn flags_of(syllable: SyllableSlices<'_>) -> u16
     eu + nlba + word_start
 }
 
-/// Returns how many bytes of its kept text the text of `syllable` has: those before its `(`, or all
-/// of them if it has no notes.
+/// Returns the number of bytes of the text of `syllable` in its kept text: those before its `(`, or
+/// all of them if it has no notes.
 fn text_len(syllable: SyllableSlices<'_>) -> usize
     ensures { result ≡ len_of_text syllable.entry.kept.now syllable.entry.snippets.now }
 {
@@ -85,8 +85,8 @@ fn text_len(syllable: SyllableSlices<'_>) -> usize
     }
 }
 
-/// Adds the nodes of `snippet`, which stands in the kept text `kept`, to `out`. Before it these
-/// `alterations` are in force.
+/// Appends the nodes of `snippet`, which is in the kept text `kept`, to `out`. These `alterations`
+/// are in force before it, and are changed to those after it.
 #[tactic(auto, using(crate::proofs::syllables::TextsFit::text_fits))]
 fn snippet_nodes(
     kept: &str,
@@ -121,8 +121,8 @@ fn snippet_nodes(
     Ok(())
 }
 
-/// Adds the nodes of `snippets`, which stand in the kept text `kept`, to `out`. Before them these
-/// `alterations` are in force.
+/// Appends the nodes of `snippets`, which are in the kept text `kept`, to `out`. These
+/// `alterations` are in force before them, and are changed to those after them.
 fn add_notes(
     kept: &str,
     snippets: &[Snippet],
@@ -141,8 +141,8 @@ fn add_notes(
     Ok(())
 }
 
-/// Adds the nodes of the text and of the notes of `syllable` to `out`, before which these
-/// `alterations` are in force.
+/// Appends the nodes of the text and of the notes of `syllable` to `out`. These `alterations` are
+/// in force before the notes, and are changed to those after them.
 #[tactic(auto, using(crate::proofs::syllables::TextsFit::text_short))]
 fn add_inside(
     syllable: SyllableSlices<'_>,
@@ -164,7 +164,7 @@ fn add_inside(
     Ok(())
 }
 
-/// Lets the alterations before `syllable` end if it begins a word.
+/// Ends the `alterations` before `syllable` if it begins a word.
 fn begin_word(syllable: SyllableSlices<'_>, alterations: &mut Alterations)
     ensures { alterations.new ≡ force_at alterations.old (placed_by syllable.entry) }
 {
@@ -173,7 +173,7 @@ fn begin_word(syllable: SyllableSlices<'_>, alterations: &mut Alterations)
     }
 }
 
-/// Returns the node of `syllable` without what lies in it.
+/// Returns the node of `syllable` without those that lie in it.
 fn node_of(syllable: SyllableSlices<'_>) -> Node
     ensures { result ≡ syllable_node (placed_by syllable.entry) }
 {
@@ -188,8 +188,8 @@ fn node_of(syllable: SyllableSlices<'_>) -> Node
     }
 }
 
-/// Adds the nodes of `syllable` to `out`, before which these `alterations` are in force. They count
-/// the bytes of its kept text.
+/// Appends the nodes of `syllable` to `out`; they count the bytes of its kept text. These
+/// `alterations` are in force before it, and are changed to those after it.
 pub(crate) fn syllable_nodes(
     syllable: SyllableSlices<'_>,
     alterations: &mut Alterations,

@@ -1,4 +1,4 @@
-//! What takes the syllables of a score and makes their nodes.
+//! Takes the syllables of a score and makes their nodes.
 
 ghost use Rattle.std.specs.Prelude.{◌≡◌, ◌+◌, ◌++◌, [], ◌∷◌, map, length, string_bytes, OnOk, OnErr};
 ghost use Rattle.gabc_neumes.specs.InForce.{nothing_in_force};
@@ -19,7 +19,7 @@ use gabc_score::{Collect, Give, SpelledSyllable};
 use std::alloc::{AllocError, Global};
 use std::marker::Model;
 
-/// Makes the nodes of the syllables that it takes. Contracts see these nodes and what is kept.
+/// A taker of syllables that makes their nodes. Contracts see these nodes and what is kept.
 #[derive(Drop)]
 pub(crate) struct NodeTaker {
     body: BodyNodes,
@@ -37,7 +37,7 @@ impl Model for NodeTaker {
     ghost view = { λ t. t.body };
 }
 
-/// Makes `text` the kept text of `syllable`: a blank if it begins a word, and its canonical text.
+/// Sets `text` to the kept text of `syllable`: a blank if it begins a word, and its canonical text.
 fn spell_kept(syllable: SpelledSyllable<'_>, text: &mut String) -> Result<(), AllocError>
     ensures { OnOk result (string_bytes text.new
         ≡ gap_of (starts_word syllable.entry.position) ++ syllable.entry.canonical.now) }
@@ -49,7 +49,7 @@ fn spell_kept(syllable: SpelledSyllable<'_>, text: &mut String) -> Result<(), Al
     text.push_str(syllable.canonical)
 }
 
-/// Returns at which byte of the kept text of `syllable` its first snippet begins.
+/// Returns the byte of the kept text of `syllable` at which its first snippet begins.
 fn notes_from(syllable: SpelledSyllable<'_>) -> usize
     requires { IsSpelling syllable }
     ensures { result ≡ length (gap_of (starts_word syllable.entry.position))
@@ -63,7 +63,7 @@ fn notes_from(syllable: SpelledSyllable<'_>) -> usize
     }
 }
 
-/// Makes `snippets` those of `syllable`, with their bytes in its kept text.
+/// Sets `snippets` to those of `syllable`, with their bytes in its kept text.
 fn spell_snippets(
     syllable: SpelledSyllable<'_>,
     snippets: &mut Vec<Snippet>,
@@ -112,8 +112,8 @@ impl NodeTaker {
         self.body
     }
 
-    /// Adds the nodes of the syllable that these slices spell. If there is no memory for it, it
-    /// stays as it was.
+    /// Adds the nodes of the syllable that these slices spell. If memory runs out, the taker stays
+    /// as it was.
     fn add_spelled(&mut self, syllable: SpelledSyllable<'_>) -> Result<(), AllocError>
         requires { IsSpelling syllable }
         ensures added { OnOk result ((s : PlacedSyllable) → Spells syllable.entry s →

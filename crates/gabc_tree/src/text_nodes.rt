@@ -13,19 +13,19 @@ use gabc_text::{
 };
 use std::alloc::AllocError;
 
-/// What the tokens before a place of a text have shown.
+/// Facts about the tokens before a place of a text.
 #[derive(Clone, Copy)]
 struct Before {
     /// The styles that are open.
     styles: Styles,
-    /// Whether one of them is a piece but a span mark.
+    /// Whether one of them is a piece other than a span mark.
     word: bool,
     /// Whether the nearest blank or piece is a blank.
     blank: bool,
-    /// Whether a `{` stands there, and a `}` after one.
+    /// Whether a `{` is among them, and a `}` after one.
     begun: bool,
     ended: bool,
-    /// Whether a translation stands there.
+    /// Whether a translation is among them.
     translated: bool,
 }
 
@@ -39,7 +39,7 @@ impl Before {
         translated: false,
     };
 
-    /// Returns what is shown with `token` too.
+    /// Returns the facts with `token` added.
     fn past(self, token: TextToken) -> Before
         ensures { result ≡ shown_past self token.kind token.effect }
     {
@@ -70,7 +70,7 @@ impl Before {
         }
     }
 
-    /// Returns what is shown with a tag too that does this.
+    /// Returns the facts with a tag of this `effect` added.
     fn past_tag(self, effect: TagEffect) -> Before
         ensures { result ≡ shown_past_tag self effect }
     {
@@ -91,21 +91,22 @@ impl Before {
         }
     }
 
-    /// Returns the numbers of a node there: the open styles, and whether it is in the centre.
+    /// Returns the first number of a node there: the open styles, plus 128 in the centre.
     fn numbers(self) -> u16
         ensures { result ≡ numbers self.styles self.begun self.ended }
     {
         styles_number(self.styles) + bit(self.begun && !self.ended, 128)
     }
 
-    /// Returns whether `token` is a blank that is a piece, if `ahead` are the tokens after it.
+    /// Returns whether `token` is a blank that is a piece; `ahead` are the tokens after it.
     fn is_blank_piece(self, token: TextToken, ahead: TokenReader<'_>) -> bool
         ensures { result ≡ is_blank_piece self token.kind ahead.entry }
     {
         token.kind == TokenKind::Blank && self.word && !self.blank && has_piece(ahead)
     }
 
-    /// Returns the node of `token`, which is spelled as `spelled`. The tokens after it are `ahead`.
+    /// Returns the node of `token`, if it has one; it is spelled `spelled`, and `ahead` are the
+    /// tokens after it.
     fn node(self, token: TextToken, spelled: &[u8], ahead: TokenReader<'_>) -> Option<Node>
         requires from { token.span.from < 2 ^ 32 }
         requires to { token.span.to < 2 ^ 32 }
@@ -142,7 +143,8 @@ impl Before {
     }
 }
 
-/// Returns a node with these bytes, kind and numbers, in which no other lies.
+/// Returns a node of this `kind` with the bytes of `span` and the numbers `a`, `b` and `c`, in
+/// which no other lies.
 pub(crate) fn text_node(span: Span, kind: Kind, a: u16, b: u16, c: u16) -> Node
     requires from { span.from < 2 ^ 32 }
     requires to { span.to < 2 ^ 32 }
@@ -166,7 +168,8 @@ fn bit(holds: bool, n: u16) -> u16
     if holds { n } else { 0 }
 }
 
-/// Returns the number of a set of styles.
+/// Returns the number of a set of styles: the sum of 1 for b, 2 for c, 4 for e, 8 for i, 16 for sc,
+/// 32 for tt and 64 for ul.
 fn styles_number(styles: Styles) -> u16
     ensures number { result ≡ styles_number styles }
     ensures small { result < 128 }
@@ -180,7 +183,8 @@ fn styles_number(styles: Styles) -> u16
         + bit(styles.ul, 64)
 }
 
-/// Returns whether `style` is open after a tag that does this, if it was open or not before.
+/// Returns whether `style` is open after a tag of this `effect`; `was` says whether it was open
+/// before.
 fn is_open_after(style: Style, effect: TagEffect, was: bool) -> bool
     ensures { result ≡ is_open_after style effect was }
 {
@@ -191,7 +195,7 @@ fn is_open_after(style: Style, effect: TagEffect, was: bool) -> bool
     }
 }
 
-/// Returns the styles that are open after a tag that does this.
+/// Returns the styles that are open after a tag of this `effect`, if `styles` were before.
 fn styles_past(styles: Styles, effect: TagEffect) -> Styles
     ensures { result ≡ styles_past styles effect }
 {
@@ -206,7 +210,7 @@ fn styles_past(styles: Styles, effect: TagEffect) -> Styles
     }
 }
 
-/// Returns whether a token is a piece, blanks aside.
+/// Returns whether a token of this `kind` and `effect` is a piece; of blanks it says no.
 fn is_piece(kind: TokenKind, effect: TagEffect) -> bool
     ensures { result ≡ is_some (piece_kind kind effect) }
 {
@@ -220,7 +224,7 @@ fn is_piece(kind: TokenKind, effect: TagEffect) -> bool
     }
 }
 
-/// Returns whether a piece is among the tokens that `ahead` gives.
+/// Returns whether a piece is among the tokens `ahead`.
 fn has_piece(ahead: TokenReader<'_>) -> bool
     ensures { result ≡ has_piece ahead.entry }
 {
@@ -232,14 +236,15 @@ fn has_piece(ahead: TokenReader<'_>) -> bool
     false
 }
 
-/// Returns whether a letter that is spelled so is a `$` with a character.
+/// Returns whether a letter, by how it is `spelled`, is a `$` with a character.
 fn is_escape(spelled: &[u8]) -> bool
     ensures { result ≡ is_escape spelled.now }
 {
     spelled.starts_with(b"$") && spelled.len() > 1
 }
 
-/// Returns the number of a raw part that is spelled so.
+/// Returns the number of a raw part, by how it is `spelled`: 0 for raw TeX, 1 for a special
+/// character, 2 for a text over the staff.
 fn raw_number(spelled: &[u8]) -> u16
     ensures { result ≡ raw_number spelled.now }
 {
@@ -252,7 +257,7 @@ fn raw_number(spelled: &[u8]) -> u16
     }
 }
 
-/// Returns the number of a span mark.
+/// Returns the number of a span mark, from 0 to 3; 0 for none.
 fn number_of_mark(mark: Option<SpanMark>) -> u16
     ensures { result ≡ number_of_mark mark }
 {
@@ -264,7 +269,8 @@ fn number_of_mark(mark: Option<SpanMark>) -> u16
     }
 }
 
-/// Returns the node of a tag with the numbers `n`, which is spelled as `spelled`.
+/// Returns the node of a tag with the bytes of `span` and this `effect`, which is spelled
+/// `spelled`. Unless it is one of a style, its first number is `n`.
 fn tag_node(span: Span, n: u16, spelled: &[u8], effect: TagEffect) -> Node
     requires from { span.from < 2 ^ 32 }
     requires to { span.to < 2 ^ 32 }
@@ -311,8 +317,8 @@ fn add(last: &mut Option<Node>, node: Option<Node>, out: &mut Vec<Node>) -> Resu
     Ok(())
 }
 
-/// Adds the nodes of a syllable's text to `out` (GregorioRef, "Syllable Text Syntax"). What is kept
-/// of the text is `kept`, or `kept` up to the `(` where a token would begin. The nodes count its
+/// Adds the nodes of a syllable's text to `out` (GregorioRef, "Syllable Text Syntax"). The kept
+/// text is `kept`, or `kept` up to the first `(` at which a token would begin. The nodes count its
 /// bytes.
 pub(crate) fn text_nodes(kept: &str, out: &mut Vec<Node>) -> Result<(), AllocError>
     requires { length kept.now < 2 ^ 32 }

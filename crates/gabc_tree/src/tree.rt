@@ -21,7 +21,7 @@ use std::alloc::{AllocError, Global};
 use std::hash::DefaultHasher;
 use std::marker::Model;
 
-/// What was read of a score, as nodes in the order of the input, each before those that lie in it.
+/// The tree of a score: nodes in the order of the input, each before those that lie in it.
 /// Contracts see the list of the nodes.
 #[derive(Debug, Drop)]
 pub struct Tree {
@@ -47,12 +47,12 @@ impl Tree {
     }
 }
 
-/// What is read of a score at once.
+/// All that is known of a score after one reading.
 #[derive(Debug, Drop)]
 pub struct ScoreRead {
     /// Its tree.
     pub tree: Tree,
-    /// What was found, in the order in which it is reported.
+    /// The findings, in the order in which they are reported.
     pub findings: Findings,
     /// The fault that ended the reading, if one did.
     pub fault: Option<Fault>,
@@ -71,7 +71,7 @@ pub(crate) fn front_within(bytes: &[u8], limits: Limits) -> &str
     }
 }
 
-/// Returns how many characters of `text` begin before its byte `end`.
+/// Returns the number of characters of `text` that begin before its byte `end`.
 fn characters_before(text: &str, end: usize) -> usize
     ensures count { result ≡ count_before end (chars text.now) }
 {
@@ -87,8 +87,8 @@ fn characters_before(text: &str, end: usize) -> usize
     count
 }
 
-/// Returns the tree of an input of `len` bytes: of the kept nodes in `body` with `out`, which is
-/// not kept. A `fault` ended its reading, or none.
+/// Returns the tree of an input of `len` bytes: the nodes in `body` with those of `out`, which is
+/// not kept, between them. `fault` is the one that ended its reading, if one did.
 fn tree_of_parts(
     alloc: Global,
     body: &BodyNodes,
@@ -112,7 +112,7 @@ fn tree_of_parts(
     Ok(Tree { nodes })
 }
 
-/// Returns how the text of an input ended that has this `fault`.
+/// Returns the ending of the text of an input with this `fault`.
 fn ending_of(fault: Option<Fault>) -> InputEnding
     ensures { result ≡ ending_by fault }
 {
@@ -122,8 +122,8 @@ fn ending_of(fault: Option<Fault>) -> InputEnding
     }
 }
 
-/// Returns what is not kept of `bytes`, which are read under `limits`, whose headers have `heads`
-/// characters, of whose body `kept` is kept, and in which `findings` were found.
+/// Returns the nodes of what is not kept of `bytes`, which are read under `limits`: their headers
+/// have `heads` characters, `kept` is kept of their body, and `findings` were found in them.
 fn not_kept_of(
     alloc: Global,
     bytes: &[u8],
@@ -141,8 +141,8 @@ fn not_kept_of(
 }
 
 /// Returns the tree of the score in `bytes`, which is read under `limits` as
-/// `gabc_score::score_whole` reads its text. It fails only for want of memory. The names of headers
-/// are hashed with a fixed key: where strangers write the score and `limits.header` is large, take
+/// `gabc_score::score_whole` reads its text. It fails only if memory runs out. The names of headers
+/// are hashed with a fixed key: if strangers write the score and `limits.header` is large, take
 /// `tree_of_with_hasher`.
 pub fn tree_of(alloc: Global, bytes: &[u8], limits: Limits) -> Result<Tree, AllocError>
     ensures { IfOk result (λ tree. tree ≡ tree_nodes limits bytes.now) }
@@ -164,9 +164,9 @@ pub fn tree_of_with_hasher(
     Ok(tree)
 }
 
-/// Reads the score in `bytes` under `limits` as `tree_of` does, and returns all that is known of it
-/// at once. It fails only for want of memory. The names of headers are hashed from `hasher` on;
-/// what it returns does not depend on `hasher`.
+/// Reads the score in `bytes` under `limits` as `tree_of` does, and returns its tree, its findings
+/// and its fault at once. It fails only if memory runs out. The names of headers are hashed from
+/// `hasher` on; what it returns does not depend on `hasher`.
 pub fn read_score(
     alloc: Global,
     bytes: &[u8],

@@ -1,4 +1,4 @@
--- What calls answer.
+-- The answers of calls.
 use Rattle.std.specs.Prelude.{◌≡◌, ℕ, ◌<◌, ◌≤◌, ◌++◌, List, length, drop, Bool, codes}
 use Rattle.gabc_places.specs.declared.limits.Limits.{Limits}
 use Rattle.gabc_places.specs.Limits.{AreUsual}
@@ -11,7 +11,7 @@ use Rattle.gregorio_c.specs.declared.lengths.Lengths.{Lengths}
 use Rattle.gregorio_c.specs.declared.message.Message.{Message}
 use Rattle.gregorio_c.specs.declared.request.Request.{Request}
 
--- what messages call the score
+-- the name of the score in messages
 abbrev pub stdin_name : List ℕ
 stdin_name = codes "<stdin>"
 
@@ -19,8 +19,7 @@ stdin_name = codes "<stdin>"
 abbrev pub status_number : Outcome → ℕ
 status_number outcome = code_of (status_of outcome)
 
--- A text stands at the head of a buffer, if there is room for all of it; else the buffer is as it
--- was.
+-- A text is at the head of a buffer, if there is room for all of it; else the buffer is as it was.
 pub record IsPut {X : Type 0} (text old new : List X) : Type 0 where
   pub fits : length text ≤ length old → new ≡ text ++ drop (length text) old
   pub full : length old < length text → new ≡ old
@@ -31,7 +30,7 @@ pub record IsOutcomeOf (score : List ℕ) (outcome : Outcome) : Type 0 where
   pub usual : AreUsual limits.header limits.syllable limits.input
   pub is : outcome ≡ outcome_of limits Whole score
 
--- The output and the lines of the messages stand in their buffers, and their lengths and the status
+-- The output and the lines of the messages are in their buffers, and their lengths and the status
 -- are reported.
 pub record Answer (request : Request) (score output_old output_new messages_old messages_new : List ℕ) (lengths : Lengths) (status : ℕ) : Type 0 where
   pub outcome : Outcome
@@ -42,7 +41,7 @@ pub record Answer (request : Request) (score output_old output_new messages_old 
   pub messages_length : lengths.messages ≡ length (lines_of stdin_name request.all_warnings outcome.score)
   pub ends : status ≡ status_number outcome
 
--- The messages stand in their buffer, and their number and the status are reported.
+-- The messages are in their buffer, and their number and the status are reported.
 pub record MessagesAnswer (all_warnings : Bool) (score : List ℕ) (old new : List Message) (count status : ℕ) : Type 0 where
   pub outcome : Outcome
   pub of : IsOutcomeOf score outcome

@@ -1,4 +1,4 @@
--- What a step asks for, by the numbers that it is given.
+-- The request of a step, by the numbers that it is given.
 use Rattle.std.specs.Prelude.{◌≡◌, ℕ, List, [], ◌∷◌, Some}
 use Rattle.gabc_places.specs.declared.limits.Limits.{Limits}
 use Rattle.gabc_places.specs.Limits.{AreUsual}
@@ -19,7 +19,7 @@ AreLimitsOf [] limits = AreUsual limits.header limits.syllable limits.input
 AreLimitsOf (o ∷ []) limits = HasLimits o limits
 AreLimitsOf (o ∷ p ∷ more) limits = ⊥
 
--- a format, whether all warnings are wanted, and limits, if all numbers are known and in range
+-- a request and limits, if all numbers are known and in range
 pub record AsksFor (format flags : ℕ) (options : List Options) (request : Request) (limits : Limits) : Type 0 where
   pub request_is : request_by format flags ≡ Some request
   pub limits_are : AreLimitsOf options limits

@@ -1,9 +1,9 @@
--- What a run in pieces puts in all, and why it may fail.
+-- The bytes that a run in pieces puts in all, and the reasons why it may fail.
 use Rattle.std.specs.Prelude.{◌≡◌, ◌⊎◌, ℕ, List}
 use Rattle.gregorio_jobs.specs.Status.{code_of}
 use Rattle.gregorio.specs.Streams.{Streams}
 
--- a call that asks for something may fail for want of memory, or since a buffer is too small
+-- a call that asks for something fails only if memory runs out, or if a buffer is too small
 abbrev pub MayFail : ℕ → Type 0
 MayFail number = (number ≡ 5) ⊎ (number ≡ 7)
 

@@ -1,4 +1,4 @@
--- The bytes of a score at which messages stand.
+-- The bytes of a score at the places of messages.
 use Rattle.std.specs.Prelude.{ℕ, List, map, take}
 use Rattle.gabc_places.specs.Limits.{AreUsual}
 use Rattle.gabc_places.specs.Text.{utf8_prefix_of}
@@ -11,8 +11,8 @@ use Rattle.gregorio_c.specs.declared.message.Message.{Message}
 abbrev pub byte_in_text : List ℕ → Message → ℕ
 byte_in_text characters m = byte_in characters (record { line = m.line; column = m.column })
 
--- The bytes of all messages stand in the buffer, if there is room for them. What is read of the
--- score are the characters that the default limits allow.
+-- The bytes of all messages are in the buffer, if there is room for them. Of the score the
+-- characters are read that the default limits allow.
 pub record BytesAnswer (score : List ℕ) (messages : List Message) (old new : List ℕ) : Type 0 where
   pub limits : Limits
   pub usual : AreUsual limits.header limits.syllable limits.input

@@ -29,6 +29,7 @@ abbrev pub fault_message : Option Fault → List Message
 fault_message None = []
 fault_message (Some fault) = message_at fault.place fault.code ∷ []
 
--- the messages of what a score found, warnings only if all are wanted, and last that of its fault
+-- the messages of the findings of a score, warnings only if all are reported, and last that of its
+-- fault
 abbrev pub messages_by : Bool → Score → List Message
 messages_by all_warnings score = flat_map (shown_message all_warnings) score.findings ++ fault_message score.fault

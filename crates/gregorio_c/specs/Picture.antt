@@ -16,8 +16,8 @@ are_known [] = true
 are_known (o ∷ []) = (o.version == 1) && (nat_le o.messages 2 && (o.reserved == 0))
 are_known (o ∷ p ∷ ps) = false
 
--- The text of a picture of the score's tree under the default limits stands in the buffer, and its
--- length is reported.
+-- The text of a picture of the score's tree under the default limits is in the buffer, if there is
+-- room for it, and its length is reported.
 pub record PictureAnswer (score old new : List ℕ) (count : ℕ) : Type 0 where
   pub limits : Limits
   pub usual : AreUsual limits.header limits.syllable limits.input

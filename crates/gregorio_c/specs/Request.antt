@@ -1,4 +1,4 @@
--- What a call asks for, by the numbers that it is given.
+-- The request of a call, by the numbers that it is given.
 use Rattle.std.specs.Prelude.{ℕ, ◌==◌, Bool, true, false, Option, Some, None, if◌then◌else◌}
 use Rattle.gregorio_jobs.specs.declared.job.Format.{Format}
 use Rattle.gregorio_jobs.specs.declared.job.Format.TheVariants.{Gabc, Dump}
@@ -8,7 +8,7 @@ use Rattle.gregorio_c.specs.declared.request.Request.{Request}
 abbrev pub format_by : ℕ → Option Format
 format_by number = if number == 0 then Some Gabc else if number == 1 then Some Dump else None
 
--- 1 wants all warnings, and 0 does not
+-- 1 asks for all warnings, and 0 does not
 abbrev pub warnings_by : ℕ → Option Bool
 warnings_by flags = if flags == 0 then Some false else if flags == 1 then Some true else None
 

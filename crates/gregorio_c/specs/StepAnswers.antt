@@ -1,4 +1,4 @@
--- What steps answer: what is made stands in the caller's buffers, or nothing is written.
+-- The answers of steps: what is made is in the caller's buffers, or nothing is written.
 use Rattle.std.specs.Prelude.{◌≡◌, ℕ, ◌≤◌, ◌⊎◌, ◌++◌, List, [], length, drop}
 use Rattle.gabc_places.specs.declared.limits.Limits.{Limits}
 use Rattle.gregorio_jobs.specs.declared.job.Job.{Job}
@@ -19,7 +19,7 @@ used old new = record { old = old; new = new }
 abbrev pub HasRoom : Buffer → List ℕ → Type 0
 HasRoom b text = length text ≤ length b.old
 
--- the text stands at its head
+-- the text is at its head
 abbrev pub IsFilled : Buffer → List ℕ → Type 0
 IsFilled b text = b.new ≡ text ++ drop (length text) b.old
 
@@ -45,8 +45,8 @@ pub record AllAreKept (state output messages : Buffer) (result : ℕ) : Type 0 w
   pub lines_are : IsKept messages
   pub number : result ≡ 7
 
--- There is room for all that is made, and it stands in the buffers; or there is not, and these are
--- kept.
+-- There is room for all that is made, and it is in the buffers; or there is not, and these are as
+-- they were.
 abbrev pub IsHandedOut : Made → Buffer → Buffer → Buffer → ℕ → Type 0
 IsHandedOut made state output messages result =
     (AllHaveRoom made state output messages × AllAreFilled made state output messages result)

@@ -20,16 +20,16 @@ use Rattle.gregorio_c.specs.declared.request.Request.{Request}
 abbrev pub job_of : Request → Job
 job_of request = record { format = request.format; input = Stdin; output = Stdout; messages = None; all_warnings = request.all_warnings }
 
--- what is written of an input, whatever it is and however it ends
+-- the texts written of an input, whatever it is and however it ends
 abbrev pub Writes : Type 0
 Writes = SourceEnding → List ℕ → Streams
 
--- what a run of this job writes
+-- the texts that a run of this job writes
 abbrev pub run_of : Job → Limits → Writes
 run_of job limits ending bytes = streams_of_outcome job (outcome_of limits ending bytes)
 
--- What a step makes: bytes of the output and of the messages, the state after it, which is empty if
--- the run is over, and the number that it answers.
+-- The result of a step: bytes of the output and of the messages, the state after it, which is empty
+-- if the run is over, and the number of its answer.
 pub record Made : Type 0 where
   pub output : List ℕ
   pub lines : List ℕ

@@ -12,8 +12,8 @@ use Rattle.gregorio_c.specs.declared.tree_node.TreeNode.{TreeNode}
 abbrev pub record_of : Node → TreeNode
 record_of n = record { begin = n.begin; end = n.end; inner = n.inner; kind = number_of n.kind; a = n.a; b = n.b; c = n.c }
 
--- The nodes of the score's tree under the default limits stand in their buffer, and their number is
--- reported.
+-- The nodes of the score's tree under the default limits are in their buffer, if there is room for
+-- them, and their number is reported.
 pub record TreeAnswer (score : List ℕ) (old new : List TreeNode) (count : ℕ) : Type 0 where
   pub limits : Limits
   pub usual : AreUsual limits.header limits.syllable limits.input

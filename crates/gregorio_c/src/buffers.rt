@@ -13,8 +13,8 @@ pub(crate) fn put<T: Copy>(from: &[T], to: &mut [T])
     }
 }
 
-/// Returns whether something of `len` items is written into `buf`: there are some, and there is
-/// room for all of them.
+/// Returns whether `len` items are written into `buf`: there are some, and there is room for all of
+/// them.
 pub(crate) fn is_written<T: Copy>(buf: &[T], len: usize) -> bool
     ensures fits { result ≡ true → len ≤ length buf.now }
     ensures none { result ≡ false → (items : List T) → length items ≡ len →
@@ -23,8 +23,8 @@ pub(crate) fn is_written<T: Copy>(buf: &[T], len: usize) -> bool
     0 < len && len <= buf.len()
 }
 
-/// Returns the index from which on `len` items are to fill `buf`: its head, or, if nothing of them
-/// is written, its end.
+/// Returns the index of `buf` from which `len` items are to be written: 0, or the end of `buf` if
+/// none of them is written.
 pub(crate) fn start_of<T: Copy>(buf: &[T], len: usize) -> usize
     ensures { (items : List T) → length items ≡ len →
         IsPut items buf.now (filled buf.now result items) }

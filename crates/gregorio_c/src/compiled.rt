@@ -1,5 +1,5 @@
-//! A score that is compiled by runs of an engine over it: one that counts what it writes and keeps
-//! the first bytes, and, if they are not all, another one that writes what fits.
+//! Compiles a score by runs of an engine over it: one that counts what it writes and keeps the
+//! first bytes, and, if they are not all, another one that writes what fits.
 
 ghost use Rattle.std.specs.Prelude.{◌≡◌, ◌++◌, ◌<◌, ◌-◌, ◌^◌, ℕ, List, true, false, IfOk, OnOk, OnErr, codes};
 ghost use Rattle.gabc_places.specs.declared.limits.Limits.{Limits};
@@ -24,17 +24,18 @@ use std::alloc::{AllocError, Global};
 /// them.
 const KEPT_OUTPUT: usize = 16_777_216;
 
-/// How many bytes of the messages the first run keeps.
+/// The most bytes of the messages that the first run keeps.
 const KEPT_MESSAGES: usize = 8192;
 
-/// Returns how many bytes of the output the first run over `score` keeps, if there is room for
-/// `room` bytes: 32 for each byte of the score, which is more than most dumps have, and no more
-/// than there is room for, nor than `KEPT_OUTPUT`.
+/// Returns the number of bytes of the output that the first run over `score` keeps, if there is
+/// room for `room` bytes: 32 for each byte of the score, which is more than most dumps have, but no
+/// more than `room`, nor than `KEPT_OUTPUT`.
 fn kept_output(score: &[u8], room: usize) -> usize {
     score.len().saturating_mul(32).min(room).min(KEPT_OUTPUT)
 }
 
-/// What a run over a score under `limits` has written, as far as it is kept, and how it ended.
+/// A run over a score under `limits`: its output and its messages, as far as they are kept, and its
+/// end.
 #[derive(Drop)]
 struct Run {
     limits: Limits,
@@ -45,7 +46,7 @@ struct Run {
 }
 
 impl Run {
-    /// Returns how many bytes it has written.
+    /// Returns the numbers of bytes that it has written.
     fn lengths(&self) -> Lengths
         ensures { (request : Request) (limits : Limits) (score : List ℕ) →
             HasWritten self.now (streams_of_score request limits score) →
@@ -59,7 +60,7 @@ impl Run {
 }
 
 /// Runs over `score` under `limits`, and returns what it writes; of the output it keeps no more
-/// than `room` bytes. It fails only for want of memory, and if it writes more than can be counted.
+/// than `room` bytes. It fails only if memory runs out, or if it writes more than can be counted.
 fn run_under(
     alloc: Global,
     request: Request,
@@ -146,7 +147,7 @@ fn write_by(
 }
 
 /// Writes each of the texts of `run`, a run over `score`, that fits into its buffer. `lengths` are
-/// those of the texts. It fails only for want of memory, and nothing is written then.
+/// those of the texts. It fails only if memory runs out, and writes nothing then.
 fn write_texts(
     alloc: Global,
     request: Request,
@@ -180,8 +181,8 @@ fn write_texts(
 }
 
 /// Compiles `score`: puts each of its two texts that fits into its buffer, and their lengths into
-/// `lengths`. Returns the exit status. It fails only for want of memory, and nothing is written
-/// then.
+/// `lengths`. Returns the exit status. It fails only if memory runs out, or if a run writes more
+/// than can be counted, and writes nothing then.
 pub(crate) fn compile(
     alloc: Global,
     request: Request,

@@ -5,7 +5,7 @@ ghost use Rattle.std.specs.Prelude.{◌≡◌};
 use gabc_score::{Collect, Give, LentSyllable, SpelledSyllable, Syllable};
 use std::alloc::AllocError;
 
-/// Takes syllables, and keeps nothing of them.
+/// A taker of syllables that keeps nothing of them.
 #[derive(Clone, Copy, Debug)]
 pub(crate) struct Dropped;
 

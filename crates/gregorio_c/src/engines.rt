@@ -14,8 +14,7 @@ use gregorio::Engine;
 use std::alloc::{AllocError, Global};
 use std::hash::{DefaultHasher, Hasher};
 
-/// Returns a hasher that has taken the words of `key`. Without one it begins as each such hasher
-/// does.
+/// Returns a hasher that has taken the words of `key`; without words it is a fresh one.
 pub(crate) fn hasher_of(key: &[u64]) -> DefaultHasher {
     let mut hasher = DefaultHasher::new();
     for word in key {
@@ -24,9 +23,9 @@ pub(crate) fn hasher_of(key: &[u64]) -> DefaultHasher {
     hasher
 }
 
-/// Returns limits for a run over `score` that few scores of its length pass: its headers and a
-/// syllable may have twice its bytes and 64, and no more than under the `usual` limits. The fewer
-/// bytes the headers may have, the less time it takes to make an engine.
+/// Returns limits for a run over `score` that few scores of its length exceed: its headers and a
+/// syllable may have 64 bytes more than twice its bytes, but no more than under the `usual` limits.
+/// The smaller the limit of the headers, the less time it takes to make an engine.
 pub(crate) fn small_limits(usual: Limits, score: &[u8]) -> Limits
     ensures no_less { AreNoLess result usual }
     ensures input { result.input ≡ usual.input }
@@ -41,8 +40,8 @@ pub(crate) fn small_limits(usual: Limits, score: &[u8]) -> Limits
     .unwrap_or(usual)
 }
 
-/// Returns whether what stopped a run, if anything did, is that the headers or a syllable were too
-/// long.
+/// Returns whether `fault`, which stopped a run if one did, is that the headers or a syllable were
+/// too long.
 pub(crate) fn is_too_long(fault: Option<Fault>) -> bool
     ensures { result ≡ is_stopped_too_long fault }
 {
@@ -52,8 +51,8 @@ pub(crate) fn is_too_long(fault: Option<Fault>) -> bool
     }
 }
 
-/// Returns an engine for what is asked for, under `limits`. It hashes the names of headers with
-/// `key`, and fails only for want of memory.
+/// Returns an engine for `request`, under `limits`. It hashes the names of headers with `key`, and
+/// fails only if memory runs out.
 pub(crate) fn engine_of(
     alloc: Global,
     request: Request,

@@ -1,4 +1,4 @@
-//! What takes a text that a run writes: it counts its bytes, and keeps the first of them.
+//! Counts the bytes of a text that a run writes, and keeps the first of them.
 
 ghost use Rattle.std.specs.Prelude.{◌≡◌, ◌<◌, ◌-◌, ◌^◌, ℕ, List, [], length, IfOk, IfSome, IsSome};
 ghost use Rattle.gabc_places.specs.Put.{counted_with, filled_with};
@@ -9,7 +9,7 @@ use crate::buffers::is_written;
 use gabc_places::{ByteCounter, Put, Room};
 use std::alloc::{AllocError, Global};
 
-/// Counts the bytes of a text, and keeps the first of them.
+/// The number of bytes of a text that is put into it, and the first of them.
 #[derive(Drop)]
 pub(crate) struct FirstBytes {
     first: Room<u8>,
@@ -17,8 +17,8 @@ pub(crate) struct FirstBytes {
 }
 
 impl FirstBytes {
-    /// Returns one that keeps at most `limit` bytes, and has taken none. It fails only for want of
-    /// memory.
+    /// Returns one that keeps at most `limit` bytes, and has taken none. It fails only if memory
+    /// runs out.
     pub(crate) fn with_limit(alloc: Global, limit: usize) -> Result<FirstBytes, AllocError>
         ensures taken { IfOk result (λ f. Keeps f []) }
         ensures limit { IfOk result (λ f. f.first.limit ≡ limit) }
@@ -51,7 +51,7 @@ impl FirstBytes {
         }
     }
 
-    /// Returns what to put into `buf` for the text: nothing, if `buf` takes nothing of it, or else
+    /// Returns the bytes to put into `buf` for the text: none, if `buf` takes nothing of it, else
     /// the text, if all of it is kept.
     pub(crate) fn to_put(&self, buf: &[u8]) -> Option<&[u8]>
         ensures text { IfSome result (λ bytes. (text new : List ℕ) → Keeps self.now text →

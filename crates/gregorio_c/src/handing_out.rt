@@ -1,4 +1,4 @@
-//! What a step has made, handed out to the buffers of a caller.
+//! Copies what a step has made to the buffers of a caller.
 
 ghost use Rattle.std.specs.Prelude.{◌≡◌, ◌↔◌, ◌≤◌, length, IsTrue};
 ghost use Rattle.gregorio_c.specs.StepAnswers.{AllHaveRoom, IsHandedOut, used};
@@ -10,7 +10,7 @@ use crate::steps::{Made, Refusal};
 /// The answer if a buffer is too small.
 const SHORT: u32 = 7;
 
-/// Returns whether each of these takes what is made for it.
+/// Returns whether each buffer has room for what is made for it.
 fn has_room(made: &Made, state: &[u8], output: &[u8], messages: &[u8]) -> bool
     ensures { IsTrue result ↔ AllHaveRoom made.now (used state.now state.now)
         (used output.now output.now) (used messages.now messages.now) }
@@ -21,7 +21,7 @@ fn has_room(made: &Made, state: &[u8], output: &[u8], messages: &[u8]) -> bool
 }
 
 /// Copies what is made to the heads of the buffers, if there is room for all of it, and returns the
-/// number that is answered. Else the buffers stay as they were.
+/// number of its answer. Else the buffers stay as they were, and it returns 7.
 pub(crate) fn hand_out(made: &Made, state: &mut [u8], output: &mut [u8], messages: &mut [u8]) -> u32
     ensures { IsHandedOut made.now (used state.old state.new) (used output.old output.new)
         (used messages.old messages.new) result }
@@ -35,7 +35,7 @@ pub(crate) fn hand_out(made: &Made, state: &mut [u8], output: &mut [u8], message
     made.number()
 }
 
-/// Returns the number that is answered if no step is made.
+/// Returns the number of the answer if no step is made for this `refusal`.
 pub(crate) fn number_of_refusal(refusal: Refusal) -> u32
     ensures { result ≡ number_of refusal }
 {

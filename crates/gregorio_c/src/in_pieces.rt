@@ -60,8 +60,8 @@ fn fed_by(number: u32, len: usize) -> Fed
     }
 }
 
-/// Begins a run, and returns how many bytes its first state has. The error is the number that is
-/// answered else.
+/// Begins a run, and returns the number of bytes of its first state. The error is the number of an
+/// answer with which nothing is written.
 fn begin_one(alloc: Global, numbers: &Numbers<'_>, state: &mut [u8]) -> Result<usize, u32>
     ensures begun { (request : Wanted) (limits : RunLimits) →
         AsksFor numbers.now.format numbers.now.flags numbers.now.options.now request limits →
@@ -86,8 +86,9 @@ fn begin_one(alloc: Global, numbers: &Numbers<'_>, state: &mut [u8]) -> Result<u
     Ok(step.state)
 }
 
-/// Feeds `piece` to the run whose state are the first `len` bytes of `state`, and puts what is
-/// written then. The error is the number of an answer with which nothing is written.
+/// Feeds `piece` to the run whose state are the first `len` bytes of `state`, and puts the output
+/// and the messages of this step into `out` and `lines`. The error is the number of an answer with
+/// which nothing is written.
 fn feed_one<O: Put, M: Put>(
     alloc: Global,
     numbers: &Numbers<'_>,
@@ -135,8 +136,8 @@ fn feed_one<O: Put, M: Put>(
     Ok(fed_by(number, step.state))
 }
 
-/// Ends the run whose state is `state` by the call for such an end of its input, and returns the
-/// number that is answered.
+/// Ends the run whose state is `state` by the call for this `ending` of its input, and returns the
+/// number of the answer.
 fn end_by(
     alloc: Global,
     numbers: &Numbers<'_>,
@@ -167,8 +168,9 @@ fn end_by(
     }
 }
 
-/// Ends the run whose state is `state`, and puts what is written then. Returns the number that is
-/// answered. The error is that of an answer with which nothing is written.
+/// Ends the run whose state is `state`, and puts the last of the output and of the messages into
+/// `out` and `lines`. Returns the number of the answer. The error is that of an answer with which
+/// nothing is written.
 fn end_one<O: Put, M: Put>(
     alloc: Global,
     numbers: &Numbers<'_>,
@@ -216,7 +218,7 @@ fn end_one<O: Put, M: Put>(
 /// the status of a run over the pieces joined. They are put into `out` and `lines`. `state`,
 /// `output` and `messages` are the buffers of the calls. The error is 3 if the numbers ask for
 /// nothing, else 5, if there is too little memory, or 7, if a buffer is too small. That it makes a
-/// call for each piece stands in its body, and in no clause.
+/// call for each piece is seen in its body, and is in no clause.
 pub fn a_run_may_be_fed_in_pieces<O: Put, M: Put>(
     alloc: Global,
     numbers: &Numbers<'_>,

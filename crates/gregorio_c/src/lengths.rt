@@ -1,11 +1,11 @@
-//! The lengths of what was written.
+//! The lengths of the texts that a call writes.
 
-/// How many bytes the output and the messages have.
+/// The lengths of the output and of the messages, in bytes.
 #[repr(C)]
 #[derive(Debug, Drop)]
 pub struct Lengths {
-    /// The bytes of the output.
+    /// The number of bytes of the output.
     pub output: usize,
-    /// The bytes of the messages.
+    /// The number of bytes of the messages.
     pub messages: usize,
 }

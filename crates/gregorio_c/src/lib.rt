@@ -1,9 +1,9 @@
-//! The compiler as a static library for programs in C. `c/gregorio.h` says what a caller in C has
-//! to keep to.
+//! The compiler as a static library for programs in C. `c/gregorio.h` has the rules for a caller in
+//! C.
 //!
 //! A slice crosses as a pointer and a count. A call reads a whole score under the default limits,
-//! or makes a step of a run in pieces. It asks for memory while it works, gives back all of it,
-//! keeps nothing between calls, and may be made in any number of threads at once.
+//! or makes a step of a run in pieces. It frees all memory that it allocates, keeps nothing between
+//! calls, and may be made in any number of threads at once.
 #![tactic(auto)]
 
 mod buffers;
@@ -118,10 +118,10 @@ pub extern "C" fn gregorio_messages(
     tell_messages(alloc, all_warnings, key, score, messages, count).unwrap_or(NO_MEMORY)
 }
 
-/// Puts the byte of `score` at which each of `messages` stands, from 0, into `bytes`, if there is
+/// Puts the byte of `score`, from 0, at the place of each of `messages` into `bytes`, if there is
 /// room for all; else `bytes` stays as it was. It is the byte of the first character that is shown
-/// and does not stand before the message's line and column, or the end of what is read of the
-/// score. Asks for no memory.
+/// and is not before the message's line and column, or the end of what is read of the score. Does
+/// not allocate.
 #[unsafe(no_mangle)]
 pub extern "C" fn gregorio_message_bytes(score: &[u8], messages: &[Message], bytes: &mut [u32])
     ensures { BytesAnswer score.now messages.now bytes.old bytes.new }

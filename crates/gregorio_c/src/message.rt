@@ -6,9 +6,9 @@ ghost use Rattle.gregorio_c.specs.Messages.{message_at, severity_number};
 use gabc_places::{Code, Place, Severity};
 use gabc_tree::number_of_code;
 
-/// A message: the line and the column in characters, both from 1, how grave it is (0 a warning, 1
-/// an error, 2 a fatal fault), and its code: E1 to E6 are 101 to 106, W1 to W12 are 201 to 212, F1
-/// to F7 are 301 to 307.
+/// A message: its line and its column in characters, both from 1, its severity (0 a warning, 1 an
+/// error, 2 a fatal fault), and its code: E1 to E6 are 101 to 106, W1 to W12 are 201 to 212, F1 to
+/// F7 are 301 to 307.
 #[repr(C)]
 #[derive(Clone, Copy, Debug, PartialEq, Eq)]
 pub struct Message {
@@ -18,7 +18,7 @@ pub struct Message {
     pub column: u64,
     /// 0 for a warning, 1 for an error, 2 for a fatal fault.
     pub severity: u32,
-    /// The number of its code, which stays as it is: 101 for E1, 201 for W1, 301 for F1.
+    /// The number of its code, which never changes: 101 for E1, 201 for W1, 301 for F1.
     pub code: u32,
 }
 

@@ -1,4 +1,4 @@
-//! The bytes of a score at which messages stand.
+//! The bytes of a score at the places of messages.
 
 ghost use Rattle.std.specs.Prelude.{map};
 ghost use Rattle.gregorio_c.specs.Answers.{IsPut};
@@ -8,7 +8,7 @@ use crate::message::Message;
 use gabc_places::{Limits, Place};
 use gabc_tree::PlaceReader;
 
-/// Puts the byte at which each of `messages` stands into `bytes`, if there is room for all. Else
+/// Puts the byte at the place of each of `messages` into `bytes`, if there is room for all. Else
 /// `bytes` stays as it was.
 fn put_all(reader: &mut PlaceReader<'_>, messages: &[Message], bytes: &mut [u32])
     ensures { IsPut (map (byte_in_text reader.old) messages.now) bytes.old bytes.new }
@@ -23,7 +23,7 @@ fn put_all(reader: &mut PlaceReader<'_>, messages: &[Message], bytes: &mut [u32]
     }
 }
 
-/// Puts the byte of `score` at which each of `messages` stands into `bytes`, if there is room for
+/// Puts the byte of `score` at the place of each of `messages` into `bytes`, if there is room for
 /// all. Else `bytes` stays as it was.
 pub(crate) fn put_bytes(score: &[u8], messages: &[Message], bytes: &mut [u32])
     ensures { BytesAnswer score.now messages.now bytes.old bytes.new }

@@ -17,7 +17,7 @@ use gabc_score::{InputEnding, Score, ScoreRest, Syllables, score_given};
 use gregorio::{Outcome, is_shown};
 use std::alloc::{AllocError, Global};
 
-/// Returns how the text of an input ended that has this `fault`.
+/// Returns the ending of the text of an input with this `fault`.
 fn ending_of(fault: Option<Fault>) -> InputEnding
     ensures { result ≡ ending_by Whole fault }
 {
@@ -27,7 +27,7 @@ fn ending_of(fault: Option<Fault>) -> InputEnding
     }
 }
 
-/// Returns the outcome of a whole score without its syllables, by what else it says.
+/// Returns the outcome of a whole score without its syllables, made of the `rest` of the score.
 fn outcome_by(alloc: Global, rest: ScoreRest) -> Outcome
     ensures { result ≡ outcome_with rest }
 {
@@ -47,8 +47,8 @@ fn outcome_by(alloc: Global, rest: ScoreRest) -> Outcome
     }
 }
 
-/// Reads `score` under `limits`, and returns its outcome without the syllables. It fails only for
-/// want of memory.
+/// Reads `score` under `limits`, and returns its outcome without the syllables. It fails only if
+/// memory runs out.
 fn found_in(alloc: Global, key: &[u64], score: &[u8], limits: Limits) -> Result<Outcome, AllocError>
     ensures { IfOk result (λ outcome.
         outcome ≡ without_syllables (outcome_of limits Whole score.now)) }
@@ -61,7 +61,7 @@ fn found_in(alloc: Global, key: &[u64], score: &[u8], limits: Limits) -> Result<
 }
 
 /// Reads `score` under the default limits, and returns its outcome without the syllables. It fails
-/// only for want of memory. Small limits are tried first, under which less memory is asked for.
+/// only if memory runs out. Small limits are tried first, under which it allocates less.
 fn found(alloc: Global, key: &[u64], score: &[u8]) -> Result<Outcome, AllocError>
     ensures { IfOk result (λ outcome. IsFound score.now outcome) }
 {
@@ -74,8 +74,8 @@ fn found(alloc: Global, key: &[u64], score: &[u8]) -> Result<Outcome, AllocError
     Ok(outcome)
 }
 
-/// Writes `message` into `buf` at `at`, if there is room for it, and returns how many are written
-/// then.
+/// Writes `message` into `buf` at `at`, if there is room for it, and returns the index after it,
+/// else `at`.
 fn put_at(buf: &mut [Message], at: usize, message: Message) -> usize
     ensures buf { buf.new ≡ filled buf.old at (message ∷ []) }
     ensures len { result ≡ filled_len buf.old at (message ∷ []) }
@@ -89,8 +89,8 @@ fn put_at(buf: &mut [Message], at: usize, message: Message) -> usize
 }
 
 /// Writes the messages of what `score` found into `buf` from `at` on, as many as there is room for:
-/// warnings only if `all_warnings` are wanted, and last the message of its fault. Returns how many
-/// messages it has, or the last value of a `usize` if it has as many or more.
+/// warnings only if `all_warnings`, and last the message of its fault. Returns the number of its
+/// messages, or the last value of a `usize` if it has as many or more.
 fn fill(all_warnings: bool, score: &Score, buf: &mut [Message], at: usize) -> usize
     ensures buf { buf.new ≡ filled buf.old at (messages_by all_warnings score.now) }
     ensures count { result ≡ min (length (messages_by all_warnings score.now)) (2 ^ 64 - 1) }
@@ -111,8 +111,8 @@ fn fill(all_warnings: bool, score: &Score, buf: &mut [Message], at: usize) -> us
 }
 
 /// Puts the messages of `score` into `messages`, if there is room for all, and their number into
-/// `count`: warnings only if `all_warnings` are wanted. Returns the exit status. It fails only for
-/// want of memory, or if there are more messages than can be counted, and nothing is written then.
+/// `count`: warnings only if `all_warnings`. Returns the exit status. It fails only if memory runs
+/// out, or if there are more messages than can be counted, and writes nothing then.
 pub(crate) fn tell_messages(
     alloc: Global,
     all_warnings: bool,

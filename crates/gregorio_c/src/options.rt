@@ -14,28 +14,28 @@ use std::hash::DefaultHasher;
 #[repr(C)]
 #[derive(Clone, Copy, Debug)]
 pub struct Options {
-    /// How many bytes the headers may have: 64 to 16,777,216.
+    /// The most bytes of the headers: 64 to 16,777,216.
     pub header: u32,
-    /// How many bytes a syllable may have: 64 to 16,777,216.
+    /// The most bytes of a syllable: 64 to 16,777,216.
     pub syllable: u32,
-    /// How many bytes the input may have: at least 64.
+    /// The most bytes of the input: at least 64.
     pub input: u32,
-    /// 0.
+    /// Reserved: 0.
     pub reserved: u32,
     /// The words of the key: two random ones if strangers write the scores. No answer depends on
     /// them.
     pub key: [u64; 2],
 }
 
-/// What a step asks for.
+/// The request of a step, and its limits.
 #[derive(Clone, Copy)]
 pub(crate) struct Asked {
     pub request: Request,
     pub limits: Limits,
 }
 
-/// Returns the limits of `options`: the default ones if there are none. More than one, or numbers
-/// out of range, give `None`.
+/// Returns the limits of `options`: the default ones if there are none. It returns `None` if there
+/// are more than one, or if numbers are out of range.
 pub(crate) fn limits_of(options: &[Options]) -> Option<Limits>
     ensures limits { IfSome result (λ limits. AreLimitsOf options.now limits) }
     ensures none { result ≡ None → (limits : RunLimits) → AreLimitsOf options.now limits → ⊥ }
@@ -47,7 +47,8 @@ pub(crate) fn limits_of(options: &[Options]) -> Option<Limits>
     }
 }
 
-/// Returns what these numbers and `options` ask for, if all are known and in range.
+/// Returns the request of `format` and `flags` with the limits of `options`, if all numbers are
+/// known and in range.
 pub(crate) fn asked_of(format: u32, flags: u32, options: &[Options]) -> Option<Asked>
     ensures asked { IfSome result (λ asked.
         AsksFor format flags options.now asked.request asked.limits) }

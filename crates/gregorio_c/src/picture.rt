@@ -17,7 +17,8 @@ use gabc_tree::{PlaceReader, ScoreRead, read_score};
 use gregorio::is_shown;
 use std::alloc::{AllocError, Global};
 
-/// Returns the width of a picture that this number asks for: 0 is the default one.
+/// Returns the width of a picture by its number `width`, in thousandths of a staff space: 0 asks
+/// for the default one.
 fn width_of(width: u32) -> Distance {
     if width == 0 {
         return Options::usual().width;
@@ -26,7 +27,7 @@ fn width_of(width: u32) -> Distance {
 }
 
 /// Returns the messages of `score`, which is read as `read`, as marks: those of errors and faults,
-/// and if they are wanted those of `warnings`. It fails only for want of memory.
+/// and if `warnings` those of warnings. It fails only if memory runs out.
 fn marks_of(
     alloc: Global,
     score: &[u8],
@@ -52,8 +53,8 @@ fn marks_of(
     Ok(marks)
 }
 
-/// Returns the marks that are wanted in a picture of `score`, which is read as `read`. It fails
-/// only for want of memory.
+/// Returns the marks of a picture of `score`, which is read as `read`, as `wanted` asks for them.
+/// It fails only if memory runs out.
 fn wanted_marks(
     alloc: Global,
     score: &[u8],
@@ -66,7 +67,7 @@ fn wanted_marks(
     }
 }
 
-/// Returns how many bytes the text of `picture` has. It fails if there are more than can be
+/// Returns the number of bytes of the text of `picture`. It fails if there are more than can be
 /// counted.
 fn length_of(picture: &Picture<'_>) -> Result<usize, AllocError>
     ensures { IfOk result (λ count. count ≡ length (written (page_of picture.now))) }
@@ -89,8 +90,8 @@ fn put_text(picture: &Picture<'_>, count: usize, buf: &mut [u8])
 }
 
 /// Reads `score`, and puts its picture, as it is `wanted`, into `buf`, if there is room for it, and
-/// the number of its bytes into `count`. It fails only for want of memory, or if there are more
-/// bytes than can be counted, and nothing is written then.
+/// the number of its bytes into `count`. It fails only if memory runs out, or if there are more
+/// bytes than can be counted, and writes nothing then.
 pub(crate) fn tell_picture(
     alloc: Global,
     key: &[u64],

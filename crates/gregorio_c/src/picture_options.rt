@@ -3,21 +3,23 @@
 ghost use Rattle.std.specs.Prelude.{◌≡◌, None, true, false, is_some};
 ghost use Rattle.gregorio_c.specs.Picture.{are_known};
 
-/// How a picture looks, and which messages stand in it.
+/// The options of a picture: its width, and the messages in it.
 #[repr(C)]
 #[derive(Clone, Copy, Debug)]
 pub struct PictureOptions {
-    /// 1.
+    /// The version of the options: 1.
     pub version: u32,
-    /// How wide the picture is, in thousandths of a staff space: at least 12,000, or 0 for 72,000.
+    /// The width of the picture, in thousandths of a staff space: 0 asks for 72,000, and any other
+    /// number below 12,000 for 12,000.
     pub width: u32,
-    /// Which messages stand in it: 0 for none, 1 for errors and faults, 2 for warnings too.
+    /// The messages in it: 0 for none, 1 for errors and faults, 2 for warnings too.
     pub messages: u32,
-    /// 0.
+    /// Reserved: 0.
     pub reserved: u32,
 }
 
-/// What a picture is asked for: its width, and if messages are to stand in it, whether warnings do.
+/// The options of a picture as they are read: its width, and whether warnings are among its
+/// messages, if it has messages.
 #[derive(Clone, Copy)]
 pub(crate) struct Wanted {
     pub width: u32,
@@ -25,14 +27,14 @@ pub(crate) struct Wanted {
 }
 
 impl Wanted {
-    /// What is drawn without options.
+    /// The default options.
     const USUAL: Wanted = Wanted {
         width: 0,
         warnings: None,
     };
 }
 
-/// Returns which messages this number asks for.
+/// Returns whether the number `messages` asks for warnings; nothing if it asks for no messages.
 fn warnings_of(messages: u32) -> Option<bool> {
     match messages {
         0 => None,
@@ -41,7 +43,7 @@ fn warnings_of(messages: u32) -> Option<bool> {
     }
 }
 
-/// Returns what `options` ask for, if they are none, or one whose numbers are known.
+/// Returns the options that `options` ask for, if they are none, or one whose numbers are known.
 pub(crate) fn wanted_of(options: &[PictureOptions]) -> Option<Wanted>
     ensures { is_some result ≡ are_known options.now }
 {

@@ -1,6 +1,6 @@
-//! The calls for a run in pieces. A step is a function from bytes to bytes: of the state of a run
-//! and a piece of its input it makes what is written and the state after it. Nothing is kept
-//! between two calls.
+//! The calls for a run in pieces. A step is a function from bytes to bytes: from the state of a run
+//! and a piece of its input it makes the bytes to be written and the state after it. Nothing is
+//! kept between two calls.
 
 ghost use Rattle.std.specs.Prelude.{◌≡◌, ◌⊎◌, ◌+◌, ◌*◌, max, take};
 ghost use Rattle.gabc_places.specs.declared.limits.Limits.{Limits as RunLimits};
@@ -26,9 +26,9 @@ pub(crate) fn front(bytes: &[u8], len: usize) -> &[u8]
     &bytes[..len.min(bytes.len())]
 }
 
-/// Returns how many bytes the state of a run under the limits of `options` has at most: 128, and
-/// the limit of the headers or twice that of a syllable, whichever is more. It returns 0 if
-/// `options` are out of range.
+/// Returns the most bytes of a state of a run under the limits of `options`: 128 plus the limit of
+/// the headers or twice that of a syllable, whichever is more. It returns 0 if `options` are out of
+/// range.
 #[unsafe(no_mangle)]
 pub extern "C" fn gregorio_state_bound(options: &[Options]) -> usize
     ensures bound { (limits : RunLimits) → AreLimitsOf options.now limits →
@@ -42,10 +42,10 @@ pub extern "C" fn gregorio_state_bound(options: &[Options]) -> usize
 }
 
 /// Begins a run: writes its first state to the front of `state`. `format` and `flags` are those of
-/// `gregorio_compile`. `options` are limits and a key, one or none. `step` gives the lengths.
+/// `gregorio_compile`. `options` are limits and a key, one or none. `step` is set to the lengths.
 ///
-/// Returns 6: the run goes on. It returns 7 if `state` is too small, and stays as it was then; 3 if
-/// a number is not known or out of range, and 5 if there is no memory: nothing is written then.
+/// Returns 6: the run goes on. It returns 7 if `state` is too small, which then stays as it was; 3
+/// if a number is not known or out of range, and 5 if there is no memory: nothing is written then.
 ///
 /// The state stands for the whole run, over whatever follows and however that ends.
 #[unsafe(no_mangle)]
@@ -82,8 +82,8 @@ pub extern "C" fn gregorio_begin(
 ///
 /// Returns 6: the run goes on. If a fatal fault stopped it, it returns 2: what is written is the
 /// last, and there is no state. It returns 7 if a buffer is too small: all stay as they were, and
-/// `step` gives the lengths that are wanted. With 3 and 5, as `gregorio_begin` returns them, with
-/// 8, if the bytes are no state, and 9, if they are one of another format, of other flags or
+/// `step` is set to the lengths that they need. With 3 and 5, as `gregorio_begin` returns them,
+/// with 8, if the bytes are no state, and 9, if they are one of another format, of other flags or
 /// limits, nothing is written.
 ///
 /// Of whatever the state before stands for, what is written are the first bytes: all that is known,
@@ -126,7 +126,8 @@ pub extern "C" fn gregorio_feed(
     }
 }
 
-/// Ends an input so, and hands out what is written then.
+/// Ends the run whose state is `before` with this `ending` of its input, and hands out what is
+/// written then.
 fn end_so(
     alloc: Global,
     format: u32,
@@ -161,11 +162,11 @@ fn end_so(
 }
 
 /// Ends the run whose state is `state`, at the end of its input: puts the last of the output and of
-/// the messages into the buffers, and gives their `lengths`. The other parameters are those of
+/// the messages into the buffers, and sets their `lengths`. The other parameters are those of
 /// `gregorio_begin`, and have to be those of that run.
 ///
 /// Returns the exit status that the program would have: 0, 1 or 2. With 7 the buffers stay as they
-/// were, and `lengths` are those that are wanted; with 3, 5, 8 and 9, as `gregorio_feed` returns
+/// were, and `lengths` are those that they need; with 3, 5, 8 and 9, as `gregorio_feed` returns
 /// them, nothing is written.
 #[unsafe(no_mangle)]
 pub extern "C" fn gregorio_end(

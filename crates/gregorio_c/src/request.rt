@@ -1,4 +1,4 @@
-//! What a call asks for.
+//! The requests of calls.
 
 ghost use Rattle.std.specs.Prelude.{◌≡◌};
 ghost use Rattle.gregorio_c.specs.Request.{request_by, warnings_by, format_by};
@@ -6,7 +6,7 @@ ghost use Rattle.gregorio_c.specs.Steps.{job_of};
 
 use gregorio::{Format, Input, Job, Output};
 
-/// A format of the output, and whether all warnings are wanted.
+/// A request: the format of the output, and whether all warnings are reported.
 #[derive(Clone, Copy)]
 pub(crate) struct Request {
     pub format: Format,
@@ -28,7 +28,7 @@ impl Request {
     }
 }
 
-/// Returns the format of this number.
+/// Returns the format with this `number`, if it is known.
 fn format_of(number: u32) -> Option<Format>
     ensures { result ≡ format_by number }
 {
@@ -39,7 +39,7 @@ fn format_of(number: u32) -> Option<Format>
     }
 }
 
-/// Returns whether `flags` want all warnings, if they are known.
+/// Returns whether `flags` ask for all warnings, if they are known.
 pub(crate) fn warnings_of(flags: u32) -> Option<bool>
     ensures { result ≡ warnings_by flags }
 {
@@ -50,7 +50,7 @@ pub(crate) fn warnings_of(flags: u32) -> Option<bool>
     }
 }
 
-/// Returns what a format's number and `flags` ask for, if both are known.
+/// Returns the request of the number `format` and of `flags`, if both are known.
 pub(crate) fn request_of(format: u32, flags: u32) -> Option<Request>
     ensures { result ≡ request_by format flags }
 {

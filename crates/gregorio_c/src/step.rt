@@ -1,13 +1,13 @@
-//! The lengths of what a step has made.
+//! The lengths of the texts and the state that a step makes.
 
-/// How many bytes the state after a step, its output and its messages have.
+/// The lengths of the state after a step, of its output and of its messages, in bytes.
 #[repr(C)]
 #[derive(Clone, Copy, Debug, PartialEq, Eq)]
 pub struct Step {
     /// The number of bytes of the state; 0 if the run is over.
     pub state: usize,
-    /// The bytes of the output.
+    /// The number of bytes of the output.
     pub output: usize,
-    /// The bytes of the messages.
+    /// The number of bytes of the messages.
     pub messages: usize,
 }

@@ -1,4 +1,4 @@
-//! The steps of a run in pieces: what each makes of the bytes of a state.
+//! The steps of a run in pieces, each from the bytes of a state.
 
 ghost use Rattle.std.specs.Prelude.{◌≡◌, ◌++◌, [], false, true, IfErr, IfOk, OnOk};
 ghost use Rattle.gregorio.specs.Engine.{IsPrompt, NothingWaits, RunsJob, StillRuns, fault_of, is_running, with_waiting};
@@ -24,7 +24,7 @@ use std::marker::Model;
 /// The answer if a run goes on.
 pub(crate) const GOES_ON: u32 = 6;
 
-/// Why a step is not made.
+/// The reason why a step is not made.
 #[derive(Clone, Copy, PartialEq, Eq)]
 pub(crate) enum Refusal {
     /// There is no memory.
@@ -42,7 +42,7 @@ struct Texts {
     messages: Vec<u8>,
 }
 
-/// What a step has made. The state is empty if the run is over.
+/// The result of a step. The state is empty if the run is over.
 #[derive(Drop)]
 pub(crate) struct Made {
     texts: Texts,
@@ -85,7 +85,7 @@ impl Made {
         self.state.as_slice()
     }
 
-    /// Returns the lengths of what is made.
+    /// Returns the lengths of the state and the texts.
     pub(crate) fn step(&self) -> Step
         ensures { result ≡ step_of self.now }
     {
@@ -96,7 +96,7 @@ impl Made {
         }
     }
 
-    /// Returns the lengths of the texts that are made.
+    /// Returns the lengths of the texts.
     pub(crate) fn lengths(&self) -> Lengths
         ensures { result ≡ lengths_of self.now }
     {
@@ -106,7 +106,7 @@ impl Made {
         }
     }
 
-    /// Returns the number that is answered.
+    /// Returns the number of the answer.
     pub(crate) fn number(&self) -> u32
         ensures { result ≡ self.now.number }
     {
@@ -125,7 +125,7 @@ fn no_texts(alloc: Global) -> Texts
     }
 }
 
-/// Adds what waits to `texts`, and drops it.
+/// Moves the bytes that wait in `engine` to the end of `texts`.
 fn gather(engine: &mut Engine, texts: &mut Texts) -> Result<(), AllocError>
     ensures output { OnOk result (texts.new.output.items
         ≡ texts.old.output.items ++ engine.old.output) }
@@ -140,7 +140,7 @@ fn gather(engine: &mut Engine, texts: &mut Texts) -> Result<(), AllocError>
     Ok(())
 }
 
-/// Feeds all of `piece`, and returns what is written at it.
+/// Feeds all of `piece` to `engine`, and returns the texts that it writes.
 fn feed_piece(alloc: Global, engine: &mut Engine, piece: &[u8]) -> Result<Texts, AllocError>
     requires waits { NothingWaits engine.old }
     ensures waits { OnOk result (NothingWaits engine.new) }
@@ -161,7 +161,7 @@ fn feed_piece(alloc: Global, engine: &mut Engine, piece: &[u8]) -> Result<Texts,
     }
 }
 
-/// Returns the state of a run, which stands for what it will still write.
+/// Returns the saved state of `engine`, which stands for what its run will still write.
 fn state_by(
     alloc: Global,
     engine: &Engine,
@@ -182,7 +182,7 @@ fn state_by(
     Ok(state)
 }
 
-/// Returns what a step makes that writes nothing but `state`.
+/// Returns the result of a step that makes nothing but `state`.
 fn first_of(alloc: Global, state: Vec<u8>) -> Made
     ensures { result ≡ record { output = []; lines = []; state = state.items; number = goes_on } }
 {
@@ -193,8 +193,8 @@ fn first_of(alloc: Global, state: Vec<u8>) -> Made
     }
 }
 
-/// Returns what a step makes that begins a run: its state, after which all is still to be written.
-/// The table of the headers' names hashes from `hasher` on.
+/// Returns the result of the step that begins a run: its first state. The table of the headers'
+/// names hashes from `hasher` on.
 pub(crate) fn begin(alloc: Global, asked: Asked, hasher: DefaultHasher) -> Result<Made, Refusal>
     ensures begins { IfOk result (Begins (job_of asked.request) asked.limits) }
     ensures memory { IfErr result (λ refusal. refusal ≡ Refusal.NoMemory) }
@@ -214,7 +214,7 @@ pub(crate) fn begin(alloc: Global, asked: Asked, hasher: DefaultHasher) -> Resul
     }
 }
 
-/// Returns the engine of `job` that goes on from the state `before`.
+/// Returns the engine of `job` that is restored from the state `before`.
 fn restored(
     alloc: Global,
     job: &Job,
@@ -241,7 +241,7 @@ fn restored(
     }
 }
 
-/// Feeds `piece`, and returns what a step makes of it.
+/// Feeds `piece` to `engine`, and returns the result of that step.
 fn fed_by(
     alloc: Global,
     engine: &mut Engine,
@@ -268,7 +268,7 @@ fn fed_by(
     Ok(last_by(alloc, texts, status))
 }
 
-/// Returns what a step makes that is the last, after which the run is over with `status`.
+/// Returns the result of the last step of a run, which writes `texts` and ends with `status`.
 fn last_by(alloc: Global, texts: Texts, status: Status) -> Made
     ensures { result ≡ record {
       output = texts.output.items;
@@ -284,7 +284,7 @@ fn last_by(alloc: Global, texts: Texts, status: Status) -> Made
     }
 }
 
-/// Ends an input so, and returns how the run ended.
+/// Ends the input of `engine` with this `ending`, and returns the status of the run.
 fn end_engine(engine: &mut Engine, ending: SourceEnding) -> Status
     requires { NothingWaits engine.old }
     ensures { streams_left engine.old ending []
@@ -296,7 +296,7 @@ fn end_engine(engine: &mut Engine, ending: SourceEnding) -> Status
     }
 }
 
-/// Ends an input so, and returns what a step makes of that.
+/// Ends the input of `engine` with this `ending`, and returns the result of that step.
 fn ended_by(alloc: Global, engine: &mut Engine, ending: SourceEnding) -> Result<Made, AllocError>
     requires runs { is_running engine.old ≡ true }
     requires waits { NothingWaits engine.old }
@@ -309,8 +309,8 @@ fn ended_by(alloc: Global, engine: &mut Engine, ending: SourceEnding) -> Result<
     Ok(last_by(alloc, texts, status))
 }
 
-/// Returns what a step makes of `piece` after the run whose state is `before`. The table of the
-/// headers' names hashes from `hasher` on.
+/// Returns the result of the step that feeds `piece` to the run whose state is `before`. The table
+/// of the headers' names hashes from `hasher` on.
 pub(crate) fn feed(
     alloc: Global,
     asked: Asked,
@@ -333,8 +333,8 @@ pub(crate) fn feed(
     }
 }
 
-/// Returns what a step makes of the end of an input, which ends so after the run whose state is
-/// `before`.
+/// Returns the result of the step that ends the run whose state is `before` with this `ending` of
+/// its input.
 pub(crate) fn end(
     alloc: Global,
     asked: Asked,

@@ -24,7 +24,7 @@ fn put_nodes(nodes: &[Node], to: &mut [TreeNode])
 }
 
 /// Reads `score`, and puts the nodes of its tree into `nodes`, if there is room for all, and their
-/// number into `count`. It fails only for want of memory, and nothing is written then.
+/// number into `count`. It fails only if memory runs out, and writes nothing then.
 pub(crate) fn tell_tree(
     alloc: Global,
     key: &[u64],

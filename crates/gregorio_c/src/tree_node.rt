@@ -5,8 +5,8 @@ ghost use Rattle.gregorio_c.specs.Tree.{record_of};
 
 use gabc_nodes::Node;
 
-/// A node of a tree: its bytes, how many nodes lie in it, the number of its kind, and three numbers
-/// that its kind says.
+/// A node of a tree: its bytes, the number of nodes that lie in it, the number of its kind, and
+/// three numbers whose meaning depends on the kind.
 #[repr(C)]
 #[derive(Clone, Copy, Debug, PartialEq, Eq)]
 pub struct TreeNode {
@@ -14,15 +14,15 @@ pub struct TreeNode {
     pub begin: u32,
     /// The byte after its last one.
     pub end: u32,
-    /// How many nodes lie in it. They stand directly after it.
+    /// The number of nodes that lie in it. They come directly after it.
     pub inner: u32,
-    /// The number of its kind, which stays as it is.
+    /// The number of its kind, which never changes.
     pub kind: u16,
-    /// The first number that its kind says.
+    /// The first of its numbers.
     pub a: u16,
-    /// The second.
+    /// The second one.
     pub b: u16,
-    /// The third.
+    /// The third one.
     pub c: u16,
 }
 

@@ -10,7 +10,7 @@ use std::{fs, io};
 /// The greatest descriptor of a standard stream.
 const LAST_STREAM: i32 = 2;
 
-/// Where a score comes from.
+/// The source of a score.
 #[derive(Drop)]
 pub(crate) enum InputStream {
     Stdin(Stdin),
@@ -30,7 +30,7 @@ impl InputStream {
 }
 
 impl Read for InputStream {
-    /// Reads, and again where a signal interrupts it.
+    /// Reads, and again if a signal interrupts it.
     #[inline(never)]
     fn read(&mut self, buf: &mut [u8]) -> io::Result<usize> {
         for _ in 0..u64::MAX {
@@ -43,7 +43,7 @@ impl Read for InputStream {
     }
 }
 
-/// Where output or messages go.
+/// The destination of output or of messages.
 #[derive(Drop)]
 pub(crate) enum OutputStream {
     Stdout(Stdout),
@@ -65,7 +65,7 @@ impl OutputStream {
 }
 
 impl Write for OutputStream {
-    /// Writes, and again where a signal interrupts it.
+    /// Writes, and again if a signal interrupts it.
     #[inline(never)]
     fn write(&mut self, buf: &[u8]) -> io::Result<usize> {
         for _ in 0..u64::MAX {
@@ -86,8 +86,8 @@ impl Write for OutputStream {
     }
 }
 
-/// Takes the place of a standard stream that is closed, if one is. A folder can be neither read nor
-/// written.
+/// Opens a folder in the place of a standard stream that is closed, if one is, and returns it. A
+/// folder can be neither read nor written.
 fn closed_stream(rt: &HostRuntime) -> Option<File> {
     match fs::open(rt, "/") {
         Ok(folder) if folder.as_raw_fd() <= LAST_STREAM => Some(folder),
@@ -95,8 +95,9 @@ fn closed_stream(rt: &HostRuntime) -> Option<File> {
     }
 }
 
-/// Takes the places of the standard streams that are closed. While the result lives, no file that
-/// is opened comes to stand there: else messages could be written into the output.
+/// Opens folders in the places of the standard streams that are closed, and returns them. While
+/// they live, no file that is opened takes such a place: else messages could be written into the
+/// output.
 pub(crate) fn closed_streams(rt: &HostRuntime) -> [Option<File>; 3] {
     [closed_stream(rt), closed_stream(rt), closed_stream(rt)]
 }

@@ -1,5 +1,5 @@
 //! The program `gregorio`: reads a score of Gregorian chant, and writes it in canonical form or as
-//! a dump, as its words want.
+//! a dump, as its arguments ask.
 #![tactic(auto)]
 
 mod ends;
@@ -11,10 +11,11 @@ use std::hash::{BuildHasher, RandomState};
 use std::process::ExitCode;
 use std::{env, fs, io};
 
-/// What `-h` writes.
+/// The help line, which `-h` prints.
 const HELP: &str = "usage: gregorio -F gabc|dump [-W] [-l FILE] [-o FILE | -S] (-s | FILE)";
 
-/// The words after the program's name. A word that is not UTF-8 is none that the command takes.
+/// Returns the arguments after the program's name. The error is O0 if memory runs out, and O1 for
+/// any other error, as an argument that is not UTF-8.
 fn words_of(rt: &HostRuntime) -> Result<Words, Refusal> {
     let all = match env::args(rt) {
         Ok(all) => all,
@@ -28,18 +29,19 @@ fn words_of(rt: &HostRuntime) -> Result<Words, Refusal> {
     Ok(words)
 }
 
-/// What the words after the program's name want.
+/// Returns the plan of the arguments after the program's name.
 fn plan_of(rt: &HostRuntime) -> Result<Plan, Refusal> {
     plan(rt.alloc(), &words_of(rt)?)
 }
 
-/// Why no job was run: the file with this name could not be opened, or there was no memory.
+/// The reason why no job was run: the file with this name could not be opened, or there was no
+/// memory.
 enum Unopened<'j> {
     File(&'j str),
     NoMemory,
 }
 
-/// Why the file with this name was not opened.
+/// Returns the reason why the file with this `name` was not opened.
 fn why_unopened<'j>(name: &'j Name, error: &io::Error) -> Unopened<'j> {
     match error.kind() {
         io::ErrorKind::OutOfMemory => Unopened::NoMemory,
@@ -52,14 +54,14 @@ fn open<'j>(rt: &HostRuntime, name: &'j Name) -> Result<fs::File, Unopened<'j>> 
     fs::open(rt, name.as_str()).map_err(|error| why_unopened(name, &error))
 }
 
-/// Opens a file to be written. It is made, or emptied where it is there.
+/// Opens a file to be written. It is made, or emptied if it is there.
 fn create<'j>(rt: &HostRuntime, name: &'j Name) -> Result<fs::File, Unopened<'j>> {
     fs::create(rt, name.as_str()).map_err(|error| why_unopened(name, &error))
 }
 
 /// Draws the keys for names of headers, opens the ends of a job, first the input, then the output,
-/// then the messages, and runs it with the usual limits. Where no keys can be drawn, nothing is
-/// opened: this counts as a failed read. Nothing is made where the input cannot be opened.
+/// then the messages, and runs it with the default limits. If no keys can be drawn, nothing is
+/// opened: this counts as a failed read. Nothing is made if the input cannot be opened.
 fn run<'j>(rt: &HostRuntime, job: &'j Job) -> Result<Status, Unopened<'j>> {
     let Ok(keys) = RandomState::new(rt) else {
         return Ok(Status::ReadFault);
@@ -88,7 +90,8 @@ fn run<'j>(rt: &HostRuntime, job: &'j Job) -> Result<Status, Unopened<'j>> {
     ))
 }
 
-/// Reports what a status says beside the messages of the run, and ends with it.
+/// Prints the line of a `status` that the messages of the run do not report, and returns its exit
+/// code.
 fn finish(rt: &HostRuntime, status: Status) -> ExitCode {
     let _ = match status {
         Status::ReadFault => eprintln!(rt; "gregorio: cannot read"),
@@ -99,7 +102,7 @@ fn finish(rt: &HostRuntime, status: Status) -> ExitCode {
     ExitCode::from(status.code())
 }
 
-/// Runs a job, reports how it went, and ends with its status.
+/// Runs a job, reports why it failed if it did, and returns its exit code.
 fn run_and_finish(rt: &HostRuntime, job: &Job) -> ExitCode {
     match run(rt, job) {
         Ok(status) => finish(rt, status),
@@ -111,7 +114,7 @@ fn run_and_finish(rt: &HostRuntime, job: &Job) -> ExitCode {
     }
 }
 
-/// Writes the help line.
+/// Prints the help line, and returns the exit code.
 fn help(rt: &HostRuntime) -> ExitCode {
     match println!(rt; "{HELP}") {
         Ok(()) => ExitCode::SUCCESS,
@@ -119,7 +122,7 @@ fn help(rt: &HostRuntime) -> ExitCode {
     }
 }
 
-/// Reports why the words are refused.
+/// Prints why the arguments are refused, and returns the exit code.
 fn refuse(rt: &HostRuntime, refusal: Refusal) -> ExitCode {
     let _ = eprintln!(rt; "gregorio: {refusal}");
     ExitCode::from(refusal.code())

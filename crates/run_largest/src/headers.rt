@@ -7,7 +7,7 @@ use gabc_places::{Char, Limits, Place, Room, Stage, Text};
 use std::alloc::{AllocError, Global};
 use std::hash::DefaultHasher;
 
-/// How headers are read.
+/// The way in which headers are read.
 #[derive(Clone, Copy)]
 pub(crate) enum Way {
     /// As a whole.
@@ -16,7 +16,7 @@ pub(crate) enum Way {
     Stage,
 }
 
-/// Returns how many headers are read whole, or `None` if they are stopped.
+/// Returns the number of headers that are read as a whole, or `None` if a fault stops them.
 fn count_whole(
     alloc: Global,
     text: &str,
@@ -30,7 +30,7 @@ fn count_whole(
     }
 }
 
-/// Pushes the characters of a text, and passes over what is given.
+/// Pushes the characters of a text to `stage`, and drops the events.
 fn push_all(stage: &mut HeaderStage, text: &str, out: &mut Room<HeadEvent>)
     requires { 2 ≤ out.old.limit }
 {
@@ -41,7 +41,7 @@ fn push_all(stage: &mut HeaderStage, text: &str, out: &mut Room<HeadEvent>)
     }
 }
 
-/// Returns how many headers a stage reads: none where it is stopped.
+/// Returns the number of headers that a stage reads: 0 if a fault stops it before the `%%`.
 fn count_by_stage(
     alloc: Global,
     text: &str,
@@ -58,7 +58,8 @@ fn count_by_stage(
     Ok(count)
 }
 
-/// Returns how many headers `text` has, read in this way, or `None` if they are stopped.
+/// Returns the number of headers of `text`, read in this `way`; `None` if they are read as a whole
+/// and a fault stops them.
 pub(crate) fn count(
     alloc: Global,
     way: Way,

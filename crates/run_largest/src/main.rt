@@ -1,10 +1,10 @@
-//! Reads a file with the largest limits, for what `tools/bench` times.
+//! Reads a file with the largest limits; `tools/bench` times it.
 //!
 //! `run_largest gabc FILE` writes its canonical form, `run_largest dump FILE` its dump; the
-//! messages go to standard error. `run_largest whole KEY FILE` prints how many headers stand in
-//! their book, read as a whole, `run_largest stage KEY FILE` read by a stage. Their names are
-//! hashed with a key that is `fixed` or `random`. `run_largest tree FILE` prints how many nodes the
-//! tree of the file has, and `run_largest draw FILE` writes its picture as SVG.
+//! messages go to standard error. `run_largest whole KEY FILE` prints the number of headers, read
+//! as a whole, and `run_largest stage KEY FILE` that of those read by a stage. Their names are
+//! hashed with a key that is `fixed` or `random`. `run_largest tree FILE` prints the number of
+//! nodes of the file's tree, and `run_largest draw FILE` writes its picture as SVG.
 #![tactic(auto)]
 
 mod headers;
@@ -19,7 +19,7 @@ use std::hash::{BuildHasher, DefaultHasher};
 use std::io::{Read, Write};
 use std::{env, fs, io};
 
-/// What there is to do with a file.
+/// A task to do with a file.
 #[derive(Clone, Copy)]
 enum Task {
     Compile(Format),
@@ -33,7 +33,7 @@ fn largest() -> Limits {
     Limits::new(16_777_216, 16_777_216, u32::MAX).unwrap_or(Limits::DEFAULT)
 }
 
-/// Returns the task of the words before the file, if they name one.
+/// Returns the task of the arguments before the file, if they name one.
 fn task_of(words: &[&str]) -> Option<Task> {
     match words {
         ["gabc"] => Some(Task::Compile(Format::Gabc)),
@@ -56,7 +56,7 @@ fn task_of(words: &[&str]) -> Option<Task> {
     }
 }
 
-/// Compiles the file with this name.
+/// Compiles the file at `path` in this `format`, and returns the status.
 fn run(rt: &HostRuntime, format: Format, path: &str) -> io::Result<Status> {
     let job = Job {
         format,
@@ -85,7 +85,7 @@ fn hasher_of(rt: &HostRuntime, is_random: bool) -> io::Result<DefaultHasher> {
     }
 }
 
-/// Returns how many nodes the tree of the file of this name has.
+/// Returns the number of nodes of the tree of the file at `path`.
 fn nodes_in(rt: &HostRuntime, path: &str) -> io::Result<usize> {
     let mut bytes = Vec::new(rt.alloc());
     fs::open(rt, path)?.read_to_end(&mut bytes)?;
@@ -93,7 +93,7 @@ fn nodes_in(rt: &HostRuntime, path: &str) -> io::Result<usize> {
     Ok(tree.nodes().len())
 }
 
-/// Writes the picture of the file of this name.
+/// Writes the picture of the file at `path`.
 fn write_picture(rt: &HostRuntime, path: &str) -> io::Result<()> {
     let mut bytes = Vec::new(rt.alloc());
     fs::open(rt, path)?.read_to_end(&mut bytes)?;
@@ -118,7 +118,7 @@ fn write_picture(rt: &HostRuntime, path: &str) -> io::Result<()> {
     rt.stdout().write_all(picture.slice())
 }
 
-/// Does the task with the file of this name.
+/// Does the task with the file at `path`.
 fn perform(rt: &HostRuntime, task: Task, path: &str) -> io::Result<()> {
     match task {
         Task::Compile(format) => {
@@ -156,7 +156,7 @@ fn main(rt: HostRuntime) -> io::Result<()> {
     }
 }
 
-/// Prints the words of the program.
+/// Prints the arguments of the program.
 fn usage(rt: &HostRuntime) -> io::Result<()> {
     println!(rt;
         "usage: run_largest gabc|dump|tree FILE, or run_largest whole|stage fixed|random FILE"

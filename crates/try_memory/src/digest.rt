@@ -1,9 +1,9 @@
-//! Digests of what calls take and answer.
+//! Digests of arguments and of answers.
 
 use std::fmt::{self, Debug, Write};
 use std::hash::{DefaultHasher, Hasher};
 
-/// What takes a text and keeps its digest alone. It asks for no memory.
+/// A taker of a text that keeps its digest alone. It does not allocate.
 #[derive(Drop)]
 struct Digest {
     hasher: DefaultHasher,
@@ -16,7 +16,7 @@ impl Write for Digest {
     }
 }
 
-/// Returns a digest of `value` as `{:?}` prints it. It asks for no memory.
+/// Returns a digest of `value` as `{:?}` prints it. It does not allocate.
 pub(crate) fn digest_of<T: Debug>(value: &T) -> u64 {
     let mut digest = Digest {
         hasher: DefaultHasher::new(),

@@ -1,4 +1,4 @@
-//! Laws that drive a fresh stage, here over no input. What the stage emits goes into a room.
+//! Calls of laws that drive a fresh stage, here over no input. The events go into a room.
 
 use crate::digest::digest_of;
 use crate::trial::{Trial, try_call};
@@ -8,10 +8,10 @@ use gabc_score::ScoreEvent;
 use std::alloc::{AllocError, Global};
 use std::io;
 
-/// How many events a room takes.
+/// The number of events that a room takes.
 const EVENTS: usize = 16;
 
-/// A stage of headers.
+/// The law of a stage of headers, with a room for its events.
 #[derive(Drop)]
 struct Headers {
     out: Room<HeadEvent>,
@@ -36,7 +36,7 @@ impl Trial for Headers {
     }
 }
 
-/// A stage of headers after a decoder.
+/// The law of a stage of headers after a decoder, with a room for its events.
 #[derive(Drop)]
 struct DecodedHeaders {
     out: Room<HeadEvent>,
@@ -61,7 +61,7 @@ impl Trial for DecodedHeaders {
     }
 }
 
-/// A stage over a score.
+/// The law of a stage over a score, with a room for its events.
 #[derive(Drop)]
 struct Score {
     out: Room<ScoreEvent>,

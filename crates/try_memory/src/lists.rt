@@ -9,7 +9,7 @@ use gregorio::Words;
 use std::alloc::{AllocError, Global};
 use std::io;
 
-/// An item more, at a list whose memory is used up.
+/// A call that adds an item to a list whose memory is used up.
 #[derive(Drop)]
 struct Push {
     list: Sequence<u64>,
@@ -26,7 +26,7 @@ impl Trial for Push {
     }
 }
 
-/// Items more.
+/// A call that adds items to a list.
 #[derive(Drop)]
 struct Append {
     list: Sequence<u64>,
@@ -50,7 +50,7 @@ fn four(alloc: Global) -> Result<Sequence<u64>, AllocError> {
     Ok(list)
 }
 
-/// A word more.
+/// A call that adds an argument to a command line.
 #[derive(Drop)]
 struct PushWord {
     words: Words,
@@ -67,7 +67,7 @@ impl Trial for PushWord {
     }
 }
 
-/// A piece more, at a view whose pieces want memory from then on.
+/// A call that adds a piece to a view of pieces, which then has to allocate.
 #[derive(Drop)]
 struct AddPart {
     view: TextView,
@@ -84,7 +84,7 @@ impl Trial for AddPart {
     }
 }
 
-/// A copy of a view.
+/// A call that copies a view.
 #[derive(Drop)]
 struct CopyView {
     view: TextView,
@@ -109,7 +109,7 @@ fn view_of(alloc: Global, pieces: u8) -> Result<TextView, AllocError> {
     Ok(view)
 }
 
-/// Something empty, which asks for no memory.
+/// A call that makes something empty, which does not allocate.
 #[derive(Clone, Copy)]
 enum Empty {
     List,

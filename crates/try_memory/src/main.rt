@@ -1,8 +1,8 @@
-//! Makes each call of the crates that asks for memory, once for each line of the file `calls.tsv`:
-//! a call and its input, split by a tab. Each call is made again with the same arguments until it
-//! succeeds: with memory enough that is the first time. It prints how each attempt went, and
-//! digests of the arguments and of the answer. From the line `try` to the next one it asks for
-//! memory in the call alone. `tools/try_memory` runs it with requests for memory refused.
+//! Makes each call of the crates that allocates, once for each line of the file `calls.tsv`: a call
+//! and its input, split by a tab. Each call is made again with the same arguments until it
+//! succeeds: with memory enough that is the first time. It prints the result of each attempt, and
+//! digests of the arguments and of the answer. From the line `try` to the next one it allocates in
+//! the call alone. `tools/try_memory` runs it with requests for memory refused.
 #![tactic(auto)]
 
 mod digest;

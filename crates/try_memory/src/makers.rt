@@ -10,7 +10,7 @@ use std::alloc::{AllocError, Allocator, Global};
 use std::hash::DefaultHasher;
 use std::io;
 
-/// Something that is made of numbers.
+/// A call that makes something from numbers alone.
 #[derive(Clone, Copy)]
 enum Made {
     Room,
@@ -30,7 +30,7 @@ enum Made {
     LawfulScoreStage,
 }
 
-/// Returns the call with this name, if it is one that makes something of numbers.
+/// Returns the call with this `name`, if it is one that makes something from numbers.
 fn named(name: &str) -> Option<Made> {
     Some(match name {
         "gabc_places::Room::with_limit" => Made::Room,
@@ -83,7 +83,7 @@ fn arena(alloc: Global) -> Result<u64, AllocError> {
     list_in(Memory::with_capacity(alloc, 64)?)
 }
 
-/// Makes an arena with two owners, and returns a digest of a list in it. The other owner is let go
+/// Makes an arena with two owners, and returns a digest of a list in it. The other owner is dropped
 /// first.
 fn owners(alloc: Global) -> Result<u64, AllocError> {
     let memory = Memory::with_capacity(alloc, 64)?;
@@ -92,7 +92,7 @@ fn owners(alloc: Global) -> Result<u64, AllocError> {
     list_in(owner)
 }
 
-/// Makes a sink, and returns a digest of what it holds.
+/// Makes a sink, and returns a digest of the bytes that it holds.
 fn sink(alloc: Global) -> Result<u64, AllocError> {
     Ok(digest_of(&TrialSink::new(alloc, 1, 8)?.held()))
 }
@@ -102,50 +102,50 @@ fn view(alloc: Global) -> Result<u64, AllocError> {
     Ok(digest_of(&TextView::with_capacity(alloc, 64)?))
 }
 
-/// Returns a digest of how many events a stage gives at most. The stage is let go.
+/// Returns a digest of the most events that a stage emits at once, and drops the stage.
 fn most_of<S: Stage + Drop>(stage: S) -> u64 {
     digest_of(&stage.most())
 }
 
-/// Makes a stage of a body, and returns a digest of how many events it gives at most.
+/// Makes a stage of a body, and returns a digest of the most events that it emits at once.
 fn body_stage(alloc: Global) -> Result<u64, AllocError> {
     let memory = Memory::with_capacity(alloc, 0)?;
     Ok(most_of(BodyStage::new(&memory, 1, 0)?))
 }
 
-/// Makes a stage of headers, and returns a digest of how many events it gives at most.
+/// Makes a stage of headers, and returns a digest of the most events that it emits at once.
 fn header_stage(alloc: Global) -> Result<u64, AllocError> {
     Ok(most_of(HeaderStage::with_limits(alloc, Limits::DEFAULT)?))
 }
 
-/// Makes a stage of headers with a hasher, and returns a digest of how many events it gives at
-/// most.
+/// Makes a stage of headers with a hasher, and returns a digest of the most events that it emits at
+/// once.
 fn hashed_header_stage(alloc: Global) -> Result<u64, AllocError> {
     Ok(most_of(HeaderStage::with_hasher(alloc, Limits::DEFAULT, DefaultHasher::new())?))
 }
 
-/// Makes a stage of headers in memory of its own, and returns a digest of how many events it gives
-/// at most.
+/// Makes a stage of headers in memory of its own, and returns a digest of the most events that it
+/// emits at once.
 fn header_stage_in_memory(alloc: Global) -> Result<u64, AllocError> {
     let memory = Memory::with_capacity(alloc, 0)?;
     let hasher = DefaultHasher::new();
     Ok(most_of(HeaderStage::in_memory(&memory, Limits::DEFAULT, hasher)?))
 }
 
-/// Makes a stage over a score in memory of its own, and returns a digest of how many events it
-/// gives at most.
+/// Makes a stage over a score in memory of its own, and returns a digest of the most events that it
+/// emits at once.
 fn score_stage_in_memory(alloc: Global) -> Result<u64, AllocError> {
     let memory = Memory::with_capacity(alloc, 0)?;
     Ok(most_of(ScoreStage::in_memory(&memory, Limits::DEFAULT)?))
 }
 
-/// Makes a stage over a score, and returns a digest of how many events it gives at most.
+/// Makes a stage over a score, and returns a digest of the most events that it emits at once.
 fn score_stage(alloc: Global) -> Result<u64, AllocError> {
     Ok(most_of(ScoreStage::with_limits(alloc, Limits::DEFAULT)?))
 }
 
-/// Makes a stage over a score after syllables, and returns a digest of how many events it gives at
-/// most.
+/// Makes a stage over a score after syllables, and returns a digest of the most events that it
+/// emits at once.
 fn resumed_score_stage(alloc: Global) -> Result<u64, AllocError> {
     let before = Before {
         nabc_lines: 1,
@@ -162,8 +162,8 @@ fn resumed_score_stage(alloc: Global) -> Result<u64, AllocError> {
     Ok(most_of(ScoreStage::resume(&memory, Limits::DEFAULT, before)?))
 }
 
-/// Makes a stage over a score by the law that returns one, and returns a digest of how many events
-/// it gives at most.
+/// Makes a stage over a score by the law that returns one, and returns a digest of the most events
+/// that it emits at once.
 fn lawful_score_stage(alloc: Global) -> Result<u64, AllocError> {
     Ok(most_of(gabc_score::stage_laws::a_fresh_stage_reads_texts(alloc, Limits::DEFAULT)?))
 }
@@ -194,7 +194,7 @@ impl Trial for Made {
     }
 }
 
-/// Tries a call that makes something of numbers. Returns whether there is such a call.
+/// Tries a call that makes something from numbers. Returns whether there is such a call.
 pub(crate) fn is_tried(rt: &HostRuntime, name: &str) -> io::Result<bool> {
     let Some(mut made) = named(name) else {
         return Ok(false);

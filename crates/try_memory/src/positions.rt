@@ -1,4 +1,4 @@
-//! A taker of syllables that asks for memory, and takes them by runs.
+//! A taker of syllables that allocates, and takes them by runs.
 
 ghost use Rattle.std.specs.Prelude.{◌≡◌, []};
 
@@ -7,7 +7,7 @@ use gabc_score::{Collect, Give, SpelledSyllable};
 use std::alloc::{AllocError, Global};
 use std::marker::Model;
 
-/// Where in its word each of the syllables stands that were taken.
+/// The position in its word of each syllable that was taken.
 #[derive(Debug, Drop)]
 pub(crate) struct Positions {
     items: Vec<Position>,

@@ -1,4 +1,4 @@
-//! Runs that are saved, and restored from a state.
+//! Calls that restore runs from their saved states.
 
 ghost use Rattle.std.specs.Prelude.{◌≤◌, length, IfOk};
 ghost use Rattle.gregorio.specs.Engine.{NothingWaits};
@@ -49,10 +49,10 @@ impl Trial for Restored {
     }
 }
 
-/// How many bytes a buffer has that is never too short for a state under the usual limits.
+/// The number of bytes of a buffer that is never too short for a state under the default limits.
 const BOUND: usize = 65664;
 
-/// A job of whose run a law restores one, and a buffer for its states.
+/// A job whose run a law saves and restores, and a buffer for its states.
 #[derive(Drop)]
 struct Lawful {
     is_interrupted: bool,
@@ -60,7 +60,8 @@ struct Lawful {
     buffer: Vec<u8>,
 }
 
-/// Returns a digest of what a run writes that is saved before its first byte, and restored.
+/// Returns a digest of the texts that a run writes, once it was saved before its first byte and
+/// restored.
 fn goes_on(alloc: Global, job: &Job, buffer: &mut [u8]) -> Result<u64, AllocError>
     requires { 65664 ≤ length buffer.old }
 {
@@ -77,8 +78,8 @@ fn goes_on(alloc: Global, job: &Job, buffer: &mut [u8]) -> Result<u64, AllocErro
     }
 }
 
-/// Returns a digest of how a run ends, and of how many bytes it writes, that is interrupted after
-/// the one piece of its input.
+/// Returns a digest of the status of a run that is interrupted after the one piece of its input,
+/// and of the numbers of bytes that it writes.
 fn is_interrupted(alloc: Global, job: &Job, buffer: &mut [u8]) -> Result<u64, AllocError>
     requires { 65664 ≤ length buffer.old }
 {
@@ -140,7 +141,7 @@ fn digit(byte: u8) -> u8 {
     }
 }
 
-/// Returns the bytes that `digits` are, two hexadecimal digits each.
+/// Returns the bytes of `digits`, two hexadecimal digits each.
 fn bytes_of(alloc: Global, digits: &str) -> Result<Vec<u8>, AllocError> {
     let mut bytes = Vec::new(alloc);
     for pair in digits.as_bytes().chunks(2) {

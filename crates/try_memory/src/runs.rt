@@ -1,4 +1,4 @@
-//! Runs of a job: `plan`, engines and `compile`.
+//! Calls for runs of a job: `plan`, engines and `compile`.
 
 ghost use Rattle.gregorio.specs.Engine.{NothingWaits};
 
@@ -13,7 +13,7 @@ use std::fs;
 use std::hash::DefaultHasher;
 use std::io::{self, Read};
 
-/// The words of a command line.
+/// The arguments of a command line.
 #[derive(Drop)]
 struct Planned {
     words: Words,
@@ -32,7 +32,7 @@ impl Trial for Planned {
     }
 }
 
-/// Tries `plan` on words with blanks between them.
+/// Tries `plan` on the arguments in `texts`, which have blanks between them.
 fn try_plan(rt: &HostRuntime, texts: &str) -> io::Result<()> {
     let mut words = Words::new(rt.alloc());
     for text in texts.split(' ') {
@@ -41,7 +41,7 @@ fn try_plan(rt: &HostRuntime, texts: &str) -> io::Result<()> {
     try_call(rt, &mut Planned { words })
 }
 
-/// Returns a job on standard input that wants all warnings.
+/// Returns a job on standard input that reports all warnings.
 pub(crate) fn job_in(format: Format) -> Job {
     Job {
         format,
@@ -52,8 +52,8 @@ pub(crate) fn job_in(format: Format) -> Job {
     }
 }
 
-/// Feeds an engine the end of its headers, and returns a digest of what it writes then. The engine
-/// is let go.
+/// Feeds an engine the end of its headers, returns a digest of what it writes then, and drops the
+/// engine.
 pub(crate) fn digest_of_engine(mut engine: Engine) -> u64
     requires waits { NothingWaits engine }
 {
@@ -100,7 +100,7 @@ impl Trial for Made {
     }
 }
 
-/// Gives bytes, and counts its calls.
+/// A reader of bytes that counts its calls.
 #[derive(Drop)]
 struct Given {
     bytes: String,

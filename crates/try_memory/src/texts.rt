@@ -20,7 +20,7 @@ fn name(alloc: Global, input: &str) -> Result<u64, AllocError> {
     Ok(digest_of(&Name::new(alloc, input)?))
 }
 
-/// Returns a digest of what a stage emits for a text of a syllable.
+/// Returns a digest of the events that a stage emits for a text of a syllable.
 fn outputs(alloc: Global, input: &str) -> Result<u64, AllocError> {
     let mut stage = TextStage::new(Place::START);
     Ok(digest_of(&outputs_of(alloc, &mut stage, input, Place::START)?))

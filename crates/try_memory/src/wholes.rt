@@ -1,4 +1,4 @@
-//! Whole forms, over the file of a score.
+//! Calls of whole forms over the file of a score.
 
 use crate::digest::digest_of;
 use crate::positions::Positions;
@@ -89,8 +89,8 @@ fn hashed_score(alloc: Global, text: &Text) -> Result<u64, AllocError> {
     Ok(digest)
 }
 
-/// Returns a digest of the places in their words that a taker took of a text's syllables, and of
-/// the rest of its score.
+/// Returns a digest of the positions that a taker took of a text's syllables, and of the rest of
+/// its score.
 fn given(alloc: Global, text: &Text) -> Result<u64, AllocError> {
     let hasher = DefaultHasher::new();
     let mut taken = Positions::new(alloc);
@@ -135,7 +135,7 @@ fn hashed_tree(alloc: Global, bytes: &[u8]) -> Result<u64, AllocError> {
     Ok(digest_of(&tree))
 }
 
-/// Returns a digest of the tree of `bytes`, and of what was found in them.
+/// Returns a digest of the tree of `bytes`, of their findings and of their fault.
 fn read(alloc: Global, bytes: &[u8]) -> Result<u64, AllocError> {
     let hasher = DefaultHasher::new();
     Ok(digest_of(&read_score(alloc, bytes, Limits::DEFAULT, hasher)?))
@@ -153,7 +153,7 @@ const MARKS: [Mark; 2] = [
     },
 ];
 
-/// Returns a digest of how many bytes the picture of `bytes` has.
+/// Returns a digest of the number of bytes of the picture of `bytes`.
 fn drawing(alloc: Global, bytes: &[u8]) -> Result<u64, AllocError> {
     let tree = tree_of(alloc, bytes, Limits::DEFAULT)?;
     let mut picture = ByteCounter::new();
@@ -165,7 +165,7 @@ fn drawing(alloc: Global, bytes: &[u8]) -> Result<u64, AllocError> {
     Ok(digest_of(&picture.count()))
 }
 
-/// Returns a digest of an outcome, which is let go.
+/// Returns a digest of the score of an outcome, and drops it.
 fn digest_of_outcome(outcome: Outcome) -> u64 {
     let digest = digest_of(&outcome.score);
     drop(outcome);

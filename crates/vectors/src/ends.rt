@@ -1,5 +1,5 @@
-//! Runs into sinks that fail, or take few bytes a call, of `compile` and of engines whose output is
-//! sent.
+//! Makes runs of `compile`, and of engines whose output is sent, into sinks that fail or take few
+//! bytes a call.
 
 ghost use Rattle.std.specs.Prelude.{◌<◌};
 ghost use Rattle.gregorio.specs.Engine.{NothingWaits};
@@ -11,10 +11,10 @@ use gabc_places::{TrialSink, TrialSource, Unsent, send_all};
 use gregorio::{Engine, Status, compile};
 use std::alloc::{AllocError, Global};
 
-/// How many bytes a sink takes a call at most.
+/// The most bytes that a sink takes a call.
 const MOST: [usize; 2] = [1, 8192];
 
-/// How many bytes the sinks for the output and for the messages hold before they fail.
+/// The numbers of bytes that the sinks for the output and for the messages hold before they fail.
 #[derive(Clone, Copy)]
 struct Holding {
     output: usize,
@@ -29,7 +29,8 @@ struct Sinks {
 }
 
 impl Sinks {
-    /// Returns sinks that take `most` bytes a call, and fail after what they hold.
+    /// Returns sinks that take `most` bytes a call, and fail after the bytes that they hold by
+    /// `holding`.
     fn new(alloc: Global, most: usize, holding: Holding) -> Result<Sinks, AllocError>
         requires { 0 < most }
     {
@@ -39,8 +40,8 @@ impl Sinks {
         })
     }
 
-    /// Returns whether each sink holds the first bytes of what is wanted, and as many of them as it
-    /// can.
+    /// Returns whether each sink holds the first bytes of its text in `wanted`, and as many of them
+    /// as it can, unless the other one failed.
     fn are_filled(&self, wanted: Wanted, holding: Holding) -> bool {
         let (output, messages) = (self.output.held(), self.messages.held());
         let output_failed = holding.output < wanted.output.len();
@@ -51,7 +52,7 @@ impl Sinks {
             && (output_failed || messages.len() == wanted.messages.len().min(holding.messages))
     }
 
-    /// Sends what waits in an engine, the output first, and takes it.
+    /// Sends the bytes that wait in `engine`, the output first, and drops them there.
     fn send(&mut self, engine: &mut Engine) -> Result<(), Unsent>
         ensures waits { NothingWaits engine.new }
     {
@@ -64,7 +65,7 @@ impl Sinks {
     }
 }
 
-/// Returns how a run ends with sinks that hold so much.
+/// Returns the exit status of a run with sinks that hold as many bytes as `holding` says.
 fn status_with(known: Known, holding: Holding) -> u8 {
     let output_fails = holding.output < known.wanted.output.len();
     if output_fails || holding.messages < known.wanted.messages.len() {
@@ -74,7 +75,7 @@ fn status_with(known: Known, holding: Holding) -> u8 {
     }
 }
 
-/// Returns whether `compile` fills sinks as it has to.
+/// Returns whether `compile` fills sinks, which take `most` bytes a call, as it has to.
 fn compile_fills(
     alloc: Global,
     known: Known,
@@ -115,7 +116,7 @@ fn feed_all(engine: &mut Engine, bytes: &[u8], sinks: &mut Sinks) -> Result<(), 
     Ok(())
 }
 
-/// Makes a run of an engine, and sends what it writes. Returns how it ends.
+/// Makes a run of an engine, sends what it writes, and returns its exit status.
 fn run_engine(engine: &mut Engine, asked: Request, sinks: &mut Sinks) -> u8
     requires waits { NothingWaits engine.old }
 {
@@ -129,7 +130,7 @@ fn run_engine(engine: &mut Engine, asked: Request, sinks: &mut Sinks) -> u8
     }
 }
 
-/// Returns whether an engine fills sinks as it has to.
+/// Returns whether an engine fills sinks, which take `most` bytes a call, as it has to.
 fn engine_fills(
     alloc: Global,
     known: Known,
@@ -163,8 +164,8 @@ fn fills(alloc: Global, known: Known, holding: Holding) -> Result<bool, AllocErr
     Ok(true)
 }
 
-/// Returns whether a run stops where its sink for the output fails, after each number of bytes, and
-/// goes to its end where it holds all.
+/// Returns whether a run stops when its sink for the output fails, after each number of bytes, and
+/// goes to its end if the sink holds all.
 fn fills_output(alloc: Global, known: Known) -> Result<bool, AllocError> {
     for output in 0..=known.wanted.output.len() {
         let messages = known.wanted.messages.len();
@@ -175,7 +176,7 @@ fn fills_output(alloc: Global, known: Known) -> Result<bool, AllocError> {
     Ok(true)
 }
 
-/// Returns whether a run stops where a sink fails, after each number of bytes.
+/// Returns whether a run stops when a sink fails, after each number of bytes.
 pub(crate) fn fills_sinks(alloc: Global, known: Known) -> Result<bool, AllocError> {
     for messages in 0..known.wanted.messages.len() {
         let output = known.wanted.output.len();

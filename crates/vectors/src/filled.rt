@@ -1,4 +1,5 @@
-//! Runs of engines that go on while there is room, against the same runs fed byte by byte.
+//! Compares runs of engines that are filled as far as there is room with the same runs fed byte by
+//! byte.
 
 ghost use Rattle.std.specs.Prelude.{◌≡◌, ◌<◌, ◌≤◌, length, true, IfSome, OnOk};
 ghost use Rattle.gregorio.specs.Engine.{NothingWaits};
@@ -11,8 +12,8 @@ use gabc_places::Limits;
 use gregorio::{Engine, Format};
 use std::alloc::{AllocError, Global};
 
-/// What is known after a byte: how many bytes of the output and of the messages, and whether the
-/// run goes on.
+/// The state of a run after a byte: the numbers of bytes of the output and of the messages, and
+/// whether the run goes on.
 #[derive(Clone, Copy, PartialEq, Eq)]
 struct Point {
     output: usize,
@@ -20,7 +21,7 @@ struct Point {
     goes_on: bool,
 }
 
-/// What an engine gives that is fed byte by byte.
+/// The texts and the status of an engine that is fed byte by byte, and its state after each byte.
 #[derive(Drop)]
 struct Fed {
     output: Vec<u8>,
@@ -30,7 +31,7 @@ struct Fed {
 }
 
 impl Fed {
-    /// Takes what waits.
+    /// Moves the bytes that wait in `engine` to the texts.
     fn take(&mut self, engine: &mut Engine) -> Result<(), AllocError>
         ensures { OnOk result (NothingWaits engine.new) }
     {
@@ -40,7 +41,7 @@ impl Fed {
         Ok(())
     }
 
-    /// Takes what waits after a byte.
+    /// Moves the bytes that wait in `engine` after a byte to the texts, and adds its point.
     fn take_point(&mut self, engine: &mut Engine) -> Result<(), AllocError>
         ensures { OnOk result (NothingWaits engine.new) }
     {
@@ -53,8 +54,8 @@ impl Fed {
         Ok(())
     }
 
-    /// Returns whether this many bytes can be all that are taken when a run goes on no more: it
-    /// went on before the last of them.
+    /// Returns whether a run that took `count` bytes and stopped may have stopped at the last of
+    /// them: it was still running before that.
     fn stops_after(&self, count: usize) -> bool {
         match self.points.as_slice().get(count.saturating_sub(2)) {
             Some(point) => count < 2 || point.goes_on,
@@ -62,8 +63,8 @@ impl Fed {
         }
     }
 
-    /// Returns whether `engine` has given and keeps of the first `count` bytes what was wanted: all
-    /// but `left` is given.
+    /// Returns whether `engine` is in the state that is known after the first `count` bytes, if all
+    /// but `left` is written.
     fn is_known(&self, engine: &Engine, count: usize, left: Wanted) -> bool {
         let Some(point) = self.points.as_slice().get(count.saturating_sub(1)) else {
             return false;
@@ -74,7 +75,7 @@ impl Fed {
     }
 }
 
-/// Returns what `engine` gives of `bytes`, which it is fed one by one.
+/// Feeds `bytes` to `engine` one by one, and returns what it wrote.
 fn feed(alloc: Global, engine: &mut Engine, bytes: &[u8]) -> Result<Fed, AllocError>
     requires { NothingWaits engine.old }
 {
@@ -93,7 +94,7 @@ fn feed(alloc: Global, engine: &mut Engine, bytes: &[u8]) -> Result<Fed, AllocEr
     Ok(fed)
 }
 
-/// Returns the first `most` bytes of `bytes`, or all where it has fewer.
+/// Returns the first `most` bytes of `bytes`, or all if it has fewer.
 fn front(bytes: &[u8], most: usize) -> &[u8]
     requires { 0 < most }
     ensures within { length result.now ≤ length bytes.now }
@@ -102,8 +103,8 @@ fn front(bytes: &[u8], most: usize) -> &[u8]
     &bytes[..most.min(bytes.len())]
 }
 
-/// Fills `engine` from `piece`, which stands after `count` bytes. Returns how many bytes it took,
-/// or none where it went on after the byte that stops the run.
+/// Fills `engine` from `piece`, which comes after `count` bytes. Returns the number of bytes that
+/// it took, or nothing if it went on after the byte that stops the run.
 fn fill_piece(engine: &mut Engine, piece: &[u8], count: usize, fed: &Fed) -> Option<usize>
     ensures within { IfSome result (λ taken. taken ≤ length piece.now) }
     ensures some { NothingWaits engine.old → 0 < length piece.now →
@@ -118,9 +119,9 @@ fn fill_piece(engine: &mut Engine, piece: &[u8], count: usize, fed: &Fed) -> Opt
     Some(taken)
 }
 
-/// Fills `engine` from two pieces of `most` bytes, of which the first stands after `count` bytes.
-/// What the first brings waits when the second comes. Returns how many bytes it took, or none where
-/// it went on after the byte that stops the run.
+/// Fills `engine` from two pieces of `bytes`, each of up to `most` bytes; the first comes after
+/// `count` bytes, and what it makes known waits when the second comes. Returns the number of bytes
+/// that it took, or nothing if it went on after the byte that stops the run.
 fn fill_twice(
     engine: &mut Engine,
     bytes: &[u8],
@@ -139,8 +140,8 @@ fn fill_twice(
     Some(first + second)
 }
 
-/// Returns whether `engine` gives what it gave when it was `fed`, where it is filled from pieces of
-/// `most` bytes.
+/// Returns whether `engine`, filled from pieces of `most` bytes, writes what it wrote when it was
+/// `fed`.
 fn fills(engine: &mut Engine, bytes: &[u8], most: usize, fed: &Fed) -> bool
     requires most { 0 < most }
     requires waits { NothingWaits engine.old }
@@ -162,8 +163,8 @@ fn fills(engine: &mut Engine, bytes: &[u8], most: usize, fed: &Fed) -> bool
     end(engine, false).code() == fed.status && left.take(engine) && left.is_empty()
 }
 
-/// Returns whether `engine`, which is fresh, gives the same of `bytes` filled as fed. It begins
-/// again then.
+/// Returns whether `engine`, which is fresh, writes the same of `bytes` filled as fed, and restarts
+/// it.
 fn agrees(alloc: Global, engine: &mut Engine, bytes: &[u8], most: usize) -> Result<bool, AllocError>
     requires most { 0 < most }
     requires waits { NothingWaits engine.old }
@@ -176,10 +177,10 @@ fn agrees(alloc: Global, engine: &mut Engine, bytes: &[u8], most: usize) -> Resu
     Ok(same)
 }
 
-/// How many scores are put together from one.
+/// The number of scores that are put together from one.
 const SCORES: usize = 500;
 
-/// Returns how many of the scores that are put together from `score` an engine gives the same of
+/// Returns the number of scores, put together from `score`, of which `engine` writes the same
 /// filled as fed.
 fn count_by(
     alloc: Global,
@@ -201,11 +202,11 @@ fn count_by(
     Ok(agreed)
 }
 
-/// The limits of the runs: the usual ones, and some with which what may wait before a byte is 300
-/// bytes.
+/// The limits of the runs: the default ones, and small ones, with which at most 300 bytes may wait
+/// before a step.
 const LIMITS: [(u32, u32, u32); 2] = [(65_536, 16_384, 4_294_967_295), (300, 200, 100_000)];
 
-/// Returns how many of such runs agree in this format under these limits.
+/// Returns the number of such runs that agree in this `format` under these `limits`.
 fn count_in(
     alloc: Global,
     format: Format,
@@ -224,11 +225,11 @@ fn count_in(
     }
 }
 
-/// How many runs are made of each score.
+/// The number of runs that are made of each score.
 pub(crate) const RUNS: usize = 4 * SCORES;
 
-/// Returns how many runs agree over the scores that are put together from `score`: in both formats,
-/// each under two limits.
+/// Returns the number of runs that agree over the scores that are put together from `score`: in
+/// both formats, each under two limits.
 pub(crate) fn count_agreed(alloc: Global, score: &[u8], seed: u64) -> Result<usize, AllocError> {
     let mut agreed = 0usize;
     for format in [Format::Gabc, Format::Dump] {

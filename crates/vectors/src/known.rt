@@ -1,4 +1,4 @@
-//! What is known of a run: what it is asked for, what it has to write and how it ends.
+//! Known runs: their requests, the texts that they have to write, and their exit statuses.
 
 ghost use Rattle.gregorio.specs.Engine.{NothingWaits};
 
@@ -7,7 +7,7 @@ use crate::run::Request;
 use gabc_places::Limits;
 use gregorio::Engine;
 
-/// What a run has to write.
+/// The texts that a run has to write.
 #[derive(Clone, Copy)]
 pub(crate) struct Wanted<'a> {
     pub output: &'a [u8],
@@ -15,7 +15,8 @@ pub(crate) struct Wanted<'a> {
 }
 
 impl Wanted<'_> {
-    /// Takes what waits, and leaves what has to follow it. Returns whether this was wanted.
+    /// Takes the bytes that wait in `engine` off the begin of both texts, and returns whether the
+    /// texts begin with them. If not, the texts stay as they were.
     pub(crate) fn take(&mut self, engine: &mut Engine) -> bool
         ensures waits { NothingWaits engine.new }
     {
@@ -29,13 +30,13 @@ impl Wanted<'_> {
         true
     }
 
-    /// Whether nothing has to follow.
+    /// Returns whether nothing has to follow.
     pub(crate) fn is_empty(self) -> bool {
         self.output.is_empty() && self.messages.is_empty()
     }
 }
 
-/// A run, what it has to write where no end fails, and its exit status.
+/// A run, the texts that it has to write if no source or sink fails, and its exit status.
 #[derive(Clone, Copy)]
 pub(crate) struct Known<'a> {
     pub asked: Request<'a>,

@@ -1,10 +1,10 @@
 //! Runs the chant reader on rows of inputs and on scores, each with the output and the messages
 //! that it must give; the rows also have the status. Makes each run from a source, and again in
-//! pieces of several lengths, by one engine that begins again in mid-input and after its end. What
-//! is wanted was computed or written apart from this project, but for the dumps of the scores: the
-//! program wrote these, and they were read by hand. Prints the rows and scores that differ, and how
-//! many agree. The tests of the library in C read these tables too, and make runs that are saved
-//! and restored.
+//! pieces of several lengths, by one engine that begins again in mid-input and after its end. The
+//! expected texts were computed or written apart from this project, but for the dumps of the
+//! scores: the program wrote these, and they were read by hand. Prints the rows and scores that
+//! differ, and how many agree. The tests of the library in C read these tables too, and make runs
+//! that are saved and restored.
 #![tactic(auto)]
 
 mod ends;
@@ -49,7 +49,7 @@ const SCORES: [&str; 10] = [
     "two-lines",
 ];
 
-/// Whether the run is what is known of it.
+/// Returns whether the run has the output, the messages and the status that are known of it.
 fn agrees(alloc: Global, known: Known) -> bool {
     let ran = run(alloc, known.asked);
     ran.output.inner().as_slice() == known.wanted.output
@@ -57,7 +57,7 @@ fn agrees(alloc: Global, known: Known) -> bool {
         && ran.status == known.status
 }
 
-/// Whether the row of a run is what the run makes, whole and in pieces.
+/// Returns whether the run of a row agrees with it, whole and in pieces.
 fn row_agrees(alloc: Global, line: &str) -> Result<bool, AllocError> {
     let Some(row) = row_of(alloc, line)? else {
         return Ok(false);
@@ -68,7 +68,7 @@ fn row_agrees(alloc: Global, line: &str) -> Result<bool, AllocError> {
     }
 }
 
-/// Whether the run of a row stops where a sink fails, with the bytes that it holds.
+/// Returns whether the run of a row stops when a sink fails, with the bytes that it holds.
 fn row_fills_sinks(alloc: Global, line: &str) -> Result<bool, AllocError> {
     let Some(row) = row_of(alloc, line)? else {
         return Ok(false);
@@ -79,13 +79,13 @@ fn row_fills_sinks(alloc: Global, line: &str) -> Result<bool, AllocError> {
     }
 }
 
-/// The file of a score with this ending.
+/// Returns the text of the file `NAME.ENDING`.
 fn read_file(rt: &HostRuntime, name: &str, ending: &str) -> io::Result<String> {
     let path = format!(in rt.alloc(); "{name}.{ending}")?;
     fs::read_to_string(rt, path.as_str())
 }
 
-/// The exit status of a run with these messages.
+/// Returns the exit status of a run with these `messages`.
 fn status_of(messages: &str) -> u8 {
     if messages.contains(": fatal: ") {
         2
@@ -96,7 +96,8 @@ fn status_of(messages: &str) -> u8 {
     }
 }
 
-/// Whether a score gives this output in this format, and these messages, whole and in pieces.
+/// Returns whether a run over `score` has this `output` in this `format`, and these `messages`,
+/// whole and in pieces.
 fn has_output(alloc: Global, format: Format, score: &str, output: &str, messages: &str) -> bool {
     let wanted = Wanted {
         output: output.as_bytes(),
@@ -117,7 +118,8 @@ fn has_output(alloc: Global, format: Format, score: &str, output: &str, messages
     agrees(alloc, known) && agrees_in_pieces(alloc, known)
 }
 
-/// Whether a score gives its canonical form, its dump and its messages.
+/// Returns whether runs over the score with this `name` write its canonical form, its dump and its
+/// messages.
 fn is_written(rt: &HostRuntime, name: &str) -> io::Result<bool> {
     let score = read_file(rt, name, "gabc")?;
     let canonical = read_file(rt, name, "canonical")?;
@@ -130,7 +132,7 @@ fn is_written(rt: &HostRuntime, name: &str) -> io::Result<bool> {
     )
 }
 
-/// Runs the example scores.
+/// Runs the example scores, prints those that differ, and how many agree.
 fn check_scores(rt: &HostRuntime) -> io::Result<()> {
     let mut agreed = 0u32;
     for name in SCORES {
@@ -143,8 +145,8 @@ fn check_scores(rt: &HostRuntime) -> io::Result<()> {
     println!(rt; "scores: {agreed} of {} agree", SCORES.len())
 }
 
-/// Makes runs of engines that are filled over scores that are put together from parts of the
-/// example scores.
+/// Makes runs of engines, filled and fed byte by byte, over scores that are put together from parts
+/// of the example scores, and prints how many agree.
 fn check_filled(rt: &HostRuntime) -> io::Result<()> {
     let mut agreed = 0usize;
     let mut seed = 1u64;
@@ -157,7 +159,7 @@ fn check_filled(rt: &HostRuntime) -> io::Result<()> {
     println!(rt; "mutated scores: {agreed} of {runs} runs agree, filled and fed byte by byte")
 }
 
-/// What stands on the lines of a file.
+/// The meaning of the lines of a file.
 #[derive(Clone, Copy)]
 enum Lines {
     /// Runs, with what each has to write.
@@ -168,12 +170,12 @@ enum Lines {
     Prefixes,
     /// Runs, with the bytes that make known what each writes.
     Steps,
-    /// Runs that are saved, and go on where they are restored.
+    /// Runs that are saved, and go on once restored.
     Saved,
 }
 
 impl Lines {
-    /// Returns what is counted.
+    /// Returns the name of what is counted.
     fn name(self) -> &'static str {
         match self {
             Lines::Runs => "runs",
@@ -184,7 +186,7 @@ impl Lines {
         }
     }
 
-    /// Returns whether what stands on this line of a file is as the line says. Reports where
+    /// Returns whether the run on this `line` of a file is as the line says. Prints its `number` if
     /// it is not.
     fn agree(self, rt: &HostRuntime, path: &str, number: usize, line: &str) -> io::Result<bool> {
         let alloc = rt.alloc();
@@ -218,7 +220,8 @@ const FILES: [(&str, Lines); 12] = [
     ("states.tsv", Lines::Saved),
 ];
 
-/// Looks at the lines of a file after the first one, which is its head, and reports how many agree.
+/// Looks at the lines of a file after the first one, which is its head, but for those that begin
+/// with `#`, and prints how many agree.
 fn check_file(rt: &HostRuntime, path: &str, lines: Lines) -> io::Result<()> {
     let text = fs::read_to_string(rt, path)?;
     let mut count = 0u32;

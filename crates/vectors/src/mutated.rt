@@ -1,11 +1,10 @@
-//! Scores that are put together from parts of another one, with what may stand anywhere between
-//! them.
+//! Puts scores together from parts of another one, with texts of any kind between them.
 
 ghost use Rattle.std.specs.Prelude.{◌<◌, ◌≤◌, length};
 
 use std::alloc::{AllocError, Global};
 
-/// What is put between two parts.
+/// The texts that are put between two parts.
 const BETWEEN: [&[u8]; 40] = [
     b"",
     b"",
@@ -49,7 +48,7 @@ const BETWEEN: [&[u8]; 40] = [
     b"%%\n",
 ];
 
-/// Numbers that follow one from the other.
+/// Pseudo-random numbers, each computed from the one before.
 #[derive(Drop)]
 pub(crate) struct Numbers {
     state: u64,
@@ -74,7 +73,8 @@ impl Numbers {
     }
 }
 
-/// Returns the number of a place in `score` that is somewhat before `at` or after it.
+/// Returns the number of a byte of `score`, or its length, at most 11 bytes before `at` or after
+/// it.
 fn place_near(numbers: &mut Numbers, score: &[u8], at: usize) -> usize
     ensures { result ≤ length score.now }
 {

@@ -1,5 +1,5 @@
-//! Runs of one engine that takes its input in pieces, and begins again and again, against what a
-//! run must give.
+//! Compares runs of one engine, which takes its input in pieces and restarts again and again, with
+//! what a run must write.
 
 ghost use Rattle.std.specs.Prelude.{◌<◌};
 ghost use Rattle.gregorio.specs.Engine.{NothingWaits};
@@ -9,11 +9,12 @@ use crate::run::job;
 use gregorio::{Engine, Status};
 use std::alloc::Global;
 
-/// How many bytes the pieces of an input have: each run is made with each of these, after the
+/// The numbers of bytes of the pieces of an input: a run is made with each of these, after the
 /// engine was fed a part of the input in vain: nothing, a quarter, and so on up to the whole.
 const LENGTHS: [usize; 5] = [1, 2, 3, 7, 8192];
 
-/// Feeds a piece, and takes what is written of it. Returns whether this was wanted.
+/// Feeds a piece, and takes the bytes that are written of it off `wanted`. Returns whether `wanted`
+/// began with them.
 pub(crate) fn feed_piece(engine: &mut Engine, piece: &[u8], wanted: &mut Wanted) -> bool
     requires waits { NothingWaits engine.old }
     ensures waits { NothingWaits engine.new }
@@ -28,7 +29,8 @@ pub(crate) fn feed_piece(engine: &mut Engine, piece: &[u8], wanted: &mut Wanted)
     true
 }
 
-/// Feeds bytes in pieces of this length. Returns whether what was written of them was wanted.
+/// Feeds `bytes` in pieces of this `length`, and takes the bytes that are written of them off
+/// `wanted`. Returns whether `wanted` began with them.
 pub(crate) fn feed_all(
     engine: &mut Engine,
     bytes: &[u8],
@@ -47,7 +49,8 @@ pub(crate) fn feed_all(
     true
 }
 
-/// Ends the run of an input whose source has ended, or has failed if it is `broken`.
+/// Ends the run of an input whose source has ended, or has failed if it is `broken`, and returns
+/// its status.
 pub(crate) fn end(engine: &mut Engine, broken: bool) -> Status
     requires waits { NothingWaits engine.old }
 {
@@ -58,7 +61,8 @@ pub(crate) fn end(engine: &mut Engine, broken: bool) -> Status
     }
 }
 
-/// Whether an engine that takes the bytes of a run in pieces of this length gives what is wanted.
+/// Returns whether an engine that takes the bytes of a run in pieces of this `length` has the
+/// output, the messages and the status that are known.
 pub(crate) fn has_output(engine: &mut Engine, known: Known, length: usize) -> bool
     requires length { 0 < length }
     requires waits { NothingWaits engine.old }
@@ -70,7 +74,7 @@ pub(crate) fn has_output(engine: &mut Engine, known: Known, length: usize) -> bo
         && wanted.is_empty()
 }
 
-/// Feeds `bytes`, and takes what is written of them but what waits last.
+/// Feeds `bytes`, and drops the bytes that are written of them but for the last, which wait.
 fn feed_in_vain(engine: &mut Engine, bytes: &[u8]) {
     let mut count = 0;
     while count < bytes.len() {
@@ -79,8 +83,8 @@ fn feed_in_vain(engine: &mut Engine, bytes: &[u8]) {
     }
 }
 
-/// Whether `engine` gives what is wanted where it begins again after a part of the input, of which
-/// something may wait, and after its end, however long the pieces are.
+/// Returns whether `engine` makes the known run after it is restarted within the input, when bytes
+/// may wait, and after its end, however long the pieces are.
 fn gives_again(engine: &mut Engine, known: Known) -> bool {
     let bytes = known.asked.bytes;
     let len = bytes.len();
@@ -97,8 +101,8 @@ fn gives_again(engine: &mut Engine, known: Known) -> bool {
     true
 }
 
-/// Whether an engine that takes the bytes of a run in pieces gives what is wanted, however long the
-/// pieces are, and wherever it begins again. If there is no room for one, it does not.
+/// Returns whether an engine that takes the bytes of a run in pieces makes the known run, however
+/// long the pieces are, and wherever it is restarted; false if there is no memory for an engine.
 pub(crate) fn agrees_in_pieces(alloc: Global, known: Known) -> bool {
     let asked = known.asked;
     match Engine::new(alloc, &job(asked.format, asked.all_warnings), asked.limits) {

@@ -1,4 +1,4 @@
-//! Runs over each prefix of an input in pieces, against what the whole forms make of it.
+//! Compares runs in pieces over each prefix of an input with the whole forms.
 
 use crate::known::{Known, Wanted, known_of};
 use crate::pieces::agrees_in_pieces;
@@ -8,7 +8,8 @@ use crate::wholes::{messages_of, output_of};
 use gregorio::{Outcome, SourceEnding};
 use std::alloc::{AllocError, Global};
 
-/// Returns whether runs in pieces give what the whole forms make of the input.
+/// Returns whether runs in pieces write the output and the messages of the whole forms, and end
+/// with their status.
 fn agrees_with_whole(alloc: Global, asked: Request) -> Result<bool, AllocError> {
     let outcome = Outcome::of(alloc, asked.bytes, SourceEnding::Whole, asked.limits)?;
     let output = output_of(alloc, asked.format, &outcome)?;
@@ -28,7 +29,8 @@ fn agrees_with_whole(alloc: Global, asked: Request) -> Result<bool, AllocError> 
     ))
 }
 
-/// Returns whether that holds of each prefix of the input on this line of a file.
+/// Returns whether runs in pieces agree with the whole forms over each prefix of the input on this
+/// line of a file.
 pub(crate) fn has_prefixes_alike(alloc: Global, line: &str) -> Result<bool, AllocError> {
     let Some(row) = row_of(alloc, line)? else {
         return Ok(false);

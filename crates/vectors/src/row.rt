@@ -3,7 +3,7 @@
 use gregorio::Format;
 use std::alloc::{AllocError, Global};
 
-/// A run, and what it must give.
+/// A run, with the output, the messages and the status that it must have.
 #[derive(Drop)]
 pub(crate) struct Row {
     pub format: Format,
@@ -18,7 +18,7 @@ pub(crate) struct Row {
     pub status: u8,
 }
 
-/// Where a reader of escapes stands.
+/// The state of a reader of escapes.
 #[derive(Clone, Copy)]
 enum Escape {
     None,
@@ -27,7 +27,7 @@ enum Escape {
     HexAfter(u8),
 }
 
-/// The value of a hexadecimal digit.
+/// Returns the value of a hexadecimal digit, or 0.
 pub(crate) fn digit(byte: u8) -> u8 {
     match byte {
         b'0'..=b'9' => byte - b'0',
@@ -37,7 +37,7 @@ pub(crate) fn digit(byte: u8) -> u8 {
     }
 }
 
-/// The bytes of a column: `\n`, `\r`, `\t`, `\\` and `\xNN` are escapes.
+/// Returns the bytes of a column: `\n`, `\r`, `\t`, `\\` and `\xNN` are escapes.
 fn unescaped(alloc: Global, column: &str) -> Result<Vec<u8>, AllocError> {
     let mut bytes = Vec::new(alloc);
     let mut escape = Escape::None;
@@ -68,7 +68,7 @@ fn unescaped(alloc: Global, column: &str) -> Result<Vec<u8>, AllocError> {
     Ok(bytes)
 }
 
-/// The three limits of a column, in bytes.
+/// Returns the three limits of a column, in bytes, if they are numbers.
 fn limits_of(column: &str) -> Option<(u32, u32, u32)> {
     let mut numbers = column.split(',');
     let header = numbers.next()?.parse::<u32>().ok()?;
@@ -77,7 +77,7 @@ fn limits_of(column: &str) -> Option<(u32, u32, u32)> {
     Some((header, syllable, input))
 }
 
-/// The format that these options name.
+/// Returns the format that `options` name.
 fn format_of(options: &str) -> Format {
     if options.contains("-F dump") {
         Format::Dump
@@ -86,14 +86,14 @@ fn format_of(options: &str) -> Format {
     }
 }
 
-/// The column of `line` with this number, from 0; an empty one if there is none.
+/// Returns the column of `line` with this `number`, from 0; an empty one if there is none.
 pub(crate) fn column(line: &str, number: usize) -> &str {
     line.split('\t').nth(number).unwrap_or("")
 }
 
-/// The run of a line. Its options, its limits, its ending and its input stand in the first four
-/// columns, and its output, its messages and its status from the column with the number `written`
-/// on. A status that is no number is 255, with which no run ends.
+/// Returns the run of a line, if its limits are numbers. Its options, its limits, its ending and
+/// its input are in the first four columns, and its output, its messages and its status in the
+/// columns from the number `written` on. A status that is no number is 255, with which no run ends.
 pub(crate) fn run_of(alloc: Global, line: &str, written: usize) -> Result<Option<Row>, AllocError> {
     let Some((header, syllable, input)) = limits_of(column(line, 1)) else {
         return Ok(None);
@@ -117,7 +117,8 @@ pub(crate) fn run_of(alloc: Global, line: &str, written: usize) -> Result<Option
     }))
 }
 
-/// The row of a line: options, limits, ending, input, output, messages and status, split by tabs.
+/// Returns the row of a line: options, limits, ending, input, output, messages and status, split by
+/// tabs.
 pub(crate) fn row_of(alloc: Global, line: &str) -> Result<Option<Row>, AllocError> {
     run_of(alloc, line, 4)
 }

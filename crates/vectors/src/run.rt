@@ -1,10 +1,10 @@
-//! One run of the reader, whose output and messages are kept.
+//! Makes one run of the reader, and keeps its output and its messages.
 
 use gabc_places::{Limits, ToWriter, TrialSource};
 use gregorio::{Format, Input, Job, Output, compile};
 use std::alloc::Global;
 
-/// What a run is asked for: its source has these bytes, and fails after them if it is `broken`.
+/// The request of a run: its source has these `bytes`, and fails after them if it is `broken`.
 #[derive(Clone, Copy)]
 pub(crate) struct Request<'a> {
     pub format: Format,
@@ -14,7 +14,7 @@ pub(crate) struct Request<'a> {
     pub all_warnings: bool,
 }
 
-/// What a run wrote, and its exit status.
+/// The output and the messages that a run wrote, and its exit status.
 #[derive(Drop)]
 pub(crate) struct RunResult {
     pub output: ToWriter<Vec<u8>>,
@@ -22,7 +22,7 @@ pub(crate) struct RunResult {
     pub status: u8,
 }
 
-/// Returns a job in this format.
+/// Returns a job in this `format` from standard input to standard output.
 pub(crate) fn job(format: Format, all_warnings: bool) -> Job {
     Job {
         format,

@@ -1,5 +1,5 @@
-//! Runs that are saved after some of their bytes, and engines that are restored from their states,
-//! against what they have to save and to write.
+//! Compares runs that are saved after some of their bytes, and engines that are restored from their
+//! states, with what they have to save and to write.
 
 ghost use Rattle.std.specs.Prelude.{◌≡◌, true};
 ghost use Rattle.gregorio.specs.Engine.{NothingWaits, is_running};
@@ -11,13 +11,13 @@ use crate::saved_row::{SavedRow, saved_row_of};
 use gregorio::{Engine, StateFault};
 use std::alloc::{AllocError, Global};
 
-/// How many bytes more than a state the buffer has into which it is saved.
+/// The number of bytes by which a buffer is longer than the state that is saved into it.
 const MORE: usize = 7;
 
-/// How many bytes the pieces have that an engine takes.
+/// The number of bytes of the pieces that an engine takes.
 const PIECE: usize = 5;
 
-/// Returns a buffer of `len` bytes, which are 0.
+/// Returns a buffer of `len` bytes that are all 0.
 fn buffer_of(alloc: Global, len: usize) -> Result<Vec<u8>, AllocError> {
     let mut buffer = Vec::new(alloc);
     for _ in 0..len {
@@ -26,8 +26,8 @@ fn buffer_of(alloc: Global, len: usize) -> Result<Vec<u8>, AllocError> {
     Ok(buffer)
 }
 
-/// Returns whether `engine` saves `state` into a `buffer` of bytes that are 0, of which there are
-/// more, and leaves the others; and nothing into one that has a byte less.
+/// Returns whether `engine` saves `state` into the longer `buffer`, whose bytes are all 0, leaves
+/// the other bytes, and saves nothing into a buffer that is a byte shorter than the state.
 fn saves(engine: &Engine, state: &[u8], buffer: &mut [u8]) -> bool
     requires runs { is_running engine.now ≡ true }
     requires waits { NothingWaits engine.now }
@@ -49,7 +49,7 @@ fn saves(engine: &Engine, state: &[u8], buffer: &mut [u8]) -> bool
 }
 
 /// Returns whether an engine that is restored from `state` saves it at once, and goes on with
-/// `rest`. The error is for want of memory.
+/// `rest`. It fails only if memory runs out.
 fn goes_on(alloc: Global, state: &[u8], rest: Known) -> Result<bool, AllocError> {
     let mut buffer = buffer_of(alloc, state.len().saturating_add(MORE))?;
     let asked = rest.asked;
@@ -68,8 +68,8 @@ fn goes_on(alloc: Global, state: &[u8], rest: Known) -> Result<bool, AllocError>
 }
 
 impl SavedRow {
-    /// Returns whether `engine`, which is fresh, has written what is known of the bytes `before`
-    /// the state, and saves the state there.
+    /// Returns whether `engine`, which is fresh, writes the known texts of the bytes `before` the
+    /// state, and then saves the state into `buffer`.
     fn is_saved_by(&self, engine: &mut Engine, before: Known, buffer: &mut [u8]) -> bool
         requires waits { NothingWaits engine.old }
     {
@@ -80,7 +80,7 @@ impl SavedRow {
             && saves(engine, self.state.as_slice(), buffer)
     }
 
-    /// Returns whether a run is saved so after the bytes `before` the state.
+    /// Returns whether a run has the state of the row after the bytes `before` it.
     fn is_saved(&self, alloc: Global, before: Known) -> Result<bool, AllocError> {
         let asked = before.asked;
         let mut buffer = buffer_of(alloc, self.state.len().saturating_add(MORE))?;
@@ -94,7 +94,7 @@ impl SavedRow {
         }
     }
 
-    /// Returns whether a run is saved as it says, and goes on as it says where it is restored.
+    /// Returns whether the run of the row is saved and, once restored, goes on as the row says.
     fn agrees(&self, alloc: Global) -> Result<bool, AllocError> {
         let Some(known) = known_of(&self.run) else {
             return Ok(false);

@@ -9,13 +9,13 @@ pub(crate) struct SavedRow {
     pub run: Row,
     pub fed: usize,
     pub state: Vec<u8>,
-    /// How many bytes of output it has written there.
+    /// The number of bytes of the output that it has written there.
     pub output: usize,
-    /// How many bytes of messages.
+    /// The number of bytes of the messages.
     pub messages: usize,
 }
 
-/// The bytes of a column of hexadecimal digits, two each.
+/// Returns the bytes of a column of hexadecimal digits, two each.
 fn bytes_of(alloc: Global, column: &str) -> Result<Vec<u8>, AllocError> {
     let mut bytes = Vec::new(alloc);
     for pair in column.as_bytes().chunks(2) {
@@ -26,9 +26,10 @@ fn bytes_of(alloc: Global, column: &str) -> Result<Vec<u8>, AllocError> {
     Ok(bytes)
 }
 
-/// The row of a line: options, limits, ending, input, lengths of pieces, how many bytes are fed,
-/// the state after them in hexadecimal digits, how many bytes of output and of messages were
-/// written before it, and the output, the messages and the status of the whole run.
+/// Returns the row of a line: options, limits, ending, input, lengths of pieces, the number of
+/// bytes that are fed, the state after them in hexadecimal digits, the numbers of bytes of output
+/// and of messages that were written before it, and the output, the messages and the status of the
+/// whole run. It returns nothing if a number is none.
 pub(crate) fn saved_row_of(alloc: Global, line: &str) -> Result<Option<SavedRow>, AllocError> {
     let (Ok(fed), Ok(output), Ok(messages)) = (
         column(line, 5).parse::<usize>(),

@@ -1,4 +1,4 @@
-//! With which byte an engine makes known what, and what it does after its end.
+//! Checks with which byte of its input an engine writes what, and what it does after its end.
 
 ghost use Rattle.std.specs.Prelude.{◌≡◌, false};
 ghost use Rattle.gregorio.specs.Engine.{NothingWaits};
@@ -11,7 +11,8 @@ use gabc_places::Fault;
 use gregorio::Engine;
 use std::alloc::{AllocError, Global};
 
-/// How many bytes of the output and of the messages are known after some bytes of the input.
+/// The numbers of bytes of the output and of the messages that are known after the first `taken`
+/// bytes of the input.
 #[derive(Clone, Copy, PartialEq, Eq)]
 struct Step {
     taken: usize,
@@ -19,7 +20,7 @@ struct Step {
     messages: usize,
 }
 
-/// Where nothing is known yet.
+/// The step before all bytes, when nothing is known yet.
 const NONE: Step = Step {
     taken: 0,
     output: 0,
@@ -45,14 +46,14 @@ impl Trial<'_> {
         last
     }
 
-    /// Returns whether all but `left` is what is known after a step.
+    /// Returns whether all but `left` is known after a step.
     fn is_known(self, left: Wanted, step: Step) -> bool {
         left.output.len().saturating_add(step.output) == self.known.wanted.output.len()
             && left.messages.len().saturating_add(step.messages) == self.known.wanted.messages.len()
     }
 
-    /// Returns whether this is the fault of the run, with which its messages end, or none if it has
-    /// none. The error is for want of memory.
+    /// Returns whether `fault` is that of the run, with which its messages end, or none if it has
+    /// none. It fails only if memory runs out.
     fn has_fault(self, alloc: Global, fault: Option<Fault>) -> Result<bool, AllocError> {
         let Some(fault) = fault else {
             return Ok(self.known.status != 2);
@@ -62,7 +63,7 @@ impl Trial<'_> {
     }
 }
 
-/// Returns whether something waits.
+/// Returns whether output or messages wait.
 fn waits(engine: &Engine) -> bool
     ensures { result ≡ false → NothingWaits engine.now }
 {
@@ -89,8 +90,8 @@ fn takes_steps(engine: &mut Engine, trial: Trial) -> bool {
     !waits(engine) && engine.feed(rest) == rest.len() && !waits(engine)
 }
 
-/// Returns whether a fresh engine that is filled from the whole input goes on up to the byte that
-/// stops the run, with all that it writes waiting, and then takes what is left.
+/// Returns whether a fresh engine that is filled from the whole input continues up to the byte that
+/// stops the run, with all that it writes waiting, and then takes the rest.
 fn is_filled(engine: &mut Engine, trial: Trial) -> bool {
     let bytes = trial.known.asked.bytes;
     let count = engine.fill(bytes);
@@ -108,8 +109,8 @@ fn is_filled(engine: &mut Engine, trial: Trial) -> bool {
         && engine.fill(&bytes[count..]) == bytes.len() - count
 }
 
-/// Returns whether a fresh engine gives the steps of a run byte by byte, and nothing beside them,
-/// and has a fault only once it has stopped.
+/// Returns whether a fresh engine makes the steps of a run byte by byte, writes nothing else, and
+/// has a fault only once it has stopped.
 fn gives_steps(engine: &mut Engine, trial: Trial, left: &mut Wanted) -> bool {
     let bytes = trial.known.asked.bytes;
     for index in 0..bytes.len() {
@@ -125,7 +126,7 @@ fn gives_steps(engine: &mut Engine, trial: Trial, left: &mut Wanted) -> bool {
     true
 }
 
-/// Returns whether a fresh engine gives the steps of a run, and then its end.
+/// Returns whether a fresh engine makes the steps of a run, and then its end.
 fn gives_all(engine: &mut Engine, trial: Trial) -> bool {
     let mut left = trial.known.wanted;
     gives_steps(engine, trial, &mut left)
@@ -152,7 +153,7 @@ fn is_over(engine: &mut Engine, status: u8) -> bool
 }
 
 /// Returns whether a fresh engine makes the run as its steps say, with the fault that it has to
-/// have, and has none once it begins again.
+/// have, and has none once it is restarted.
 fn agrees(alloc: Global, engine: &mut Engine, trial: Trial) -> Result<bool, AllocError> {
     let taken = takes_steps(engine, trial);
     engine.restart();
@@ -184,7 +185,7 @@ fn steps_of(alloc: Global, column: &str) -> Result<Vec<Step>, AllocError> {
 }
 
 /// Returns whether the run on this line of a file is made as its row says; the row has the steps
-/// behind the status.
+/// after the status.
 pub(crate) fn has_steps(alloc: Global, line: &str) -> Result<bool, AllocError> {
     let steps = steps_of(alloc, column(line, 7))?;
     let Some(row) = row_of(alloc, line)? else {

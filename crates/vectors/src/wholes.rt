@@ -1,4 +1,4 @@
-//! What the whole form of a score has to write: its output and its messages.
+//! The output and the messages that the whole form of a score has to write.
 
 use gabc_headers::HeaderBook;
 use gabc_neumes::Alterations;
@@ -10,8 +10,8 @@ use gabc_write::{
 use gregorio::{Format, Outcome, is_shown};
 use std::alloc::{AllocError, Global};
 
-/// Returns an empty room for as many bytes as `counter` has taken. Where that has saturated there
-/// is no memory.
+/// Returns an empty room for as many bytes as `counter` has taken. It fails if the counter has
+/// saturated.
 fn room_for(alloc: Global, counter: &ByteCounter) -> Result<Room<u8>, AllocError> {
     let len = counter.count();
     if len == usize::MAX {
@@ -58,8 +58,8 @@ fn put_output<S: Put>(format: Format, outcome: &Outcome, out: &mut S) {
     }
 }
 
-/// Puts the lines of what a `score` found, and last that of its fatal fault. They call the input
-/// `name`.
+/// Puts the lines of the findings of `score`, warnings only if `all_warnings`, and last that of its
+/// fatal fault. They call the input `name`.
 fn put_messages<S: Put>(name: &str, all_warnings: bool, score: &Score, out: &mut S) {
     for finding in score.findings.as_slice() {
         if is_shown(all_warnings, *finding) {
@@ -85,7 +85,7 @@ pub(crate) fn output_of(
 }
 
 /// Returns the messages of a run with this `outcome`, which call the input `name`: warnings only if
-/// `all_warnings` are wanted.
+/// `all_warnings`.
 pub(crate) fn messages_of(
     alloc: Global,
     name: &str,

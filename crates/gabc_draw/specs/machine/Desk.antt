@@ -1,4 +1,4 @@
--- What stands on a desk.
+-- The notes and syllables that a desk shows.
 use Rattle.std.specs.Prelude.{List, [], ◌∷◌, ◌++◌, cond}
 use Rattle.std.specs.List.{flat_map}
 use Rattle.gabc_marks.specs.Heads.{Bytes, Shown, Syllable, notes_of, pitches_of_heads}
@@ -9,7 +9,7 @@ use Rattle.gabc_pen.specs.Notes.{pitches_of_notes}
 abbrev pub bytes_of_group : Group → Bytes
 bytes_of_group g = record { begin = g.begin; end = g.end }
 
--- as the part that becomes of it
+-- what a group shows: the same as the part that is made of it
 abbrev pub shown_by_group : Group → List Shown
 shown_by_group g =
     cond g.is_first (Syllable (bytes_of_group g) ∷ []) []
@@ -18,8 +18,8 @@ shown_by_group g =
 abbrev pub shown_by_groups : List Group → List Shown
 shown_by_groups groups = flat_map shown_by_group groups
 
--- what the groups that are ended show, and the one that is begun, and what it will show of the
--- notes of the neume that is being read
+-- the notes and syllables shown by the groups that are ended, by the one that is begun, and by the
+-- notes of the neume that is being read, which it will show
 abbrev pub shown_on : List Group → Group → List Note → List Shown
 shown_on groups group pending =
     shown_by_groups groups

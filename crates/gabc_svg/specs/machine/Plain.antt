@@ -1,4 +1,4 @@
--- Characters that stand in a text as they are.
+-- Characters that escaping leaves as they are.
 use Rattle.std.specs.Prelude.{ℕ, Bool, ◌&&◌, ◌||◌, ◌==◌, not}
 use Rattle.gabc_svg.specs.Escape.{is_between}
 

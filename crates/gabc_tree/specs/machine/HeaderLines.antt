@@ -3,7 +3,7 @@ use Rattle.std.specs.Prelude.{if◌then◌else◌, ℕ, ◌+◌, ◌-◌, ◌==�
 use Rattle.gabc_headers.specs.Lines.{is_blank, is_blank_or_lf, ends_no_value, has_mark, before_mark, has_colon, before_colon, trim_start}
 use Rattle.gabc_tree.specs.declared.header_lines.Header.{Header}
 
--- what is left out at the end of a value, or of a name
+-- whether a byte is left out at the end of a value, or of a name
 abbrev pub is_last : Bool → ℕ → Bool
 is_last true c = ends_no_value c
 is_last false c = is_blank c
@@ -11,8 +11,8 @@ is_last false c = is_blank c
 abbrev pub lead_of : List ℕ → ℕ
 lead_of s = length s - length (trim_start is_blank_or_lf s)
 
--- how many `;` stand at a byte that are a mark, and whether what stands there is bare, by what
--- follows
+-- the length of the mark of `;` that begins at a byte, or 0, and whether the rest of the line from
+-- there on is bare, by the same of what follows
 abbrev pub run_with : ℕ → Bool → ℕ → ℕ
 run_with c bare run = if (c == 59) && (bare || nat_lt 0 run) then run + 1 else 0
 

@@ -4,7 +4,7 @@ use Rattle.gabc_text.specs.Token.{is_blank}
 use Rattle.gabc_nodes.specs.declared.node.Node.{Node}
 use Rattle.gabc_tree.specs.NotKept.{joined}
 
--- the nodes that are done, and the last one, which may go on
+-- the nodes that are done, and the last one, which may be extended
 pub record JoiningState : Type 0 where
   pub done : List Node
   pub last : Option Node

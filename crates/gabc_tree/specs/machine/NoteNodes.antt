@@ -22,7 +22,7 @@ abbrev pub notes_after_first : Option (GlyphKind × ℕ) → ℕ
 notes_after_first None = 0
 notes_after_first (Some g) = g.1 - 1
 
--- how many notes of the glyph are left after the item
+-- the number of notes of the glyph that are left after the item
 abbrev pub left_after : List ℕ → ℕ → Item → List Item → ℕ
 left_after kept zero i items = notes_after_first (glyph_from kept i items)
 left_after kept (suc left) i items = if is_note i.kind then left else suc left

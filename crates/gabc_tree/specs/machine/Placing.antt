@@ -1,4 +1,4 @@
--- Nodes that are put where they stand, one after the other.
+-- Nodes that are moved to their places in the input, one after the other.
 use Rattle.std.specs.Prelude.{List}
 use Rattle.gabc_nodes.specs.declared.node.Node.{Node}
 use Rattle.gabc_tree.specs.Placed.{Reach}

@@ -18,7 +18,7 @@ use Rattle.gabc_tree.specs.declared.signs.SuffixesRead.{SuffixesRead}
 abbrev pub names : List ℕ → ℕ → Bool
 names digits digit = same_texts digits (digit ∷ [])
 
--- what stands over the staff with an `r` and these digits more
+-- the signs over the staff with an `r` and these digits added
 abbrev pub over_with : OverStaff → List ℕ → OverStaff
 over_with o digits = record {
   accent = names digits 49 || o.accent;
@@ -39,13 +39,13 @@ with_r s digits = record s {
   over_staff = over_with s.over_staff digits;
 }
 
--- the orientation that digits tell, or that one
+-- the orientation that digits name, or that one
 abbrev pub orientation_with : Orientation → List ℕ → Orientation
 orientation_with o digits =
     if begins_with (codes "0") digits then orientation.Down else
     if begins_with (codes "1") digits then orientation.Up else o
 
--- what counts of `<` and that one, and of `>` and that one
+-- the liquescence of `<` and that one together, and of `>` and that one
 abbrev pub or_augmented : Liquescence → Liquescence
 or_augmented liquescence.Deminutus = liquescence.Deminutus
 or_augmented _ = liquescence.Augmented
@@ -54,7 +54,7 @@ abbrev pub or_diminished : Liquescence → Liquescence
 or_diminished liquescence.None = liquescence.Diminished
 or_diminished l = l
 
--- what counts of the sign, one of the three, and that one
+-- the liquescence of the sign, one of the three, and that one together
 abbrev pub liquescence_with : ℕ → Liquescence → Liquescence
 liquescence_with sign l =
     if sign == 126 then liquescence.Deminutus else if sign == 60 then or_augmented l else or_diminished l
@@ -72,6 +72,6 @@ abbrev pub side_of_run : ℕ → List ℕ → Side
 side_of_run zero t = side.Auto
 side_of_run (suc n) t = side_by (digits_of (drop (suc n) t))
 
--- what the suffixes of a text say
+-- the suffixes of a text as they are read
 abbrev pub suffixes_read : List ℕ → SuffixesRead
 suffixes_read t = record { signs = signs_of (suffixes t); run = min 7 (bars t); side = side_of_run (bars t) t }

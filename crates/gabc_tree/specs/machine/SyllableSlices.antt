@@ -1,4 +1,4 @@
--- A syllable by the slices of which its nodes are made.
+-- The slices of a syllable of which its nodes are made.
 use Rattle.std.specs.Prelude.{◌≡◌, ℕ, List, [], ◌∷◌, Bool, cond}
 use Rattle.gabc_text.specs.BuiltText.{empty_view}
 use Rattle.gabc_body.specs.Syllable.{PlacedSyllable}

@@ -1,4 +1,4 @@
--- What the tokens before a place of a text have shown, as it is kept while its nodes are made.
+-- Facts about the tokens before a place of a text, as they are kept while its nodes are made.
 use Rattle.std.specs.Prelude.{ℕ, List, Bool, true, false, not, ◌&&◌, ◌||◌, is_some, Option}
 use Rattle.std.specs.List.{list_any}
 use Rattle.gabc_text.specs.declared.styles.Style.TheVariants.{B, C, E, I, Sc, Tt, Ul}
@@ -15,7 +15,7 @@ use Rattle.gabc_nodes.specs.declared.node.Node.{Node}
 use Rattle.gabc_tree.specs.declared.text_nodes.Before.{Before}
 use Rattle.gabc_tree.specs.TextNodes.{node_by, numbers}
 
--- what these tokens have shown
+-- the facts about these tokens
 abbrev pub shown_by : List Token → Before
 shown_by before = record {
   styles = styles_of before;
@@ -37,13 +37,13 @@ styles_past s e = record {
   ul = is_open_after Ul e s.ul;
 }
 
--- and a tag that does this
+-- with a tag of this effect added
 abbrev pub shown_past_tag : Before → TagEffect → Before
 shown_past_tag f Mark = record f { blank = false }
 shown_past_tag f Other = record f { word = true; blank = false }
 shown_past_tag f e = record f { styles = styles_past f.styles e }
 
--- and one more token of this kind, whose tag does this
+-- with a token of this kind added, and the effect of its tag
 abbrev pub shown_past : Before → TokenKind → TagEffect → Before
 shown_past f Letter e = record f { word = true; blank = false }
 shown_past f Raw e = record f { word = true; blank = false }
@@ -63,7 +63,7 @@ has_piece ks = list_any (λ k. is_some (piece_kind k.kind k.effect)) ks
 abbrev pub is_blank_piece : Before → TokenKind → List TextToken → Bool
 is_blank_piece f k after = (is_space k && (f.word && not f.blank)) && has_piece after
 
--- the node of a token that is spelled so, after what was shown and before these
+-- the node of a token with this spelling, after tokens with these facts and before these tokens
 abbrev pub node_after : Before → TextToken → List ℕ → List TextToken → Option Node
 node_after f k s after =
     node_by k.span (numbers f.styles f.begun f.ended) (is_blank_piece f k.kind after) (not f.translated) s k.kind k.effect

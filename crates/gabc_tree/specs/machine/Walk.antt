@@ -8,14 +8,14 @@ use Rattle.gabc_tree.specs.InputPlaces.{byte_from, byte_in}
 use Rattle.gabc_tree.specs.NotKept.{is_before, start}
 use Rattle.gabc_tree.specs.declared.place_reader.Walk.{Walk}
 
--- it stands at the beginning of the text
+-- it is at the beginning of the text
 pub record IsFresh (text : List ℕ) (w : Walk) : Type 0 where
   pub rest : w.rest.now ≡ text
   pub byte : w.byte ≡ 0
   pub previous : w.previous ≡ 0
   pub here : w.here ≡ start
 
--- the place after a character that stands there: the same if it is left out
+-- the place after a character at that place: the same if it is left out
 abbrev pub here_past : Place → ℕ → Bool → Place
 here_past here c left_out = cond left_out here (saturating_next_place here (read_as c))
 

@@ -1,4 +1,4 @@
--- The first bytes of a text, and how many it has.
+-- The first bytes of a text, and the number of all.
 use Rattle.std.specs.Prelude.{◌≡◌, ℕ, ◌-◌, ◌^◌, min, List, length, take}
 use Rattle.gregorio_c.specs.declared.first_bytes.FirstBytes.{FirstBytes}
 

@@ -1,4 +1,4 @@
--- What is found in a score.
+-- The findings of a score.
 use Rattle.std.specs.Prelude.{◌≡◌, ℕ, List, [], false}
 use Rattle.gabc_score.specs.declared.whole.ScoreRest.{ScoreRest}
 use Rattle.gregorio.specs.declared.outcome.Outcome.{Outcome}

@@ -1,4 +1,4 @@
--- What the calls of a run in pieces put, each after what was put before.
+-- The bytes that the calls of a run in pieces put, each after those before.
 use Rattle.std.specs.Prelude.{◌≡◌, ◌==◌, ℕ, List, ◌++◌, take, if◌then◌else◌}
 use Rattle.gabc_places.specs.declared.limits.Limits.{Limits}
 use Rattle.gregorio_jobs.specs.declared.job.Job.{Job}

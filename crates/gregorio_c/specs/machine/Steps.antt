@@ -1,4 +1,4 @@
--- What private calls make of an engine, for the steps of a run in pieces.
+-- The results of private calls on an engine, for the steps of a run in pieces.
 use Rattle.std.specs.Prelude.{◌≡◌, ◌≢◌, ℕ, ◌≤◌, ◌⊎◌, List, [], ◌++◌, Option}
 use Rattle.gabc_places.specs.declared.code.Fault.{Fault}
 use Rattle.gabc_places.specs.declared.limits.Limits.{Limits}
@@ -22,12 +22,12 @@ pub record StandsAlone (job : Job) (limits : Limits) (bytes : List ℕ) (left : 
   pub stands : StandsFor job limits bytes left
   pub alone : (other : Writes) → StandsFor job limits bytes other → (ending : SourceEnding) (more : List ℕ) → left ending more ≡ other ending more
 
--- what a step makes of a piece
+-- the result of a step that feeds a piece
 pub record FedAs (job : Job) (limits : Limits) (left : Writes) (piece : List ℕ) (made : Made) : Type 0 where
   pub on : made.number ≡ goes_on → GoesOn job limits left piece made
   pub over : made.number ≢ goes_on → IsStopped left piece made
 
--- what a step makes of the end of an input
+-- the result of a step at the end of an input
 pub record EndedAs (ending : SourceEnding) (left : Writes) (made : Made) : Type 0 where
   pub status : Status
   pub fault : Option Fault

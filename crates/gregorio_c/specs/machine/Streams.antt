@@ -1,4 +1,4 @@
--- What a run over a score writes.
+-- The texts that a run over a score writes.
 use Rattle.std.specs.Prelude.{◌≡◌, ℕ, List, length}
 use Rattle.gabc_places.specs.declared.limits.Limits.{Limits}
 use Rattle.gregorio.specs.declared.source_ending.SourceEnding.TheVariants.{Whole}
