@@ -153,16 +153,17 @@ fn read_decoded(
 
 impl Engine {
     /// Returns an engine for `job` under `limits`, before the first byte of its input, and reserves
-    /// the memory that it ever takes. It fails only for want of memory. The ends that `job` names
-    /// are not opened: its format, the name of its input and whether it wants warnings are all that
-    /// counts.
+    /// all the memory that it needs. Fails only if memory cannot be allocated. The files that `job`
+    /// names are not opened: only its format, the name of its input and whether warnings are
+    /// reported count.
     ///
     /// Whatever bytes come, and however they end, it writes the output and the messages of a run
     /// over them, and ends with the status and the fault of this run. It runs, and nothing waits.
     /// No call changes its job or its limits.
     ///
     /// Names of headers are hashed with fixed keys. If strangers choose the names, they can choose
-    /// them so that the headers are read slowly (see docs/BENCHMARKS.md): take `with_hasher` there.
+    /// them so that the headers are read slowly (see docs/BENCHMARKS.md): use `with_hasher` for
+    /// these.
     pub fn new(alloc: Global, job: &Job, limits: Limits) -> Result<Engine, AllocError>
         ensures all { IfOk result (λ engine. (bytes : List ℕ) (ending : EndOfSource) →
             streams_left engine ending bytes

@@ -317,17 +317,17 @@ fn engine_in_score(
 }
 
 impl Engine {
-    /// Returns an engine that goes on where the run stood whose saved state is `bytes`, as
-    /// `save_into` wrote it. It runs, nothing waits, and it saves these bytes. The format of `job`,
-    /// whether it wants warnings, and `limits` have to be those of that run. The name of the input
-    /// is that of `job`: it stands in no state.
+    /// Returns an engine that resumes the run whose saved state is `bytes`, as `save_into` wrote
+    /// it. It runs, nothing waits, and it saves these bytes. The format of `job`, whether it
+    /// reports warnings, and `limits` have to be those of that run. The name of the input is that
+    /// of `job`: no state has it.
     ///
-    /// The error is K0 for want of memory, whenever that is met; else K1 exactly if `bytes` are no
-    /// saved state; else K2: the state is one of another format, of other limits, or of a run that
-    /// wants warnings while `job` does not, or the other way round. The texts of a state of another
-    /// run are read in memory of their own, which is no larger than they need, though no clause
-    /// counts it: only for one of `job` under `limits` is that of an engine asked for. Names of
-    /// headers are hashed as in `new`.
+    /// Fails with K0 if memory cannot be allocated, whenever that is met; else with K1 exactly if
+    /// `bytes` are no saved state; else with K2: the state is one of another format, of other
+    /// limits, or of a run that reports warnings while `job` does not, or the other way round. The
+    /// texts of a state of another run are read in memory of their own, which is no larger than
+    /// they need, though no clause counts it: the memory of an engine is allocated only for a state
+    /// of `job` under `limits`. Names of headers are hashed as in `new`.
     pub fn restore(
         alloc: Global,
         job: &Job,
