@@ -23,8 +23,8 @@ ghost use Rattle.gabc_body.specs.declared.events.BodyEvent.{BodyEvent};
 ghost use Rattle.gabc_body.specs.declared.ending.InputEnding.{InputEnding};
 ghost use Rattle.gabc_body.specs.witness.TextsByKept.{TextsGoByKept};
 
-/// Law: the lists of what a text emits go by what is kept of it, where no count of the text reaches
-/// its last value.
+/// Law: the lists of events of a text follow from what is kept of it, if no count of the text
+/// reaches its last value.
 pub fn texts_go_by_kept()
     ensures { TextsGoByKept }
 {

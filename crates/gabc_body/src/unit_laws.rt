@@ -67,8 +67,8 @@ pub fn the_canonical_text_of_a_unit_is_a_text()
     gabc_text::laws::spans_stand_for_the_view();
 }
 
-/// Law: which spans are open after a syllable of units follows from its text and from those that
-/// are open after the one before it. Before the first none is.
+/// Law: the spans that are open after a syllable of units follow from its text and from those that
+/// are open after the one before it. Before the first none is open.
 pub fn spans_follow_one_another()
     ensures first { (lines : ℕ) (units : List ScoreUnit) (syllables after : List PlacedSyllable)
         (s : PlacedSyllable) → AreSyllablesOf lines units syllables → syllables ≡ s ∷ after
