@@ -1,4 +1,4 @@
-//! What the machine of the headers emits.
+//! The events of the machine of the headers.
 
 use gabc_places::{Place, Span};
 
@@ -38,7 +38,7 @@ pub(crate) enum HeaderEnding {
     },
 }
 
-/// What is emitted of the headers of a text.
+/// The events of the headers of a text, and their ending.
 #[derive(Drop)]
 pub(crate) struct HeaderEvents {
     pub events: Vec<HeaderEvent>,
