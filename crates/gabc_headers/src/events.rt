@@ -22,8 +22,7 @@ pub(crate) enum HeaderEvent {
 /// `open_line`.
 #[derive(Clone, Copy, Debug)]
 pub(crate) enum HeaderEnding {
-    /// At the line `%%`, whose first character stands at `place`. The body begins at the byte
-    /// `body`.
+    /// At the line `%%`, whose first character is at `place`. The body begins at the byte `body`.
     Score {
         place: Place,
         body: usize,

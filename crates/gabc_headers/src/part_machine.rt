@@ -71,7 +71,7 @@ pub(crate) enum PartState {
 }
 
 /// A machine of lines. `line` is the current one, from 1; `header` and `name` are those of the
-/// value in which it stands, the name unless its header is left out.
+/// value in which it is, the name unless its header is left out.
 #[derive(Clone, Copy)]
 pub(crate) struct PartMachine {
     pub state: PartState,

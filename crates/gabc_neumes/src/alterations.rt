@@ -12,11 +12,11 @@ use std::marker::Model;
 /// The number of heights of pitches: from 0 for `a` to 14 for `p`.
 const HEIGHTS: usize = 15;
 
-/// The clef and the alterations that are in force at a place of a score. It asks for no memory.
+/// The clef and the alterations that are in force at a place of a score. It does not allocate.
 ///
-/// What stands in the score is passed in its order: the start of each word by `start_word`, before
-/// the first item of the syllable that begins it, and each item of the notes by `pass`. Contracts
-/// see the clef and the alteration of each height.
+/// The parts of the score are passed in their order: the start of each word by `start_word`, before
+/// the first item of the syllable that begins it, and each item of the notes by `pass`. In
+/// contracts it is the clef and the alteration of each height.
 #[derive(Clone, Copy, Debug)]
 pub struct Alterations {
     clef: Option<Clef>,

@@ -44,7 +44,7 @@ impl NoteEnd {
     }
 }
 
-/// An event: what a stage emits of a snippet.
+/// An event of a snippet.
 #[derive(Clone, Copy, Debug, PartialEq, Eq)]
 pub enum NoteEvent {
     /// A kept character.

@@ -24,8 +24,8 @@ use crate::{Room, Stage};
 use arrayvec::ArrayVec;
 use std::marker::Model;
 
-/// Reads an input's bytes one at a time: emits each character of the text with its place, and what
-/// stops the text. It asks for no memory.
+/// Reads an input's bytes one at a time: emits each character of the text with its place, and the
+/// fault that stops the text. It does not allocate.
 ///
 /// Together these are the text and the fault of `text_of`. A character is emitted with its last
 /// byte, and F7 with the first byte past the limit. A source that fails is not ended: then an
@@ -240,9 +240,9 @@ impl Decoder {
         self.pending.is_empty() && self.previous == '\r'
     }
 
-    /// Returns how many bytes `skip_text` may take now: as many as are left to the limit, or 0
-    /// where the decoder has stopped or a character is not whole. A column that is counted on for
-    /// as many characters fits a `u64`.
+    /// Returns the number of bytes that `skip_text` may take: as many as are left to the limit, or
+    /// 0 if the decoder has stopped or a character is not whole. A column counted on for as many
+    /// characters fits a `u64`.
     pub fn most_skipped(&self) -> usize
         ensures most { result ≡ most_skipped_by self.now }
         ensures column { self.now.place.column + result < 2 ^ 64 }

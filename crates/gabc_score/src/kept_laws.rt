@@ -1,5 +1,5 @@
 //! Laws of kept texts that are read by themselves. Each function is there for its clauses, and
-//! calls the laws on which it stands.
+//! calls the laws on which it rests.
 
 ghost use Rattle.std.specs.Prelude.{◌≡◌, ◌↔◌, ◌≤◌, ◌<◌, ◌^◌, ℕ, List, Bool, length, encode_utf8_all};
 ghost use Rattle.std.specs.Char.{IsScalar};
@@ -21,7 +21,7 @@ ghost use Rattle.gabc_score.specs.witness.ScoreStage.{ScoreStageState};
 
 use crate::stage_laws;
 
-/// Law: the laws of the stages of texts and snippets on which the reading of a kept text stands.
+/// Law: the laws of the stages of texts and snippets on which the reading of a kept text rests.
 pub(crate) fn laws_of_stages()
     ensures { StageLaws }
 {

@@ -51,7 +51,7 @@ impl SlotPair {
 }
 
 impl BodyStage {
-    /// Begins to read a text, whose first character stands at `at`.
+    /// Begins to read a text, whose first character is at `at`.
     pub(crate) fn begin_text(&mut self, at: Place)
         ensures text { self.new ≡ record self.old { part = BodyPart.Text (fresh_stage at) } }
         ensures counts { CountsHold self.new.part nothing_open }

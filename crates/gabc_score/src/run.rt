@@ -91,8 +91,8 @@ fn find<'a>(
     })
 }
 
-/// Returns whether the lines and columns of `text`, whose first character stands at `at`, are far
-/// below the last value of a `u64`.
+/// Returns whether the lines and columns of `text`, whose first character is at `at`, are far below
+/// the last value of a `u64`.
 fn is_low(at: Place, text: &str) -> bool
     ensures line { result ≡ true → at.line + length text.now < 2 ^ 63 }
     ensures column { result ≡ true → at.column + length text.now < 2 ^ 63 }

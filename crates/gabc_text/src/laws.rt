@@ -142,11 +142,11 @@ pub fn canonical_is_printed()
         ≡ encode_utf8_all (text_of_tokens (text_tokens (view_facts t))) }
 {}
 
-/// Law: what is printed of a view is the printed form of what its text says, whatever whole text
-/// the view's spans count the bytes of: that of the text alone, or of a syllable. In front of a
-/// `(`, and whatever follows, it is read again as the same view: it ends at that `(`, says the
-/// same, and has no error. All of it is kept, the LF before a word as a blank. What is printed of
-/// the view that is read again, is the same.
+/// Law: the printed form of a view is that of its text's facts, whatever whole text the view's
+/// spans count the bytes of: that of the text alone, or of a syllable. Before a `(`, and whatever
+/// follows, it is read again as the same view: it ends at that `(`, says the same, and has no
+/// error. All of it is kept, the LF before a word as a blank. The printed form of the view that is
+/// read again is the same.
 pub fn view_again()
     ensures printed { (whole t : List ℕ) → StandsForView whole (view_in t) t →
         printed_view (view_in t) (encode_utf8_all whole) ≡ encode_utf8_all (print (view_facts t)) }
@@ -225,8 +225,8 @@ pub fn a_text_says_what_is_kept()
     ensures { (t : List ℕ) → view_of_kept (kept t) ≡ view_in t }
 {}
 
-/// Law: what becomes of a character that begins a token, and what is found with a tag, with the `[`
-/// of a translation and at the end, follows from what is kept of the text before.
+/// Law: the fate of a character that begins a token, and the findings of a tag, of the `[` of a
+/// translation and of the end, follow from what is kept of the text before.
 pub fn fates_in_text()
     ensures fate { (t : List ℕ) (c : ℕ) → let before = reverse (tokens (kept t)) in
         belongs before c ≡ false → fate_in_text before c ≡ fate_of_token (reverse (tokens t)) c }

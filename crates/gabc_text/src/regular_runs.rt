@@ -15,8 +15,8 @@ fn is_special_byte(byte: u8) -> bool
     is_special(char::from(byte))
 }
 
-/// Returns whether `byte` is a letter by itself: it is of ASCII, and printed as it stands. Most are
-/// small letters.
+/// Returns whether `byte` is a letter by itself: it is of ASCII, and printed as it is written. Most
+/// are small letters.
 #[inline(always)]
 fn is_letter_byte(byte: u8) -> bool
     ensures { result ≡ is_letter_byte byte }

@@ -9,7 +9,7 @@ use crate::styles::Style;
 /// The kind of a token of a text.
 #[derive(Clone, Copy, Debug, PartialEq, Eq)]
 pub enum TokenKind {
-    /// A character that stands for itself, with its `$` if it has one.
+    /// A character that is printed as itself, with its `$` if it has one.
     Letter,
     /// A blank.
     Blank,

@@ -69,7 +69,7 @@ fn letter_of(text: &[u8]) -> u8
     }
 }
 
-/// Returns the small letter of the pitch of `text`, a note: a `-` may stand before it.
+/// Returns the small letter of the pitch of `text`, a note: a `-` may come before it.
 fn letter_of_note(text: &[u8]) -> u8
     ensures { result ≡ pitch_letter (height_at (from_pitch text.now)) }
 {

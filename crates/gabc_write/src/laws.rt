@@ -1,5 +1,5 @@
-//! Laws of the definitions alone. Each function's contract is a law; its body calls the laws below
-//! that it stands on.
+//! Laws of printed texts, and of the syllable that a stage holds. Each function's contract is a
+//! law; its body does nothing, or calls other laws that it rests on.
 
 ghost use Rattle.std.specs.Prelude.{◌≡◌, ◌≤◌, ◌<◌, ◌+◌, ◌*◌, ◌^◌, ◌⊎◌, ◌++◌, ◌∷◌, [], ℕ, Bool, List, length, true, false, Some, Ok, encode_utf8_all, is_some, IfSome, IsUtf8};
 ghost use Rattle.std.specs.List.{All};
