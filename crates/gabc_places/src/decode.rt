@@ -48,7 +48,7 @@ pub fn valid_front(bytes: &[u8]) -> &str
     text
 }
 
-/// Returns the longest prefix of `bytes` that is UTF-8, and what its tail is.
+/// Returns the longest prefix of `bytes` that is UTF-8, and its tail.
 pub(crate) fn prefix_and_tail(bytes: &[u8]) -> (&str, Tail)
     ensures text { chars result.0.now ≡ utf8_prefix bytes.now }
     ensures front { result.0.now ≡ take (length result.0.now) bytes.now }

@@ -59,8 +59,8 @@ pub(crate) fn nothing_is_kept_back(engine: &Engine)
     let _ = engine.writer.ended();
 }
 
-/// Law: the texts that a stage over a score reports in the body are in UTF-8 and are read as it
-/// reports.
+/// Law: the texts that a stage over a score reports in the body are read as it reports, if they are
+/// in UTF-8.
 fn texts_of_a_score_are_read(score: &ScoreStage)
     requires body { score.now.part ≡ Body }
     requires texts { IsUtf8 (held_text score.now.before (held_of score.now))

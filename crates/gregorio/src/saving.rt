@@ -183,8 +183,8 @@ impl Engine {
 
     /// Writes the saved state of the run to the front of `buf`, and returns its length in bytes;
     /// the rest of `buf` is unchanged. Fails if `buf` has fewer bytes than the state, and then
-    /// `buf` is unchanged. It does not fail with 128 bytes and the limit of the headers, or 128 and
-    /// twice the limit of a syllable, whichever is more. The bytes written are a state: its fields
+    /// `buf` is unchanged. It does not fail if `buf` has 128 bytes more than the limit of the
+    /// headers, and than twice the limit of a syllable. The bytes written are a state: its fields
     /// meet their conditions, and its texts are read as it says. Its headers have the place and the
     /// errors that it reports; or the held text, read by itself, is one syllable of which it is the
     /// canonical text, and the kept text is kept again, with the brackets and the comment open
