@@ -52,19 +52,19 @@ is_full limit head made = not (is_none made) && nat_lt limit (head + canonical_b
 abbrev pub code_by : Limits → ℕ → List UnplacedSyllable → List ℕ → Option Code
 code_by limits head made kept = cond (is_over limits.syllable made kept) (Some F5) (cond (is_full limits.input head made) (Some F7) None)
 
--- which limit is passed where this was emitted
+-- the code of the limit that is passed where this was emitted, if one is
 abbrev pub code_at : Limits → ℕ → List BodyEvent → Option Code
 code_at limits head before = code_by limits head (all_syllables before) (kept_of (since_close before))
 
 -- ---- the stop
 
--- what was emitted, with what is emitted next
+-- the events so far, with the next ones
 abbrev pub events_onto : List BodyEvent → List BodyEvent → List BodyEvent
 events_onto [] before = before
 events_onto (t ∷ now) before = events_onto now (t ∷ before)
 
--- what was emitted before the stop, the fault that stops the reading at a character, and what is
--- emitted at the end
+-- the events before the stop, the fault that stops the reading at a character, and the events of
+-- the end
 pub record EventsToStop : Type 0 where
   pub before : List BodyEvent
   pub fault : Option Fault
@@ -77,7 +77,8 @@ abbrev pub stopped_events : Option Code → Place → List BodyEvent → EventsT
 stopped_events (Some code) place before later = record { before = before; fault = Some (fault_at place code); last = [] }
 stopped_events None place before later = later
 
--- The stop is the first point at which a limit is passed. What has its point there is not emitted.
+-- The stop is the first point at which a limit is passed. Events that have their point there are
+-- not emitted.
 abbrev pub events_to_stop : Limits → ℕ → List BodyEvent → List Char → List (List BodyEvent) → EventsToStop
 events_to_stop limits head before [] lists = record { before = before; fault = None; last = concat_of lists }
 events_to_stop limits head before (x ∷ xs) [] = record { before = before; fault = None; last = [] }
@@ -130,7 +131,7 @@ last_syllable before = record {
 abbrev pub all_units : List BodyEvent → List UnplacedSyllable
 all_units before = cond (has_last before) (all_syllables before ++ last_syllable before ∷ []) (all_syllables before)
 
--- what is found at the end, at this place: a text without notes, and a span that is open
+-- the findings of the end, at this place: a text without notes, and an open span
 abbrev pub found_at_end : Place → List BodyEvent → List Finding
 found_at_end at before =
     cond (has_last before) (record { place = at; code = W9 } ∷ []) []
@@ -143,7 +144,7 @@ fault_of_end limits head at before None = option_map (fault_at at) (code_by limi
 
 -- ---- the body
 
--- what a body says that is stopped, where this was found in the headers
+-- the content of a body that is stopped, with these findings of the headers
 abbrev pub result_stopped : List Finding → List BodyEvent → Option Fault → BodyResult
 result_stopped found before fault = record { syllables = with_positions (all_syllables before); findings = found ++ findings_of before; fault = fault }
 
@@ -154,7 +155,7 @@ result_whole found at before = record {
   fault = None;
 }
 
--- the fault of the end, if there is one, hides what has its point at the end
+-- the fault of the end, if there is one, hides the events that have their point at the end
 abbrev pub result_by_fault : List Finding → Place → List BodyEvent → List BodyEvent → Option Fault → BodyResult
 result_by_fault found at before all (Some fault) = result_stopped found before (Some fault)
 result_by_fault found at before all None = result_whole found at all
@@ -168,9 +169,9 @@ abbrev pub result_by : Limits → ℕ → List Finding → Place → InputEnding
 result_by limits head found at ending before last (Some fault) = result_stopped found before (Some fault)
 result_by limits head found at ending before last None = result_at_end limits head found at ending before (events_onto last before)
 
--- What a body says with these characters, of which these lists are emitted, and whose end is at
--- this place. `head` are the bytes of the canonical headers with `%%`, and `found` is what was
--- found in the headers.
+-- The content of a body of these characters, which have these lists of events, and whose end is at
+-- this place. `head` is the number of bytes of the canonical headers with `%%`, and `found` has the
+-- findings of the headers.
 abbrev pub body_of : Limits → ℕ → List Finding → Place → InputEnding → List Char → List (List BodyEvent) → BodyResult
 body_of limits head found at ending xs lists =
     let r = events_to_stop limits head [] xs lists in

@@ -1,4 +1,4 @@
--- The canonical text of a syllable, and where in its word it stands.
+-- The canonical text of a syllable, and its position in its word.
 use Rattle.std.specs.Prelude.{◌≡◌, ◌≤◌, ℕ, ◌||◌, List, [], ◌∷◌, ◌++◌, Bool, true, false, cond, length, drop, Option, Some, None, codes}
 use Rattle.std.specs.List.{sum_by}
 use Rattle.gabc_places.specs.declared.place.Span.{Span}
@@ -28,12 +28,12 @@ canonical starts m =
     ++ (translation_text m.kept m.text.translation
     ++ (codes "(" ++ (with_bars m.kept m.snippets ++ codes ")"))))
 
--- From this byte on what is kept of a syllable is its canonical text but for the LF before a word.
+-- From this byte on the kept text of a syllable is its canonical text but for the LF before a word.
 pub record IsKeptFrom (n : ℕ) (m : UnplacedSyllable) : Type 0 where
   pub within : n ≤ length m.kept
   pub rest_is : canonical false m ≡ drop n m.kept
 
--- the same of a byte, where one is known
+-- the same of a byte, if one is known
 abbrev pub StandsFrom : Option ℕ → UnplacedSyllable → Type 0
 StandsFrom None m = Unit {0}
 StandsFrom (Some n) m = IsKeptFrom n m
@@ -57,14 +57,14 @@ position_by true false = Beginning
 position_by false true = End
 position_by false false = Middle
 
--- whether a syllable that stands there begins its word
+-- whether a syllable at this position begins its word
 abbrev pub starts_word : Position → Bool
 starts_word One = true
 starts_word Beginning = true
 starts_word Middle = false
 starts_word End = false
 
--- the canonical text of a syllable that stands there
+-- the canonical text of a syllable at its position
 abbrev pub canonical_in_place : PlacedSyllable → List ℕ
 canonical_in_place s = canonical (starts_word s.position) s.made
 

@@ -1,4 +1,4 @@
--- What a text says as a score.
+-- The score of a text.
 use Rattle.std.specs.Prelude.{ℕ, ◌+◌, List, [], Bool, true, false, take, drop, Option, Some, None, Result, Ok, Err}
 use Rattle.gabc_places.specs.declared.code.Fault.{Fault}
 use Rattle.gabc_places.specs.declared.limits.Limits.{Limits}
@@ -31,7 +31,8 @@ body_in limits ending t heads =
 abbrev pub with_body : Heads → BodyResult → Score
 with_body heads body = record { book = Some heads.book; syllables = body.syllables; findings = body.findings; fault = body.fault }
 
--- A fault of the headers that has the end as its point gives way to what ended the text.
+-- A fault of the headers that has the end as its point gives way to the way in which the text
+-- ended.
 abbrev pub head_fault_by : InputEnding → Bool → Fault → Option Fault
 head_fault_by ending false fault = Some fault
 head_fault_by Whole true fault = Some fault

@@ -30,8 +30,8 @@ use Rattle.gabc_body.specs.Score.{head_fault_by}
 use Rattle.gabc_body.specs.Syllable.{UnplacedSyllable, PlacedSyllable, all_syllables}
 use Rattle.gabc_body.specs.SyllablesOfUnits.{body_characters}
 
--- What a score emits, with the syllable itself where the code names the slot that holds it. After a
--- stop or the end comes nothing.
+-- An output of a score, with the syllable itself where the code names the slot that holds it. After
+-- a stop or the end comes nothing.
 pub data ScoreOutput : Type 0 where
   Found : Finding → ScoreOutput
   Stop : Fault → ScoreOutput
@@ -62,7 +62,7 @@ findings_now now = findings_of (events_onto now [])
 abbrev pub outputs_of : List Finding → List PlacedSyllable → List ScoreOutput
 outputs_of findings syllables = map (λ f. Found f) findings ++ map (λ s. Syllable s) syllables
 
--- what is emitted at a character at which no limit is passed
+-- the outputs at a character at which no limit is passed
 abbrev pub outputs_at : List BodyEvent → List BodyEvent → List ScoreOutput
 outputs_at before now = outputs_of (findings_now now) (given_now (count_made before) (all_syllables (events_onto now before)))
 
@@ -70,7 +70,7 @@ outputs_at before now = outputs_of (findings_now now) (given_now (count_made bef
 abbrev pub held_output : List BodyEvent → List ScoreOutput
 held_output before = outputs_of [] (not_given (count_made before) (all_syllables before))
 
--- what is emitted at a stop
+-- the outputs at a stop
 abbrev pub outputs_at_stop : List BodyEvent → Fault → List ScoreOutput
 outputs_at_stop before fault = held_output before ++ Stop fault ∷ []
 
@@ -146,11 +146,11 @@ head_events_by ending t (Ok heads) =
     map (λ f. head_event.Found f) heads.findings ++ event_of_book heads.book ∷ (map (λ x. head_event.Body x) (body_characters t) ++ ending_events ending)
 head_events_by ending t (Err stop) = map (λ f. head_event.Found f) stop.findings ++ stop_events (head_fault_by ending stop.at_end stop.fault)
 
--- what a header stage gives of a text that ended so
+-- the events of a header stage for a text with this ending
 abbrev pub head_events : Limits → InputEnding → List ℕ → List HeadEvent
 head_events limits ending t = head_events_by ending t (heads_of limits t)
 
--- what is emitted of a text that ended so, in order
+-- the outputs for a text with this ending, in order
 abbrev pub outputs_of_text : Limits → InputEnding → List ℕ → List ScoreOutput
 outputs_of_text limits ending t = concat_of (score_outputs texts_by_definition limits (head_events limits ending t))
 

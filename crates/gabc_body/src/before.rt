@@ -1,20 +1,21 @@
-//! What stands before a syllable in its score.
+//! The context of a syllable in its score.
 
-/// Which spans are open (GregorioRef, "Syllable Text Syntax").
+/// The open spans (GregorioRef, "Syllable Text Syntax").
 #[derive(Clone, Copy, Debug, PartialEq, Eq)]
 pub struct Spans {
-    /// Whether the span that `<eu>` opens is.
+    /// Whether the span of `<eu>` is open.
     pub eu: bool,
-    /// Whether the span that `<nlba>` opens is.
+    /// Whether the span of `<nlba>` is open.
     pub nlba: bool,
 }
 
-/// What stands before a syllable in its score.
+/// The context of a syllable in its score: the numbers of the headers, and the totals of the
+/// syllables before it.
 #[derive(Clone, Copy, Debug, PartialEq, Eq)]
 pub struct Before {
     /// The number of NABC lines under each GABC snippet.
     pub nabc_lines: u8,
-    /// The macros that are defined: the bit `d` stands for that of the digit `d`.
+    /// The defined macros: the bit `d` says that the macro of the digit `d` is defined.
     pub macros: u16,
     /// The number of syllables, a count that saturates at the last value of a `u64`.
     pub syllables: u64,

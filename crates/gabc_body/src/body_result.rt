@@ -1,16 +1,16 @@
-//! What a body says.
+//! The content of a body.
 
 use crate::syllables::Syllables;
 use gabc_places::{Fault, Findings};
 
-/// What the body of a score says: its whole syllables, what was found, and what stopped the
+/// The content of a body: its whole syllables, the findings, and the fault that stopped the
 /// reading.
 #[derive(Drop)]
 pub struct BodyResult {
     /// The whole syllables.
     pub syllables: Syllables,
-    /// What was found before the stop, in the order of places.
+    /// The findings before the stop, in the order of places.
     pub findings: Findings,
-    /// What stopped the reading, if something did.
+    /// The fault that stopped the reading, if there is one.
     pub fault: Option<Fault>,
 }

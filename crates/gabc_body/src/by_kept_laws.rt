@@ -1,4 +1,4 @@
-//! Laws: what a body says is read by what is kept of it.
+//! Laws: the content of a body is read by what is kept of it.
 
 ghost use Rattle.std.specs.Prelude.{◌≡◌, ◌≤◌, ◌<◌, ◌^◌, ℕ, List, [], length, take, encode_utf8_all, None, is_some, ◌↔◌};
 ghost use Rattle.std.specs.List.{All};
@@ -23,8 +23,8 @@ ghost use Rattle.gabc_body.specs.declared.events.BodyEvent.{BodyEvent};
 ghost use Rattle.gabc_body.specs.declared.ending.InputEnding.{InputEnding};
 ghost use Rattle.gabc_body.specs.witness.TextsByKept.{TextsGoByKept};
 
-/// Law: the lists of what a text emits go by what is kept of it, where no count of the text reaches
-/// its last value.
+/// Law: the lists of events of a text follow from what is kept of it, if no count of the text
+/// reaches its last value.
 pub fn texts_go_by_kept()
     ensures { TextsGoByKept }
 {
@@ -35,8 +35,8 @@ pub fn texts_go_by_kept()
     gabc_text::laws::a_text_ends_once();
 }
 
-/// Law: what is read of a body by what is kept is what the body says by all that it emits, wherever
-/// it stands, if no count of it reaches its last value.
+/// Law: the content of a body read by what is kept of it is the one that follows from its events,
+/// wherever it begins, if no count of it reaches its last value.
 pub fn a_body_is_read_by_kept()
     ensures { (limits : Limits) (head lines macros : ℕ) (found : List Finding)
         (ending : InputEnding) (at : Place) (t : List ℕ) →
@@ -48,8 +48,8 @@ pub fn a_body_is_read_by_kept()
     texts_go_by_kept();
 }
 
-/// Law: what is read of a text by what is kept of it is what the score says by all that its body
-/// emits, if its characters are Unicode scalar values and it has fewer than 2^63 bytes.
+/// Law: the content of a score read by what is kept of it is the one that follows from the events
+/// of its body, if its characters are Unicode scalar values and it has fewer than 2^63 bytes.
 pub fn a_score_says_what_is_kept()
     ensures body { (limits : Limits) (ending : InputEnding) (t : List ℕ) (heads : Heads) →
         All IsScalar t → length (encode_utf8_all t) < 2 ^ 63 →
@@ -61,9 +61,9 @@ pub fn a_score_says_what_is_kept()
     texts_go_by_kept();
 }
 
-/// Law: of the first characters of a text, wherever it stands and after whatever was emitted, with
-/// no syllable begun and no bracket left open, the reading by what is kept makes the syllables that
-/// their events make, and keeps the same bytes of the one that is read.
+/// Law: from the first characters of a text, wherever it begins and after whatever was emitted,
+/// with no syllable begun and no bracket left open, the reading by what is kept makes the syllables
+/// that their events make, and keeps the same bytes of the one that is read.
 pub fn first_characters_are_read_by_kept()
     ensures { (lines macros : ℕ) (at : Place) (t : List ℕ) (before : List BodyEvent) (n : ℕ) →
         All IsScalar t → 1 ≤ at.line → CountsFit at t → since_close before ≡ [] →

@@ -11,7 +11,7 @@ use crate::syllable::Syllable;
 use gabc_places::{ByteCounter, Put};
 use gabc_text::write_text;
 
-/// Puts the LF that a word begins with, if it `starts` one.
+/// Puts the LF before a word, if the syllable `starts` one.
 fn put_start<S: Put>(starts: bool, out: &mut S)
     ensures { out.new ≡ S.taken out.old (cond starts (10 ∷ []) []) }
 {
@@ -78,8 +78,8 @@ fn put_parts<S: Put>(syllable: &Syllable, out: &mut S)
     put_notes(syllable, out);
 }
 
-/// Returns the number of bytes of the canonical text of `lent`, if it `starts` a word or not; it
-/// saturates at the last value of a `usize`.
+/// Returns the number of bytes of the canonical text of `lent`; it saturates at the last value of a
+/// `usize`. `starts` says whether the syllable begins a word.
 pub fn canonical_len(lent: LentSyllable<'_>, starts: bool) -> usize
     requires { StandsFrom lent.kept_from (unplaced_of lent.syllable.now) }
     ensures { result ≡ min (length (canonical starts (unplaced_of lent.entry.syllable.now))) (2 ^ 64 - 1) }
@@ -89,7 +89,7 @@ pub fn canonical_len(lent: LentSyllable<'_>, starts: bool) -> usize
     counter.count()
 }
 
-/// Puts the canonical text of `lent`, where it `starts` a word or not.
+/// Puts the canonical text of `lent`. `starts` says whether the syllable begins a word.
 fn put_starting<S: Put>(lent: LentSyllable<'_>, starts: bool, out: &mut S)
     requires { StandsFrom lent.kept_from (unplaced_of lent.syllable.now) }
     ensures { out.new ≡ S.taken out.old (canonical starts (unplaced_of lent.entry.syllable.now)) }
@@ -101,8 +101,8 @@ fn put_starting<S: Put>(lent: LentSyllable<'_>, starts: bool, out: &mut S)
     }
 }
 
-/// Puts the canonical text of `lent`, as `canon_syllable` does. Where it is known where that stands
-/// in the kept text, it is put as it is kept.
+/// Puts the canonical text of `lent`, as `canon_syllable` does. If it is known to be a part of the
+/// kept text, this part is put at once.
 pub fn canon_lent<S: Put>(lent: LentSyllable<'_>, out: &mut S)
     requires { StandsFrom lent.kept_from (unplaced_of lent.syllable.now) }
     ensures { out.new
@@ -113,8 +113,8 @@ pub fn canon_lent<S: Put>(lent: LentSyllable<'_>, out: &mut S)
 }
 
 /// Puts the canonical text of `syllable`, as many bytes as `canon_len` returns: an LF before a
-/// word, the text, the translation, and the notes. A room without that many bytes left gets as many
-/// of them as fit.
+/// word, the text, the translation, and the notes. A room with fewer bytes left takes as many of
+/// them as fit.
 pub fn canon_syllable<S: Put>(syllable: &Syllable, out: &mut S)
     ensures { out.new
         ≡ S.taken out.old (canonical (starts_word syllable.now.position)
@@ -123,8 +123,8 @@ pub fn canon_syllable<S: Put>(syllable: &Syllable, out: &mut S)
     canon_starting(syllable, syllable.starts_word(), out);
 }
 
-/// Puts the canonical text of `syllable` as `canon_syllable` does, where it `starts` a word or not,
-/// whatever its position says.
+/// Puts the canonical text of `syllable` as `canon_syllable` does, but `starts` says whether the
+/// syllable begins a word, whatever its position says.
 pub fn canon_starting<S: Put>(syllable: &Syllable, starts: bool, out: &mut S)
     ensures { out.new ≡ S.taken out.old (canonical starts (unplaced_of syllable.now)) }
 {

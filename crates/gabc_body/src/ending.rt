@@ -1,13 +1,13 @@
-//! How a text ended.
+//! The ways in which a text ends.
 
 use gabc_places::Fault;
 
-/// How the text of a score ended.
+/// The way in which the text of a score ended.
 #[derive(Clone, Copy, Debug, PartialEq, Eq)]
 pub enum InputEnding {
     /// At the end of the input.
     Whole,
-    /// Where the source failed.
+    /// At the failure of the source.
     Broken,
     /// At a fault of the input's bytes.
     At(Fault),

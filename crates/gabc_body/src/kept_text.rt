@@ -1,4 +1,4 @@
-//! Where the canonical text of a syllable is a part of its kept text.
+//! The canonical text of a syllable as a part of its kept text.
 
 ghost use Rattle.std.specs.Prelude.{◌≡◌, ◌≤◌, ◌++◌, ℕ, IsTrue, Some, codes, drop, length, string_bytes};
 ghost use Rattle.gabc_body.specs.Canonical.{with_bars, StandsFrom};
@@ -27,8 +27,8 @@ fn rest_is_snippets(kept: &[u8], snippets: &[Snippet], from: usize) -> bool
     end < kept.len() && end + 1 == kept.len() && kept[end] == b')'
 }
 
-/// Returns from which byte on the kept text of `syllable` is its notes in their brackets, if it
-/// ends with them.
+/// Returns the byte at which the notes of `syllable` in their brackets begin in its kept text, if
+/// it is known to end with them.
 #[inline(always)]
 #[tactic(auto, using(crate::proofs::SnippetsAsKept::notes_as_kept))]
 fn notes_from(syllable: &Syllable) -> Option<usize>
@@ -52,8 +52,8 @@ fn notes_from(syllable: &Syllable) -> Option<usize>
     }
 }
 
-/// Returns from which byte on the kept text of `syllable` is its canonical text but for the LF
-/// before a word, if it is.
+/// Returns the byte at which the canonical text of `syllable`, without the LF before a word, begins
+/// in its kept text, if the kept text is known to end with it.
 #[inline(always)]
 fn kept_from(syllable: &Syllable) -> Option<usize>
     ensures { StandsFrom result (unplaced_of syllable.now) }
@@ -72,12 +72,12 @@ fn kept_from(syllable: &Syllable) -> Option<usize>
     }
 }
 
-/// A whole syllable, and where its canonical text stands in its kept text.
+/// A whole syllable, with the beginning of its canonical text in its kept text.
 #[derive(Clone, Copy)]
 pub struct LentSyllable<'a> {
     pub syllable: &'a Syllable,
-    /// From which byte on its kept text is its canonical text but for the LF before a word. Where
-    /// it is not, or where that is not known, `None`.
+    /// The byte of its kept text from which on this is its canonical text without the LF before a
+    /// word; `None` if it is not, or if that is not known.
     pub kept_from: Option<usize>,
 }
 
@@ -86,7 +86,7 @@ impl<'a> LentSyllable<'a> {
     ghost use Rattle.gabc_body.specs.Canonical.{StandsFrom};
     ghost use Rattle.gabc_body.specs.Syllable.{placed_of, unplaced_of};
 
-    /// Returns `syllable`, and looks where its canonical text stands.
+    /// Returns `syllable`, and looks for its canonical text in its kept text.
     pub fn of(syllable: &'a Syllable) -> LentSyllable<'a>
         ensures placed { placed_of result.syllable.now ≡ placed_of syllable.now }
         ensures stands { StandsFrom result.kept_from (unplaced_of result.syllable.now) }

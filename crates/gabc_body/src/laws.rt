@@ -1,5 +1,5 @@
-//! Laws of the definitions that contracts speak of. The functions do nothing, or call the laws
-//! below that they stand on: each is there for its clauses.
+//! Laws of the definitions that contracts use. The functions do nothing, or call the laws below
+//! that they rest on: each is there for its clauses.
 
 ghost use Rattle.std.specs.Prelude.{◌≡◌, ◌≢◌, ◌+◌, ◌-◌, ◌*◌, ◌<◌, ◌≤◌, ◌^◌, ℕ, List, [], ◌∷◌, ◌++◌, length, take, ◌⊎◌, encode_utf8_all, Some, None, Err, Bool, true, false};
 ghost use Rattle.std.specs.Char.{IsScalar};
@@ -41,9 +41,9 @@ ghost use Rattle.gabc_headers.specs.HeadEvents.{emitted_by, inputs_after};
 ghost use Rattle.gabc_headers.specs.witness.HeadEvents.{events_left, reading};
 ghost use Rattle.gabc_places.specs.StageLaw.{concat_of};
 
-/// Law: each body has one cutting into a comment without an LF, units and what stands after the
-/// last `)`, however its texts are read: a text, or a text with its `(` and notes that never end.
-/// Each part ends at the first character whose list, read from where the part begins, has its end.
+/// Law: each body has one cutting into a comment without an LF, units and the text after the last
+/// `)`, however its texts are read: a text, or a text with its `(` and notes that never end. Each
+/// part ends at the first character whose list, read from the beginning of the part, has its end.
 pub fn a_body_has_one_cutting()
     ensures one { (texts : Texts) (lines macros : ℕ) (xs : List Char) → (cut : BodyCutting) ×
         IsCut texts lines macros xs cut }
@@ -52,14 +52,14 @@ pub fn a_body_has_one_cutting()
         IsCut texts lines macros xs other → cut ≡ other }
 {}
 
-/// Law: a body emits a list for each character, and one for its end. The point of what is emitted
-/// is the index of its list.
+/// Law: a body emits a list of events for each character, and one for its end. The point of an
+/// event is the index of its list.
 pub fn a_body_has_events_for_each_character()
     ensures { (lines macros : ℕ) (xs : List Char) →
         length (body_events lines macros xs) ≡ length xs + 1 }
 {}
 
-/// Law: what a body emits is what the parts of its units emit, one after the other: each through
+/// Law: the events of a body are those of the parts of its units, one after the other: each through
 /// the character that ends it.
 pub fn a_body_emits_the_events_of_its_units()
     ensures { (lines macros : ℕ) (xs : List Char) (cut : BodyCutting) →
@@ -82,7 +82,7 @@ pub fn units_end_at_their_marks()
 }
 
 /// Law: the findings of a score of fewer than 2^63 characters are sorted: by their places, those of
-/// one place by their codes, and none stands twice.
+/// one place by their codes, and none comes twice.
 pub fn findings_in_order()
     ensures { (limits : Limits) (ending : InputEnding) (t : List ℕ) → length t < 2 ^ 63 →
         AreInOrder (emitted_score limits ending t).findings }
@@ -146,7 +146,7 @@ pub fn snippets_stand_between_characters()
     a_syllable_holds_its_parts();
 }
 
-/// Law: what a score finds is an error or a warning: no finding is a fault.
+/// Law: a finding of a score is an error or a warning, and never a fault.
 pub fn findings_are_no_faults()
     ensures { (limits : Limits) (ending : InputEnding) (t : List ℕ)
         → All (λ (f : Finding). severity_of f.code ≢ Fatal) (emitted_score limits ending t).findings }
@@ -154,7 +154,7 @@ pub fn findings_are_no_faults()
     gabc_text::laws::findings_lie_within();
 }
 
-/// Law: a score whose headers, texts and snippets have no error has none: what is found are
+/// Law: a score whose headers, texts and snippets have no error has none: its findings are
 /// warnings.
 pub fn a_score_warns_as_its_parts_do()
     ensures { (limits : Limits) (ending : InputEnding) (t : List ℕ) (heads : Heads)
@@ -168,9 +168,9 @@ pub fn a_score_warns_as_its_parts_do()
     gabc_text::laws::findings_lie_within();
 }
 
-/// Law: where the reading of a body gets to the end, no limit is passed by what is emitted there:
-/// at its end a body keeps nothing and ends no syllable. So where the input ends inside notes, a
-/// tag, a raw part or a translation, F6 hides no F5 or F7 of the same point.
+/// Law: if the reading of a body gets to the end, no limit is passed by what is emitted there: at
+/// its end a body keeps nothing and ends no syllable. So if the input ends inside notes, a tag, a
+/// raw part or a translation, F6 hides no F5 or F7 of the same point.
 pub fn no_limit_is_passed_at_an_open_end()
     ensures { (limits : Limits) (head lines macros : ℕ) (xs : List Char)
         → (let r = events_to_stop limits head [] xs (body_events lines macros xs) in
@@ -249,8 +249,8 @@ pub fn a_stopped_score_is_that_of_its_prefix()
 }
 
 /// Law: the syllables of a score are within the limits, and so is its canonical file: no kept and
-/// no canonical text of a syllable has more bytes than a syllable may have, and the canonical file
-/// has no more than the input may have.
+/// no canonical text of a syllable has more bytes than the limit of a syllable, and the canonical
+/// file has no more than the limit of the input.
 pub fn given_syllables_are_within_the_limits()
     ensures { (limits : Limits) (ending : InputEnding) (t : List ℕ)
         (book : List (List ℕ × List ℕ))
@@ -293,9 +293,9 @@ pub fn no_limit_is_passed_by_short_units()
     gabc_text::laws::spans_stand_for_the_view();
 }
 
-/// Law: larger limits change nothing where neither the headers nor a syllable were too long: a text
-/// that is read, or that is stopped for another reason, says the same score under limits that are
-/// no less, if the input may be as long.
+/// Law: larger limits change nothing if neither the headers nor a syllable were too long: a text
+/// that is read, or that is stopped for another reason, has the same score under limits that are no
+/// less, if the limit of the input is the same.
 pub fn larger_limits_change_no_score()
     ensures { (limits larger : Limits) (ending : InputEnding) (t : List ℕ)
         → AreNoLess limits larger → limits.input ≡ larger.input
@@ -305,9 +305,9 @@ pub fn larger_limits_change_no_score()
     gabc_headers::laws::larger_limits_change_no_headers();
 }
 
-/// Law: what a score emits, character by character, is what the score says: no finding and no
+/// Law: the events of a score, character by character, make up its content: no finding and no
 /// syllable comes twice or is left out, the syllables have their positions, and a stop is the
-/// fault. The end is emitted where the input has ended and nothing stopped the reading.
+/// fault. The end is emitted if the input has ended and nothing stopped the reading.
 pub fn a_score_says_what_it_emits()
     ensures findings { (limits : Limits) (ending : InputEnding) (t : List ℕ) →
         findings_in (outputs_of_text limits ending t) ≡ (emitted_score limits ending t).findings }

@@ -1,19 +1,19 @@
-//! What a score says.
+//! The content of a score.
 
 use crate::syllables::Syllables;
 use gabc_headers::HeaderBook;
 use gabc_places::{Fault, Findings};
 
-/// What a score says: its headers, which are missing where a fault lies in them, its whole
-/// syllables, what was found, and what stopped the reading.
+/// The content of a score: its headers, which are missing if a fault lies in them, its whole
+/// syllables, the findings, and the fault that stopped the reading.
 #[derive(Debug, Drop)]
 pub struct Score {
-    /// The headers that count; none where a fault lies in the headers.
+    /// The headers that count; none if a fault lies in the headers.
     pub book: Option<HeaderBook>,
     /// The whole syllables.
     pub syllables: Syllables,
-    /// What was found before the stop, in the order of places.
+    /// The findings before the stop, in the order of places.
     pub findings: Findings,
-    /// What stopped the reading, if something did.
+    /// The fault that stopped the reading, if there is one.
     pub fault: Option<Fault>,
 }

@@ -5,7 +5,7 @@ ghost use Rattle.gabc_body.specs.Syllable.{slice, text_at};
 
 use gabc_places::Span;
 
-/// Returns the bytes of `span` in `kept`. What lies past the text has none.
+/// Returns the bytes of `span` in `kept`, without those past its end.
 pub(crate) fn slice_of(kept: &str, span: Span) -> &[u8]
     ensures { result.now ≡ slice span kept.now }
 {

@@ -27,5 +27,5 @@ impl Default for Snippet {
     }
 }
 
-/// The snippets of a syllable, in order. One needs no memory of its own.
+/// The snippets of a syllable, in order. One alone is not allocated.
 pub type Snippets = SmallVec<Snippet, 1>;

@@ -8,7 +8,7 @@ use gabc_places::{Memory, Span};
 use gabc_text::TextView;
 use std::alloc::AllocError;
 
-/// Where in its word a syllable stands. A syllable begins a word if blanks stand before its text
+/// The position of a syllable in its word. A syllable begins a word if blanks come before its text
 /// (GregorioRef, "Syllable Text Syntax"); the first one of a score does, and after the last one a
 /// word would begin.
 #[derive(Clone, Copy, Debug, PartialEq, Eq)]
@@ -17,7 +17,7 @@ pub enum Position {
     One,
     /// It begins a word of several syllables.
     Beginning,
-    /// It stands between the first and the last syllable of its word.
+    /// It is between the first and the last syllable of its word.
     Middle,
     /// It ends a word of several syllables.
     End,
@@ -27,7 +27,7 @@ impl Position {
     ghost use Rattle.std.specs.Prelude.{◌≡◌};
     ghost use Rattle.gabc_body.specs.Canonical.{starts_word};
 
-    /// Returns whether a syllable that stands there begins its word.
+    /// Returns whether a syllable at this position begins its word.
     pub fn starts_word(self) -> bool
         ensures { result ≡ starts_word self }
     {
@@ -41,14 +41,14 @@ impl Position {
 /// A text with its notes in parentheses (GregorioRef, "Syllable Text Syntax").
 #[derive(Debug, Drop)]
 pub struct Syllable {
-    /// What its text says.
+    /// The view of its text.
     pub text: TextView,
-    /// The text from the blanks before it to its `)`, without comments and what was left out. Spans
-    /// count its bytes.
+    /// The text from the blanks before it to its `)`, without comments and without characters left
+    /// out. Spans count its bytes.
     pub kept: String<Memory>,
     /// Its snippets, in order.
     pub snippets: Snippets,
-    /// Where in its word it stands.
+    /// Its position in its word.
     pub position: Position,
     /// Whether the span that `<eu>` opens is open at the end of its text (GregorioRef, "Syllable
     /// Text Syntax").
@@ -63,7 +63,7 @@ impl Syllable {
     ghost use Rattle.gabc_body.specs.Syllable.{unplaced_of, placed_of, slice, text_at};
     ghost use Rattle.gabc_body.specs.Canonical.{canonical, starts_word};
 
-    /// Returns the bytes of `span` in its kept text. What lies past the text has none.
+    /// Returns the bytes of `span` in its kept text, without those past its end.
     pub fn slice(&self, span: Span) -> &[u8]
         ensures { result.now ≡ slice span (string_bytes self.now.kept) }
     {
@@ -85,8 +85,8 @@ impl Syllable {
         self.position.starts_word()
     }
 
-    /// Returns a syllable that says the same, whose kept text lies in `memory`. If there is no
-    /// memory for it, that is the only refusal.
+    /// Returns a syllable that says the same, whose kept text lies in `memory`. Fails only if
+    /// memory for it cannot be allocated.
     pub fn copy(&self, memory: &Memory) -> Result<Syllable, AllocError>
         ensures { IfOk result (λ syllable. placed_of syllable ≡ placed_of self.now) }
     {

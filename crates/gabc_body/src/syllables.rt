@@ -10,7 +10,8 @@ use std::alloc::{AllocError, Global};
 use std::marker::Model;
 use std::slice::Iter;
 
-/// Syllables in order. Contracts see the list of them, each with the bytes of its kept text.
+/// Syllables in order. In contracts they are a list of syllables, each with the bytes of its kept
+/// text.
 #[derive(Debug, Drop)]
 pub struct Syllables {
     items: Vec<Syllable>,
@@ -25,8 +26,8 @@ impl Model for Syllables {
     ghost view = { λ s. map placed_of s.items.items };
 }
 
-/// Returns the position in its word of a syllable that begins a word if it `starts`, before one
-/// that begins a word if that `next_starts`.
+/// Returns the position in its word of a syllable. `starts` says whether it begins a word, and
+/// `next_starts` whether the next one does.
 pub fn position_by(starts: bool, next_starts: bool) -> Position
     ensures { result ≡ position_by starts next_starts }
 {
@@ -39,7 +40,7 @@ pub fn position_by(starts: bool, next_starts: bool) -> Position
 }
 
 impl Syllables {
-    /// Returns a list of no syllables. It asks `alloc` for no memory.
+    /// Returns an empty list. It does not allocate from `alloc`.
     pub fn new(alloc: Global) -> Syllables
         ensures { result ≡ [] }
     {
@@ -48,7 +49,7 @@ impl Syllables {
         }
     }
 
-    /// Adds `syllable` at the end. If there is no memory for it, the list is as it was.
+    /// Adds `syllable` at the end. If memory for it cannot be allocated, the list is unchanged.
     pub fn push(&mut self, syllable: Syllable) -> Result<(), AllocError>
         ensures added { OnOk result (self.new ≡ self.old ++ placed_of syllable ∷ []) }
         ensures unchanged { OnErr result (self.new ≡ self.old) }
@@ -78,7 +79,7 @@ impl Syllables {
         self.items.as_slice()
     }
 
-    /// Goes over the syllables in order.
+    /// Returns an iterator over the syllables in order.
     pub fn iter(&self) -> Iter<'_, Syllable>
         ensures { map placed_of (iter_rest result) ≡ self.now }
     {

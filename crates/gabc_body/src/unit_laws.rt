@@ -1,5 +1,5 @@
-//! Laws of a unit and its syllable, apart from the score in which they stand. Each function's
-//! contract is a law; its body calls the laws below that it stands on.
+//! Laws of a unit and its syllable, apart from the score that has them. Each function's contract is
+//! a law; its body calls the laws below that it rests on.
 
 ghost use Rattle.std.specs.Prelude.{◌≡◌, ◌<◌, ◌≤◌, ◌^◌, ◌++◌, ℕ, Bool, List, [], ◌∷◌, false, length, encode_utf8_all};
 ghost use Rattle.std.specs.List.{All};
@@ -23,10 +23,10 @@ ghost use Rattle.gabc_places.specs.TextOfAnInput.{IsText};
 ghost use Rattle.gabc_body.specs.UnitRead.{HoldsSomeUnit, GivesOneSyllable, first_events};
 ghost use Rattle.gabc_body.specs.Units.{BodyUnit, LastUnit, Cuts, units_pieces, last_characters};
 
-/// Law: a unit gives one syllable, with its last character, wherever its text begins, whatever
-/// follows and whatever was emitted before. The syllable holds the unit, and which spans are open
-/// after it follows from its text and from those before. It keeps no more on the way than it keeps
-/// in all. What is found in it are warnings, if that is so of its text and its snippets.
+/// Law: a unit makes one syllable, with its last character, wherever its text begins, whatever
+/// follows and whatever was emitted before. The syllable holds the unit, and the spans that are
+/// open after it follow from its text and from those before. It keeps no more on the way than it
+/// keeps in all. Its findings are warnings, if those of its text and its snippets are.
 pub fn a_unit_gives_one_syllable()
     ensures given { (lines macros : ℕ) (at : Place) (u : BodyUnit) (units : List BodyUnit)
         (last : LastUnit) (before : List BodyEvent) → let xs = characters_from (u ∷ units) last in
@@ -67,8 +67,8 @@ pub fn the_canonical_text_of_a_unit_is_a_text()
     gabc_text::laws::spans_stand_for_the_view();
 }
 
-/// Law: which spans are open after a syllable of units follows from its text and from those that
-/// are open after the one before it. Before the first none is.
+/// Law: the spans that are open after a syllable of units follow from its text and from those that
+/// are open after the one before it. Before the first none is open.
 pub fn spans_follow_one_another()
     ensures first { (lines : ℕ) (units : List ScoreUnit) (syllables after : List PlacedSyllable)
         (s : PlacedSyllable) → AreSyllablesOf lines units syllables → syllables ≡ s ∷ after
@@ -81,7 +81,7 @@ pub fn spans_follow_one_another()
 {}
 
 /// Law: a syllable that holds its parts in some input, with its notes, holds a unit, if it has but
-/// one snippet where there are no NABC lines.
+/// one snippet when there are no NABC lines.
 pub fn a_syllable_with_its_parts_holds_a_unit()
     ensures { (input : List ℕ) (lines : ℕ) (m : UnplacedSyllable) → HoldsWithNotes input lines m →
         (lines ≡ 0 → length m.snippets ≤ 1) → HoldsSomeUnit lines m }

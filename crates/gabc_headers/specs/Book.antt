@@ -41,8 +41,8 @@ last_value name v (e ∷ es) = last_value name (cond (bytes_eq name e.0) e.1 v) 
 abbrev pub value_of : {X : Type 0} → List ℕ → X → List (List ℕ × X) → X
 value_of name v es = cond (bytes_eq name (codes "annotation")) v (last_value name v es)
 
--- Of each name one entry stands, at the place of its first and with the value of its last; of
--- `annotation` all stand.
+-- Of each name one entry is left, at the place of its first and with the value of its last; of
+-- `annotation` all are left.
 abbrev pub standing_entries : {X : Type 0} → List (List ℕ) → List (List ℕ × X) → List (List ℕ × X)
 standing_entries seen [] = []
 standing_entries seen (e ∷ es) = unless (repeats seen e.0) (e.0, value_of e.0 e.1 es) (standing_entries (e.0 ∷ seen) es)

@@ -2,7 +2,8 @@
 use Rattle.std.specs.Prelude.{ℕ, List, [], ◌∷◌, ◌++◌, Bool, true, false, cond, codes}
 use Rattle.gabc_headers.specs.Lines.{lines, has_mark}
 
--- whether the value of these lines wants lines of its own: it has an LF, or its line has a mark
+-- whether the value of these lines is written on lines of its own: it has an LF, or its line has a
+-- mark
 abbrev pub wants_lines : List (List ℕ) → Bool
 wants_lines [] = false
 wants_lines (l ∷ []) = has_mark 1 l

@@ -1,12 +1,12 @@
--- What a book of headers shows: the names that its keys stand for, with the values that their spans
--- of a text hold.
+-- The names and values of a book of headers: the names of its keys, with the characters of their
+-- spans of a text.
 use Rattle.std.specs.Prelude.{ℕ, List, codes, map, slice_range}
 use Rattle.std.specs.Str.{chars}
 use Rattle.gabc_places.specs.declared.place.Span.{Span}
 use Rattle.gabc_headers.specs.declared.entry_map.Key.{Key}
 use Rattle.gabc_headers.specs.declared.entry_map.Key.TheVariants.{Name, Annotation}
 
--- the name that a key stands for
+-- the name of a key
 abbrev pub key_name : Key → List ℕ
 key_name (Name s) = chars s.bytes
 key_name (Annotation i) = codes "annotation"

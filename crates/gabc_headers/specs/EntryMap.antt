@@ -1,5 +1,5 @@
--- What is gathered: names with values, each name at the place of its first and with the value of
--- its last.
+-- The gathered headers: names with values, each name at the place of its first and with the value
+-- of its last.
 use Rattle.std.specs.Prelude.{ℕ, List, [], ◌∷◌, ◌++◌, Bool, cond, bytes_eq, codes}
 
 abbrev pub is_annotation : List ℕ → Bool

@@ -35,7 +35,7 @@ pub record BeginsHeader (l : List ℕ) : Type 0 where
   pub seen : is_bare l ≡ false
   pub colon : has_colon l ≡ true
 
--- A value ends at the first mark on its header's line, or, where that line has none, with the first
+-- A value ends at the first mark on its header's line, or, if that line has none, with the first
 -- line below that has a mark of two or more `;`.
 abbrev pub EndsValue : List ℕ → List (List ℕ) → Type 0
 EndsValue l [] = has_mark 1 (after_colon l) ≡ true
@@ -73,7 +73,7 @@ abbrev pub mark_point : ℕ → List ℕ → List (List ℕ) → ℕ
 mark_point n l [] = n + (length (before_colon l) + (1 + mark_end 1 (after_colon l)))
 mark_point n l (m ∷ ms) = mark_below (n + (length l + 1)) (m ∷ ms)
 
--- what a group reports whose first line has the number k and begins at point n
+-- the parts of a group whose first line has the number k and begins at point n
 abbrev pub parts_of_group : ℕ → ℕ → Group → List HeaderPart
 parts_of_group k n (skipped l) = []
 parts_of_group k n (colonless l) = left_out k (n + length l) ∷ []

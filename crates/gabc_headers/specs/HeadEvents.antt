@@ -1,5 +1,5 @@
--- What a header stage emits: for each character what the text with it has more than the text before
--- it.
+-- The events of a header stage: for each character those that the text with it has more than the
+-- text before it.
 use Rattle.std.specs.Prelude.{ℕ, ◌+◌, List, [], ◌∷◌, ◌++◌, Bool, true, false, if◌then◌else◌, length, take, drop, map, Result, Ok, Err}
 use Rattle.gabc_places.specs.declared.place.Char.{Char}
 use Rattle.gabc_places.specs.declared.code.Fault.{Fault}
@@ -14,7 +14,7 @@ use Rattle.gabc_places.specs.Place.{placed_characters, placed_characters_after}
 use Rattle.gabc_places.specs.StageLaw.{concat_of}
 use Rattle.gabc_headers.specs.Lines.{bytes_len}
 
--- what the line `%%` gives
+-- the event of the line `%%`
 abbrev pub event_of_book : List (List ℕ × List ℕ) → HeadEvent
 event_of_book book = heads_event (nabc_lines_of book) (macros_of book) (bytes_len (canonical_heads book))
 
@@ -34,24 +34,24 @@ inputs_after prefix t = map (λ c. Ok c) (placed_characters_after prefix t)
 abbrev pub body_characters : List ℕ → List Char
 body_characters t = drop (head_len t + 2) (placed_characters t)
 
--- What headers that are read whole emit, and the characters after them; or what is found before
--- their stop, and the stop.
+-- The events of headers that are read whole, and of the characters after them; or the findings
+-- before their stop, and the stop.
 abbrev pub events_of_heads : List ℕ → Result Heads HeadFault → List HeadEvent
 events_of_heads t (Ok heads) = map (λ f. Found f) heads.findings ++ event_of_book heads.book ∷ (map (λ c. Body c) (body_characters t) ++ End ∷ [])
 events_of_heads t (Err stopped) = map (λ f. Found f) stopped.findings ++ Stop stopped.fault ∷ []
 
--- What they emit of a text that breaks off: neither its end nor a stop at this end.
+-- The events of a text that breaks off: neither its end nor a stop at this end.
 abbrev pub events_of_broken : List ℕ → Result Heads HeadFault → List HeadEvent
 events_of_broken t (Ok heads) = map (λ f. Found f) heads.findings ++ event_of_book heads.book ∷ map (λ c. Body c) (body_characters t)
 events_of_broken t (Err stopped) = map (λ f. Found f) stopped.findings ++ (if stopped.at_end then [] else Stop stopped.fault ∷ [])
 
--- What they emit of a text that a fault stops. This fault takes the place of one that has the end
--- as its point.
+-- The events of a text that a fault stops. This fault takes the place of one that has the end as
+-- its point.
 abbrev pub events_of_stopped : Fault → List ℕ → Result Heads HeadFault → List HeadEvent
 events_of_stopped fault t (Ok heads) = map (λ f. Found f) heads.findings ++ event_of_book heads.book ∷ (map (λ c. Body c) (body_characters t) ++ Stop fault ∷ [])
 events_of_stopped fault t (Err stopped) = map (λ f. Found f) stopped.findings ++ Stop (if stopped.at_end then fault else stopped.fault) ∷ []
 
--- what is emitted of these inputs, whose end has come or not: the list of the end is the last one
+-- the events of these inputs, whose end has come or not: the list of the end is the last one
 abbrev pub emitted_by : {I O : Type 0} → Bool → List I → List (List O) → List O
 emitted_by true xs lists = concat_of lists
 emitted_by false xs lists = concat_of (take (length xs) lists)

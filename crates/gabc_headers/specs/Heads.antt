@@ -1,5 +1,5 @@
--- The headers of a whole text: its book, what is found, and what stops it. A point is an index into
--- the text; its length is the end.
+-- The headers of a whole text: its book, its findings, and its fault. A point is an index into the
+-- text; its length is the end.
 use Rattle.std.specs.Prelude.{ℕ, ◌+◌, ◌-◌, ◌==◌, List, [], ◌∷◌, ◌++◌, Bool, ◌||◌, ◌&&◌, not, cond, codes, length, take, get_or, nat_lt, Option, Some, None, Result, Ok, Err}
 use Rattle.std.specs.Option.{option_map}
 use Rattle.std.specs.Char.{len_utf8}
@@ -34,7 +34,7 @@ stop_at p place code = record { point = p; fault = record { place = place; code 
 
 -- ---- findings
 
--- what is found at a part, after headers with these names that count
+-- the findings at a part, after headers with these names that count
 abbrev pub findings_at : List (List ℕ) → HeaderPart → List Known
 findings_at seen (left_out k p) = known_at p (line_place k) E4 ∷ []
 findings_at seen (unended k) = []
@@ -57,11 +57,11 @@ abbrev pub findings_of_name : List ℕ → List HeaderPart → List Known
 findings_of_name t ps = cond (has_score (lines t) && not (has_header (codes "name") (book_of ps)))
     (known_at (head_len t + 1) (place_after (take (head_len t) t)) W1 ∷ []) []
 
--- all that is found in the headers of a text, whose lines make these parts
+-- all findings in the headers of a text, whose lines make these parts
 abbrev pub findings_of_parts : List ℕ → List HeaderPart → List Known
 findings_of_parts t ps = findings_after [] ps ++ findings_of_name t ps
 
--- ---- what stops them
+-- ---- their stops
 
 -- the line of the header whose value is not ended
 abbrev pub open_line : List HeaderPart → Option ℕ
@@ -111,7 +111,7 @@ abbrev pub missing_score : Option ℕ → List ℕ → List Stop
 missing_score None t = stop_at (length t) (place_after t) F2 ∷ []
 missing_score (Some k) t = []
 
--- all that stops the headers of a text, whose lines make these parts
+-- all stops of the headers of a text, whose lines make these parts
 abbrev pub stops_of_parts : Limits → List ℕ → List HeaderPart → List Stop
 stops_of_parts limits t ps =
     text_stops limits.header t

@@ -14,11 +14,11 @@ use std::alloc::{AllocError, Global};
 use std::fmt;
 use std::marker::Model;
 
-/// The headers of a text, in order. Contracts see the list of names and values, each the list of
-/// its characters.
+/// The headers of a text, in order. In contracts they are a list of names and values, each the list
+/// of its characters.
 #[derive(Drop)]
 pub struct HeaderBook {
-    /// The text, at least as far as values stand in it.
+    /// The text, at least through the last value.
     text: String,
     headers: EntryMap,
 }
@@ -36,7 +36,7 @@ impl Model for HeaderBook {
 }
 
 impl HeaderBook {
-    /// The book of these headers of a text, of which it keeps a copy as far as values stand in it.
+    /// Returns the book of `headers` of `text`, with a copy of `text` through the last value.
     pub(crate) fn of(alloc: Global, text: &str, headers: EntryMap) -> Result<HeaderBook, AllocError>
         requires { IsBook text.now headers.0 }
         ensures { IfOk result (λ book. book ≡ spelled_entries text.now headers.0) }
@@ -78,14 +78,14 @@ impl HeaderBook {
         self.headers.value_in(self.text.as_str(), index)
     }
 
-    /// Goes over the names and values of the headers, in order.
+    /// Returns an iterator over the names and values of the headers, in order.
     pub fn iter(&self) -> Headers<'_>
         ensures { result ≡ self.now }
     {
         Headers::of(self.text.as_str(), &self.headers)
     }
 
-    /// Returns the value of the first header with this `name`, or `None` if there is none.
+    /// Returns the value of the first header with the name `name`, or `None` if there is none.
     pub fn get(&self, name: &str) -> Option<&str>
         ensures { MatchOption result (value_named (chars name.now) self.now ≡ None)
             (λ v. value_named (chars name.now) self.now ≡ Some (chars v.now)) }
@@ -109,7 +109,7 @@ impl HeaderBook {
         self.iter().is_macro(digit)
     }
 
-    /// Returns the macros that are defined: the bit `d` says so of the macro of the digit `d`
+    /// Returns the defined macros: the bit `d` says that the macro of the digit `d` is defined
     /// (GregorioRef, "Macros").
     pub fn macros(&self) -> u16
         ensures { result ≡ macros_of self.now }

@@ -28,15 +28,15 @@ pub fn wants_own_lines(value: &str) -> bool
     wants || at_mark
 }
 
-/// What stands round the value of a header.
+/// The text before and after the value of a header.
 #[derive(Clone, Copy)]
 struct Frame {
     before: &'static str,
     after: &'static str,
 }
 
-/// Returns what stands round `value`: an empty one has no blank before it, and one on its own lines
-/// ends with two `;`.
+/// Returns the frame of `value`: an empty one has no blank before it, and one on its own lines ends
+/// with two `;`.
 fn frame_of(value: &str) -> Frame
     ensures before { result.before.now
         ≡ before_value (wants_lines (lines (chars value.now))) (chars value.now) }
@@ -72,7 +72,7 @@ fn put_framed<S: Put>(name: &str, value: &str, frame: Frame, out: &mut S)
     out.put(frame.after.as_bytes());
 }
 
-/// Puts the canonical line, or lines, of the header with this `name` and `value`.
+/// Puts the canonical line, or lines, of the header with the name `name` and the value `value`.
 pub(crate) fn put_header<S: Put>(name: &str, value: &str, out: &mut S)
     ensures { out.new
         ≡ S.taken out.old (encode_utf8_all (header_line (chars name.now, chars value.now))) }
@@ -81,8 +81,7 @@ pub(crate) fn put_header<S: Put>(name: &str, value: &str, out: &mut S)
 }
 
 /// Puts the canonical header lines of `headers` and `%%`, as many bytes as
-/// `HeaderBook::canonical_len` returns. A room without that many bytes left gets as many of them as
-/// fit.
+/// `HeaderBook::canonical_len` returns. A room with fewer bytes left takes as many of them as fit.
 pub fn canon_header<S: Put>(headers: Headers<'_>, out: &mut S)
     ensures { out.new ≡ S.taken out.old (encode_utf8_all (canonical_heads headers.entry)) }
 {

@@ -1,10 +1,9 @@
-//! What a character is to a header, and where the end of a value's line so far stands towards a
-//! mark.
+//! The kinds of characters in headers, and the runs of `;` at the end of a value's line so far.
 
 ghost use Rattle.std.specs.Prelude.{◌≡◌};
 ghost use Rattle.gabc_headers.specs.machine.Characters.{header_char_of, next_run, is_mark_run};
 
-/// What a character is to a header.
+/// The kind of a character in a header.
 #[derive(Clone, Copy)]
 pub(crate) enum HeaderChar {
     Semicolon,
@@ -16,7 +15,7 @@ pub(crate) enum HeaderChar {
 }
 
 impl HeaderChar {
-    /// The kind of a character.
+    /// Returns the kind of `c`.
     pub(crate) fn of(c: char) -> HeaderChar
         ensures { result ≡ header_char_of c }
     {
@@ -42,7 +41,8 @@ pub(crate) enum Run {
 }
 
 impl Run {
-    /// The run after one more character. A mark wants two `;` if `long`.
+    /// Returns the run after one more character, of kind `kind`. If `long`, a mark has to have two
+    /// `;`.
     pub(crate) fn after(self, long: bool, kind: HeaderChar) -> Run
         ensures { result ≡ next_run self long kind }
     {
@@ -60,7 +60,7 @@ impl Run {
         }
     }
 
-    /// Whether the line's end or a `%` makes a mark of it.
+    /// Returns whether the line's end or a `%` makes a mark of it.
     pub(crate) fn closes(self) -> bool
         ensures { result ≡ is_mark_run self }
     {

@@ -1,4 +1,4 @@
-//! The headers that count, and what is found at them.
+//! The headers that count, and their findings.
 
 ghost use Rattle.std.specs.Prelude.{◌≡◌, ◌≤◌, [], ◌∷◌, length, OnOk, IfOk};
 ghost use Rattle.std.specs.Str.{chars};
@@ -15,21 +15,21 @@ use gabc_places::{Code, Finding, Findings, Place};
 use std::alloc::{AllocError, Global};
 use std::hash::DefaultHasher;
 
-/// The headers so far that count, and what was found.
+/// The headers so far that count, and the findings.
 #[derive(Drop)]
 pub(crate) struct Collected {
     pub headers: EntryMap,
     pub findings: Findings,
 }
 
-/// Whether a header counts: of `nabc-lines` only one whose value is in range.
+/// Returns whether a header counts: of `nabc-lines` only one whose value is in range.
 fn is_kept(name: &str, value: &str) -> bool
     ensures { result ≡ book.is_kept (chars name.now) (chars value.now) }
 {
     name != "nabc-lines" || NABC_LINES.contains(&value)
 }
 
-/// A finding at the first character of a line.
+/// Returns a finding at the first character of the line `line`.
 fn finding_at(line: u64, code: Code) -> Finding
     ensures { result ≡ spec.finding_at line code }
 {
@@ -37,8 +37,8 @@ fn finding_at(line: u64, code: Code) -> Finding
     Finding { place, code }
 }
 
-/// Takes an event of the text to the headers, and returns what is found at it. It asks for no
-/// memory.
+/// Takes an event of `text` to `headers`, and returns its finding, if it has one. It does not
+/// allocate.
 pub(crate) fn take_event(headers: &mut EntryMap, text: &str, event: HeaderEvent) -> Option<Finding>
     requires good { IsGoodEvent text.now event }
     requires room { HasPlace headers.old }
@@ -70,7 +70,7 @@ pub(crate) fn take_event(headers: &mut EntryMap, text: &str, event: HeaderEvent)
 }
 
 impl Collected {
-    /// Takes an event of the text.
+    /// Takes an event of `text`.
     fn take(&mut self, text: &str, event: HeaderEvent) -> Result<(), AllocError>
         requires good { IsGoodEvent text.now event }
         requires room { HasPlace self.old.headers }
@@ -86,7 +86,7 @@ impl Collected {
     }
 }
 
-/// Returns what `events` say of `text`, whose names are hashed from `hasher` on.
+/// Returns the headers and findings of `events` of `text`. Names are hashed from `hasher` on.
 pub(crate) fn collect(
     alloc: Global,
     text: &str,

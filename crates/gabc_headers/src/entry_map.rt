@@ -17,8 +17,8 @@ use std::alloc::{AllocError, Global};
 use std::hash::DefaultHasher;
 use std::marker::Model;
 
-/// What a header is found by: its name; or, since each annotation stands at its own place, the
-/// number of headers before it.
+/// The key of a header: its name; or, since each annotation has a place of its own, the number of
+/// headers before it.
 #[derive(Clone, Copy, PartialEq, Eq, Hash)]
 pub(crate) enum Key {
     Name(ArrayString<64>),
@@ -26,7 +26,7 @@ pub(crate) enum Key {
 }
 
 impl Key {
-    /// Returns the key of a header of this `name`, after `before` headers.
+    /// Returns the key of a header with the name `name`, after `before` headers.
     fn of(name: &str, before: usize) -> Key
         requires { length name.now ≤ 64 }
         ensures { IsKeyOf name.now before result }
@@ -40,7 +40,7 @@ impl Key {
         Key::Name(text)
     }
 
-    /// Returns the name that it stands for.
+    /// Returns the name of the header.
     fn name(&self) -> &str
         ensures { chars result.now ≡ key_name self.now }
     {
@@ -52,7 +52,7 @@ impl Key {
 }
 
 /// Headers with the spans of their values, each name at the place of its first and with the value
-/// of its last; annotations stand by themselves.
+/// of its last; each annotation has a place of its own.
 #[derive(Drop)]
 pub(crate) struct EntryMap {
     map: IndexMap<Key, Span, NameHashers>,
@@ -75,8 +75,8 @@ impl Model for EntryMap {
 }
 
 impl EntryMap {
-    /// Returns a map of no headers, with room for `limit` of them, whose names are hashed from
-    /// `hasher` on.
+    /// Returns an empty map, with room for `limit` headers, whose names are hashed from `hasher`
+    /// on.
     pub(crate) fn with_limit(
         alloc: Global,
         limit: usize,
@@ -90,15 +90,15 @@ impl EntryMap {
         })
     }
 
-    /// Forgets the headers. Their memory stays reserved.
+    /// Removes the headers. Their memory stays reserved.
     pub(crate) fn clear(&mut self)
         ensures { self.new ≡ ([], self.old.1, self.old.2) }
     {
         self.map.clear();
     }
 
-    /// Puts a header, and answers whether its name comes again. An annotation never does. It asks
-    /// for no memory.
+    /// Puts the header with the name `name` and the span `value`, and returns whether its name
+    /// comes again. An annotation never does. It does not allocate.
     pub(crate) fn put(&mut self, name: &str, value: Span) -> bool
         requires short { length name.now ≤ 64 }
         requires room { HasPlace self.old }
@@ -119,14 +119,14 @@ impl EntryMap {
         false
     }
 
-    /// The number of headers.
+    /// Returns the number of headers.
     pub(crate) fn len(&self) -> usize
         ensures { result ≡ length self.now.0 }
     {
         self.map.len()
     }
 
-    /// The name of a header, by its index.
+    /// Returns the name of the header with the index `index`, from 0.
     pub(crate) fn name(&self, index: usize) -> &str
         requires { index < length self.now.0 }
         ensures { IsSomeAnd (slice_get self.now.0 index) (λ entry. chars result.now ≡ key_name entry.0) }
@@ -137,7 +137,7 @@ impl EntryMap {
         }
     }
 
-    /// Where the value of a header stands, by its index.
+    /// Returns the span of the value of the header with the index `index`, from 0.
     fn value(&self, index: usize) -> Span
         requires { index < length self.now.0 }
         ensures { IsSomeAnd (slice_get self.now.0 index) (λ entry. entry.1 ≡ result) }
@@ -145,7 +145,7 @@ impl EntryMap {
         self.map[index]
     }
 
-    /// The value of a header of a text, by its index.
+    /// Returns the value of the header with the index `index`, from 0, of `text`.
     pub(crate) fn value_in<'a>(&self, text: &'a str, index: usize) -> &'a str
         requires within { AreWithin text.now self.now.0 }
         requires index { index < length self.now.0 }
@@ -156,8 +156,8 @@ impl EntryMap {
         &text[value.from..value.to]
     }
 
-    /// The number of bytes of the canonical lines of these headers of a text, or the largest number
-    /// if there are more.
+    /// Returns the number of bytes of the canonical lines of these headers of `text`; it saturates
+    /// at the last value of a `usize`.
     pub(crate) fn canonical_len(&self, text: &str) -> usize
         requires { AreWithin text.now self.now.0 }
         ensures { result ≡ min (bytes_len (header_lines (spelled_entries text.now self.now.0)))
@@ -170,7 +170,7 @@ impl EntryMap {
         counter.count()
     }
 
-    /// Returns the byte of a text after the last of these values, or 0 where there are none.
+    /// Returns the byte of `text` after the last of these values, or 0 if there are none.
     pub(crate) fn end(&self, text: &str) -> usize
         requires { AreWithin text.now self.now.0 }
         ensures exact { result ≡ values_end self.now.0 }

@@ -8,7 +8,8 @@ use crate::header_machine::{HeaderMachine, HeaderStep};
 use gabc_places::Text;
 use std::alloc::{AllocError, Global};
 
-/// Reads the headers of a text, of which at most `limit` bytes may stand before the line `%%`.
+/// Reads the headers of `text`, of which at most `limit` bytes may come before the line `%%`.
+/// Returns their events and their ending.
 pub(crate) fn events_of_headers(
     alloc: Global,
     text: &Text,

@@ -1,4 +1,4 @@
-//! What the machine of the headers emits.
+//! The events of the machine of the headers.
 
 use gabc_places::{Place, Span};
 
@@ -22,8 +22,7 @@ pub(crate) enum HeaderEvent {
 /// `open_line`.
 #[derive(Clone, Copy, Debug)]
 pub(crate) enum HeaderEnding {
-    /// At the line `%%`, whose first character stands at `place`. The body begins at the byte
-    /// `body`.
+    /// At the line `%%`, whose first character is at `place`. The body begins at the byte `body`.
     Score {
         place: Place,
         body: usize,
@@ -38,7 +37,7 @@ pub(crate) enum HeaderEnding {
     },
 }
 
-/// What is emitted of the headers of a text.
+/// The events of the headers of a text, and their ending.
 #[derive(Drop)]
 pub(crate) struct HeaderEvents {
     pub events: Vec<HeaderEvent>,

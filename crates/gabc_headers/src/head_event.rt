@@ -1,13 +1,13 @@
-//! What a header stage emits.
+//! The events of a header stage.
 
 use gabc_places::{Char, Fault, Finding};
 
-/// What a header stage emits: of the headers of a text, and of what stands after them.
+/// An event of a header stage: of the headers of a text, or of the characters after them.
 #[derive(Clone, Copy, Debug, PartialEq, Eq)]
 pub enum HeadEvent {
     /// An error or a warning.
     Found(Finding),
-    /// The text is stopped here. Nothing follows.
+    /// The text is stopped here. No event follows.
     Stop(Fault),
     /// The line `%%` ended the headers.
     Heads {
@@ -18,11 +18,11 @@ pub enum HeadEvent {
         /// The number of bytes of the canonical header lines and `%%`.
         canonical: u32,
     },
-    /// A character after the line's `%%`.
+    /// A character after the `%%`.
     Body(Char),
-    /// The text has ended after its headers. Nothing follows.
+    /// The text has ended after its headers. No event follows.
     End,
 }
 
-/// What a header stage puts out, by another name.
+/// Another name of the events of a header stage.
 pub type HeadOut = HeadEvent;

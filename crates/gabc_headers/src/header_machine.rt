@@ -1,4 +1,4 @@
-//! The machine of the headers of a text, a character at a time and in bounded room.
+//! The machine of the headers of a text, a character at a time, in bounded memory.
 
 ghost use Rattle.std.specs.Prelude.{◌≡◌, ◌<◌, ◌^◌};
 ghost use Rattle.gabc_headers.specs.machine.HeaderMachine.{IsBounded, fresh_machine, take_one, push_one, end_here};
@@ -8,15 +8,15 @@ use crate::events::{HeaderEnding, HeaderEvent};
 use crate::part_machine::PartMachine;
 use gabc_places::Place;
 
-/// What a character makes known: an event, nothing, or the headers' end.
+/// The result of a character: an event, nothing, or the headers' end.
 #[derive(Clone, Copy)]
 pub(crate) enum HeaderStep {
     Read(Option<HeaderEvent>),
     Ended(HeaderEnding),
 }
 
-/// The machine. It has read `point` characters, and stands at this place. A `%`
-/// that begins a line is held back, until the next character shows whether that is the line `%%`.
+/// The machine. It has read `point` characters, and the next one is at its place. A `%` that begins
+/// a line is held back, until the next character shows whether that is the line `%%`.
 #[derive(Clone, Copy)]
 pub(crate) struct HeaderMachine {
     pub parts: PartMachine,
@@ -29,7 +29,8 @@ pub(crate) struct HeaderMachine {
 }
 
 impl HeaderMachine {
-    /// At the start of a text, of which at most `limit` bytes may stand before the line `%%`.
+    /// Returns the machine at the start of a text, of which at most `limit` bytes may come before
+    /// the line `%%`.
     pub(crate) fn new(limit: u32) -> HeaderMachine
         requires { limit < 2 ^ 31 }
         ensures starts { result ≡ fresh_machine limit }
@@ -65,7 +66,7 @@ impl HeaderMachine {
         HeaderStep::Read(event)
     }
 
-    /// Reads the next character. After the headers' end it is not to be pushed into again.
+    /// Reads the next character. After the headers' end the caller may not push again.
     pub(crate) fn push(&mut self, c: char) -> HeaderStep
         requires { IsBounded self.old }
         ensures pushes { (self.new, result) ≡ push_one self.old c }
@@ -92,7 +93,7 @@ impl HeaderMachine {
         self.take(c)
     }
 
-    /// The end of the text.
+    /// Returns the ending of the headers at the end of the text.
     pub(crate) fn end(self) -> HeaderEnding
         requires { IsBounded self }
         ensures { result ≡ end_here self }

@@ -27,8 +27,8 @@ use std::alloc::{AllocError, Global};
 use std::hash::DefaultHasher;
 use std::marker::Model;
 
-/// Where a stage stands: in the headers, after their `%%`, or after its last event, which came
-/// before their `%%` or after it.
+/// The part of the text in which a stage is: in the headers, after their `%%`, or after its last
+/// event, which came before their `%%` or after it.
 #[derive(Clone, Copy)]
 pub(crate) enum HeadPart {
     InHeaders,
@@ -38,7 +38,7 @@ pub(crate) enum HeadPart {
 }
 
 impl HeadPart {
-    /// Where a stage stands after its last event.
+    /// Returns the part after the last event.
     fn over(self) -> HeadPart
         ensures { result ≡ part_over self }
     {
@@ -55,9 +55,9 @@ impl HeadPart {
 pub struct HeaderStage {
     limits: Limits,
     part: HeadPart,
-    /// In the headers, what has read their text.
+    /// In the headers, the machine that reads their text.
     machine: HeaderMachine,
-    /// The text of the headers. It stays as it is once they are whole: their values stand in it.
+    /// The text of the headers. Once they are whole it is unchanged, since it has their values.
     text: String<Memory>,
     headers: EntryMap,
 }
@@ -85,7 +85,7 @@ impl Model for HeaderStage {
         (string_capacity s.text) s.machine s.headers };
 }
 
-/// Emits what is found, if something is.
+/// Emits the finding `found`, if there is one.
 fn emit_finding(found: Option<Finding>, out: &mut Room<HeadEvent>)
     requires { Fits out.old 1 }
     ensures { out.new ≡ extended_by out.old (map (λ f. Found f) (found_list found)) }
@@ -95,7 +95,8 @@ fn emit_finding(found: Option<Finding>, out: &mut Room<HeadEvent>)
     }
 }
 
-/// Emits the headers at the line `%%`, whose canonical lines have `size` bytes.
+/// Emits the headers at the line `%%`, whose first character is at `place`. Their canonical lines
+/// have `size` bytes.
 fn emit_heads(book: &Headers<'_>, place: Place, size: usize, out: &mut Room<HeadEvent>)
     requires size { size ≡ bytes_len (header_lines book.now) }
     requires small { size < 2 ^ 31 }
@@ -118,9 +119,10 @@ fn emit_heads(book: &Headers<'_>, place: Place, size: usize, out: &mut Room<Head
 
 impl HeaderStage {
     /// Returns a stage under `limits` before the first character of a text, and reserves all the
-    /// memory that it takes. It fails only for want of memory. Names are hashed with a fixed key,
-    /// so names can be chosen that are slow to read: 1,872 of 8 bytes took 31 ms, where others take
-    /// 3. Where strangers write the text, take `with_hasher`. It emits at most two events a call.
+    /// memory that it needs. Fails only if memory cannot be allocated. Names are hashed with a
+    /// fixed key, so names can be chosen that are slow to read: 1,872 of 8 bytes took 31 ms, while
+    /// others take 3. If strangers write the text, use `with_hasher`. It emits at most two events a
+    /// call.
     pub fn with_limits(alloc: Global, limits: Limits) -> Result<HeaderStage, AllocError>
         ensures fresh { IfOk result (λ stage. stage ≡ fresh_stage limits initial) }
         ensures events { IfOk result (EmitsHeaders limits) }
@@ -129,8 +131,8 @@ impl HeaderStage {
     }
 
     /// Returns a stage as `with_limits` does, which hashes names from `hasher` on, such as
-    /// `RandomState::new(&rt)?.build_hasher()`. What the stage emits does not depend on it, but who
-    /// does not know how it begins cannot choose names that make the reading slow.
+    /// `RandomState::new(&rt)?.build_hasher()`. The events of the stage do not depend on it, but
+    /// whoever does not know how it begins cannot choose names that make the reading slow.
     pub fn with_hasher(
         alloc: Global,
         limits: Limits,
@@ -142,8 +144,8 @@ impl HeaderStage {
         HeaderStage::in_memory(&Memory::with_capacity(alloc, 0)?, limits, hasher)
     }
 
-    /// Returns a stage as `with_hasher` does, whose text lies in `memory`. It fails only for want
-    /// of memory.
+    /// Returns a stage as `with_hasher` does, whose text lies in `memory`. Fails only if memory
+    /// cannot be allocated.
     pub fn in_memory(
         memory: &Memory,
         limits: Limits,
@@ -163,8 +165,8 @@ impl HeaderStage {
         })
     }
 
-    /// Begins a text, as a new stage does, wherever the stage stands. It keeps its limits, its
-    /// hasher and its memory, and asks for none.
+    /// Begins a new text, as a new stage does, whatever the stage has read. It keeps its limits,
+    /// its hasher and its memory, and does not allocate.
     pub fn restart(&mut self)
         ensures { self.new ≡ fresh_stage self.old.limits self.old.hasher }
     {
@@ -174,7 +176,7 @@ impl HeaderStage {
         self.headers.clear();
     }
 
-    /// Emits that the text is stopped. Nothing follows.
+    /// Emits the stop of the text at `fault`. No event follows.
     fn stop(&mut self, fault: Fault, out: &mut Room<HeadEvent>)
         requires { Fits out.old 1 }
         ensures state { self.new ≡ stage_at self.old over }
@@ -184,7 +186,7 @@ impl HeaderStage {
         out.push(HeadEvent::Stop(fault));
     }
 
-    /// Reads a character in the headers.
+    /// Reads the character `c` in the headers.
     fn read(&mut self, c: char, out: &mut Room<HeadEvent>)
         requires reading { IsInHeaders self.old.progress }
         requires room { Fits out.old 2 }
@@ -235,7 +237,7 @@ impl HeaderStage {
         }
     }
 
-    /// Takes `input`, and adds what follows from it.
+    /// Takes `input`, and adds its events to `out`.
     fn take(&mut self, input: Result<Char, Fault>, out: &mut Room<HeadEvent>)
         requires { Fits out.old 2 }
         ensures state { self.new ≡ stage_after self.old input }
@@ -256,7 +258,7 @@ impl HeaderStage {
         }
     }
 
-    /// Ends the inputs, and adds what follows from that.
+    /// Ends the inputs, and adds the last events to `out`.
     fn end(&mut self, out: &mut Room<HeadEvent>)
         requires { Fits out.old 2 }
         ensures state { self.new ≡ stage_at self.old over }
@@ -279,9 +281,9 @@ impl HeaderStage {
     }
 
     /// Returns the text of the headers as far as it is read, with its comments. From the headers'
-    /// end on it returns `None`. Pushed into a fresh stage under the same limits, wherever its
-    /// characters are said to stand, the text sets the stage down again. The end of this text alone
-    /// stops its headers.
+    /// end on it returns `None`. Pushed into a fresh stage under the same limits, whatever the
+    /// places of its characters, the text restores the stage. The headers in this text are stopped
+    /// by its end alone.
     pub fn text(&self) -> Option<&str>
         ensures in_headers { IsSome result ↔ IsInHeaders self.now.progress }
         ensures text { IfSome result (λ t. self.now.progress ≡ reading (chars t.now)) }
@@ -295,7 +297,7 @@ impl HeaderStage {
     }
 
     /// Returns the headers by name and in order, borrowed, from the event of whole headers on.
-    /// Before it, and where the text was stopped before their `%%`, there are none.
+    /// Before it, and if the text was stopped before their `%%`, there are none.
     pub fn book(&self) -> Headers<'_>
         ensures { result ≡ self.now.book }
     {

@@ -14,13 +14,14 @@ use crate::nabc_lines::NABC_LINES;
 use gabc_places::ByteCounter;
 use std::marker::Model;
 
-/// Goes over the names and values of a book, in order. Contracts see the list of those to come.
+/// An iterator over the names and values of a book, in order. In contracts it is the list of the
+/// remaining ones.
 #[derive(Drop)]
 pub struct Headers<'a> {
-    /// The text in which the values stand.
+    /// The text that has the values.
     text: &'a str,
     headers: &'a EntryMap,
-    /// The index of the first to come.
+    /// The index of the next header.
     first: usize,
 }
 
@@ -36,7 +37,7 @@ impl<'a> Model for Headers<'a> {
     ghost invariant = { λ h. AreWithin h.text.now h.headers.now.0 };
 }
 
-/// The name of a macro's header.
+/// Returns the name of the header of the macro of `digit`.
 fn macro_header(digit: u8) -> &'static str
     requires { digit < 10 }
     ensures { result.now ≡ macro_name digit }
@@ -55,7 +56,7 @@ fn macro_header(digit: u8) -> &'static str
     }
 }
 
-/// The number of lines of NABC that a value of `nabc-lines` says.
+/// Returns the number of NABC lines for the value `value` of `nabc-lines`.
 fn lines_in(value: &str) -> u8
     ensures { result ≡ lines_by (Some (chars value.now)) }
 {
@@ -64,7 +65,7 @@ fn lines_in(value: &str) -> u8
 }
 
 impl<'a> Headers<'a> {
-    /// All of these headers of a text.
+    /// Returns an iterator over all `headers` of `text`.
     pub(crate) fn of(text: &'a str, headers: &'a EntryMap) -> Headers<'a>
         requires { AreWithin text.now headers.now.0 }
         ensures { result ≡ spelled_entries text.now headers.now.0 }
@@ -76,7 +77,7 @@ impl<'a> Headers<'a> {
         }
     }
 
-    /// None of these headers.
+    /// Returns an iterator over none of `headers`.
     pub(crate) fn none(text: &'a str, headers: &'a EntryMap) -> Headers<'a>
         requires { AreWithin text.now headers.now.0 }
         ensures { result ≡ [] }
@@ -88,7 +89,8 @@ impl<'a> Headers<'a> {
         }
     }
 
-    /// Returns the value of the first header to come with this `name`, or `None` if there is none.
+    /// Returns the value of the first of the remaining headers with the name `name`, or `None` if
+    /// there is none.
     pub fn get(&self, name: &str) -> Option<&'a str>
         ensures { MatchOption result (value_named (chars name.now) self.now ≡ None)
             (λ v. value_named (chars name.now) self.now ≡ Some (chars v.now)) }
@@ -120,7 +122,7 @@ impl<'a> Headers<'a> {
         digit < 10 && self.get(macro_header(digit)).is_some()
     }
 
-    /// Returns the macros that are defined: the bit `d` says so of the macro of the digit `d`
+    /// Returns the defined macros: the bit `d` says that the macro of the digit `d` is defined
     /// (GregorioRef, "Macros").
     pub fn macros(&self) -> u16
         ensures { result ≡ macros_of self.now }
@@ -135,8 +137,8 @@ impl<'a> Headers<'a> {
         }
         macros
     }
-    /// Returns the number of bytes of the canonical lines of these headers and `%%`, or the largest
-    /// number if there are more.
+    /// Returns the number of bytes of the canonical lines of these headers and `%%`; it saturates
+    /// at the last value of a `usize`.
     pub fn canonical_len(&self) -> usize
         ensures { result ≡ min (bytes_len (canonical_heads self.now)) (2 ^ 64 - 1) }
     {

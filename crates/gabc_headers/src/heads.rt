@@ -1,4 +1,4 @@
-//! The headers of a text, or what stopped them.
+//! The headers of a text, or the fault that stopped them.
 
 ghost use Rattle.std.specs.Prelude.{Some};
 ghost use Rattle.gabc_places.specs.Message.{message_text};
@@ -8,29 +8,29 @@ use gabc_places::{Fault, Findings};
 use std::error::Error;
 use std::fmt;
 
-/// The headers of a text that has a line `%%` after them, and what was found in them.
+/// The headers of a text that has a line `%%` after them, and the findings in them.
 #[derive(Debug, Drop)]
 pub struct Heads {
     /// The headers that count.
     pub book: HeaderBook,
     /// The byte of the text, from 0, at which its body begins: the one after the `%%`.
     pub body: usize,
-    /// What was found, in the order of places.
+    /// The findings, in the order of places.
     pub findings: Findings,
 }
 
-/// What stopped the headers of a text, and what was found before.
+/// The fault that stopped the headers of a text, and the findings before it.
 #[derive(Debug, Drop)]
 pub struct HeadFault {
-    /// What stopped them, and where.
+    /// The fault, with its place.
     pub fault: Fault,
-    /// What was found before, in the order of places.
+    /// The findings before it, in the order of places.
     pub findings: Findings,
     /// Whether the fault comes of the end of the text.
     pub at_end: bool,
 }
 
-/// Prints what the fault's message has after the file's name: `LINE:COLUMN: KIND: CODE: TEXT`,
+/// Prints the words of the fault's message after the file's name: `LINE:COLUMN: KIND: CODE: TEXT`,
 /// where KIND is `fatal` for each code of a fault.
 impl fmt::Display for HeadFault {
     ghost output = { λ x. Some (message_text x.fault.place x.fault.code) };

@@ -1,4 +1,5 @@
-//! Laws of the definitions alone. Each function's contract is a law, and its body does nothing.
+//! Laws of the definitions alone. Each function's contract is a law; its body does nothing, or
+//! calls another law that it rests on.
 
 ghost use Rattle.std.specs.Prelude.{◌≡◌, ◌+◌, ◌<◌, ◌≤◌, ℕ, Bool, true, false, List, [], ◌∷◌, ◌++◌, length, take, Option, Result, Ok, Err};
 ghost use Rattle.std.specs.Char.{IsScalar};
@@ -40,14 +41,14 @@ pub fn groups_are_unique()
         AreGroups lines others → groups ≡ others }
 {}
 
-/// Law: the parts of lines, the first of which has the number k and begins at point n, are what
-/// their groups say: of each header its name and its value, and what is left out.
+/// Law: the parts of lines, the first of which has the number k and begins at point n, follow from
+/// their groups: of each header its name and its value, and the parts left out.
 pub fn groups_give_parts()
     ensures { (lines : List (List ℕ)) (groups : List Group) (k n : ℕ) → AreGroups lines groups →
         parts outside k n lines ≡ parts_of_groups k n groups }
 {}
 
-/// Law: the headers of a text are what the groups of its lines say, and nothing else is.
+/// Law: the headers of a text are those of the groups of its lines, and no others are.
 pub fn heads_are_of_groups()
     ensures are { (limits : Limits) (t : List ℕ) → AreHeads limits t (heads_of limits t) }
     ensures one { (limits : Limits) (t : List ℕ) (read : Result Heads HeadFault) →
@@ -55,19 +56,19 @@ pub fn heads_are_of_groups()
 {}
 
 /// Law: headers that are put in turn, each of which replaces the value of an earlier one of its
-/// name unless it is an `annotation`, leave what stands: each name at the place of its first header
+/// name unless it is an `annotation`, leave the book: each name at the place of its first header
 /// and with the value of its last.
 pub fn last_value_at_first_place()
     ensures { (entries : List (List ℕ × List ℕ)) →
         put_all [] entries ≡ standing_entries [] entries }
 {}
 
-/// Law: what is found in headers stands in order: by its places, none twice.
+/// Law: the findings of headers are in order: by their places, none twice.
 pub fn findings_in_order()
     ensures { (limits : Limits) (t : List ℕ) → AreInOrder (findings_of (heads_of limits t)) }
 {}
 
-/// Law: headers that are read without a fault have a line that begins with `%%`; their body stands
+/// Law: headers that are read without a fault have a line that begins with `%%`; their body is
 /// after these two characters.
 pub fn the_body_follows_the_mark()
     ensures { (limits : Limits) (t : List ℕ) (heads : Heads) → heads_of limits t ≡ Ok heads →
@@ -81,9 +82,9 @@ pub fn findings_lie_before_the_body()
         LieBetween (line_place 1) (place_after (take (head_len t) t)) heads.findings }
 {}
 
-/// Law: what stands after the line `%%` is no matter to the headers: if those of a text are read
-/// whole, then with something else after these two characters they end there too, and are read
-/// whole with the same book.
+/// Law: the text after the line `%%` is no matter to the headers: if those of a text are read
+/// whole, then with another text after these two characters they end there too, and are read whole
+/// with the same book.
 pub fn the_headers_end_at_their_mark()
     ensures length { (limits : Limits) (t more : List ℕ) (heads : Heads)
         → heads_of limits t ≡ Ok heads → head_len (take (head_len t + 2) t ++ more) ≡ head_len t }
@@ -106,17 +107,18 @@ pub fn book_again()
         → head_len (canonical_heads heads.book ++ more) ≡ length (header_lines heads.book) }
 {}
 
-/// Law: the canonical lines of a book have no more bytes than headers may have, and with `%%` and
-/// an LF no more than the input may have.
+/// Law: the canonical lines of a book have no more bytes than the limit of the headers, and with
+/// `%%` and an LF no more than the limit of the input.
 pub fn canonical_lines_are_within_the_limits()
     ensures { (limits : Limits) (t : List ℕ) (heads : Heads) → heads_of limits t ≡ Ok heads →
         (bytes_len (header_lines heads.book) ≤ limits.header)
         × (bytes_len (canonical_heads heads.book) + 1 ≤ limits.input) }
 {}
 
-/// Law: larger limits change nothing where the headers were not too long: headers that are read, or
+/// Law: larger limits change nothing if the headers were not too long: headers that are read, or
 /// that are stopped by something else, are read or stopped so under limits that are no less, if the
-/// input may be as long. What stops headers that are too long never stands at the end of the text.
+/// limit of the input is the same. The fault of headers that are too long never has the end of the
+/// text as its point.
 pub fn larger_limits_change_no_headers()
     ensures same { (limits larger : Limits) (t : List ℕ) → AreNoLess limits larger
         → limits.input ≡ larger.input
@@ -127,8 +129,8 @@ pub fn larger_limits_change_no_headers()
         → stop.at_end ≡ false }
 {}
 
-/// Law: a text whose headers its end alone stops is read so under all limits that are no less than
-/// its bytes.
+/// Law: a text whose headers are stopped by its end alone is read so under all limits that are no
+/// less than its bytes.
 pub fn a_held_text_is_held_under_other_limits()
     ensures { (limits other : Limits) (t : List ℕ) → IsHeld limits t →
         bytes_len t ≤ limits.header → bytes_len t ≤ other.header →
@@ -169,7 +171,7 @@ pub fn events_need_no_end()
 {}
 
 /// Law: once a stage has read the characters of a text whose headers are whole, it holds their
-/// book; a fault after them changes nothing of it.
+/// book; a fault after them does not change the book.
 pub fn the_book_is_read()
     ensures { (limits : Limits) (hasher : DefaultHasher) (t : List ℕ) (heads : Heads)
         (fault : Option Fault) → All IsScalar t → heads_of limits t ≡ Ok heads →

@@ -4,8 +4,8 @@ ghost use Rattle.std.specs.Prelude.{◌≡◌};
 ghost use Rattle.gabc_headers.specs.Book.{nabc_values};
 ghost use Rattle.gabc_headers.specs.NabcLines.{values_in_range};
 
-/// The values that the header `nabc-lines` may have, in ASCII. Each stands at the index that is the
-/// number of NABC lines it says.
+/// The values that the header `nabc-lines` may have, in ASCII. The index of each is the number of
+/// NABC lines that it means.
 pub const NABC_LINES: [&str; 5] = ["0", "1", "2", "3", "4"];
 
 /// Law: the values that the header `nabc-lines` may have are the digits 0 to 4, each at the index

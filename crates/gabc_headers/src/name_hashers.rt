@@ -1,9 +1,9 @@
-//! Hashes the names of headers.
+//! The hashers of the names of headers.
 
 use std::hash::{BuildHasher, DefaultHasher};
 
-/// Makes hashers that begin as `first` does. Whoever knows how it begins can choose names that
-/// stand in one group of the map.
+/// A maker of hashers that begin as `first` does. Whoever knows how it begins can choose names that
+/// come into one group of the map.
 #[derive(Clone, Copy)]
 pub(crate) struct NameHashers {
     pub first: DefaultHasher,

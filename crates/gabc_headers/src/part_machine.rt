@@ -1,5 +1,5 @@
-//! The machine of the headers' lines, a character at a time. It knows no end: not the line `%%`,
-//! and no limit.
+//! The machine of the headers' lines, a character at a time. It knows no end: neither the line `%%`
+//! nor a limit.
 
 ghost use Rattle.std.specs.Prelude.{◌≡◌, ◌+◌, ◌<◌, ◌^◌};
 ghost use Rattle.gabc_headers.specs.declared.characters.HeaderChar.TheVariants.{Colon};
@@ -9,8 +9,8 @@ use crate::characters::{HeaderChar, Run};
 use crate::events::HeaderEvent;
 use gabc_places::Span;
 
-/// What is left of a text when it is trimmed: the byte at which it begins, so far, the byte after
-/// it, and whether all of it is left out.
+/// The part of a text that is left when it is trimmed: the byte at which it begins, so far, the
+/// byte after it, and whether all of it is left out.
 #[derive(Clone, Copy)]
 pub(crate) struct Trim {
     pub from: usize,
@@ -19,7 +19,7 @@ pub(crate) struct Trim {
 }
 
 impl Trim {
-    /// Of a text that begins at this byte.
+    /// Returns the trimming of a text that begins at the byte `at`.
     fn at(at: usize) -> Trim
         ensures { result ≡ trim_at at }
     {
@@ -30,8 +30,8 @@ impl Trim {
         }
     }
 
-    /// With one character more, which ends before the byte `next`, and is left out at the start or
-    /// at the end.
+    /// Returns the trimming with one character more, which ends before the byte `next`, and is left
+    /// out at the start if `lead`, or at the end if `last`.
     fn after(self, next: usize, lead: bool, last: bool) -> Trim
         ensures { result ≡ next_trim self next lead last }
     {
@@ -46,7 +46,7 @@ impl Trim {
         }
     }
 
-    /// The bytes that are left.
+    /// Returns the span of the bytes that are left.
     fn span(self) -> Span
         ensures { result ≡ span_of self }
     {
@@ -61,7 +61,7 @@ impl Trim {
     }
 }
 
-/// Where the machine stands: in a line that begins no header yet or in its name; in the rest of a
+/// The state of the machine: in a line that begins no header yet or in its name; in the rest of a
 /// line that is skipped; or in a value, on the header's own line or a later one (`long`).
 #[derive(Clone, Copy)]
 pub(crate) enum PartState {
@@ -71,7 +71,7 @@ pub(crate) enum PartState {
 }
 
 /// A machine of lines. `line` is the current one, from 1; `header` and `name` are those of the
-/// value in which it stands, the name unless its header is left out.
+/// value in which it is, the name unless its header is left out.
 #[derive(Clone, Copy)]
 pub(crate) struct PartMachine {
     pub state: PartState,
@@ -89,7 +89,7 @@ fn is_good(name: Span) -> bool
 }
 
 impl PartMachine {
-    /// At the start of this line, whose first byte is `at`.
+    /// Returns the machine at the start of the line `line`, whose first byte is `at`.
     pub(crate) fn fresh(line: u64, at: usize) -> PartMachine
         ensures { result ≡ at_line_start line at }
     {
@@ -247,7 +247,8 @@ impl PartMachine {
         }
     }
 
-    /// The line of the header whose value would be open if the text ended here.
+    /// Returns the line of the header whose value would be open if the text ended here, if there is
+    /// one.
     pub(crate) fn open_line(self) -> Option<u64>
         ensures { result ≡ open_in self.state self.header }
     {

@@ -1,4 +1,4 @@
-//! What stops the headers at their end.
+//! The faults of headers at their end.
 
 ghost use Rattle.std.specs.Prelude.{◌≡◌};
 ghost use Rattle.gabc_headers.specs.Heads.{line_place};
@@ -11,7 +11,7 @@ ghost use Rattle.gabc_headers.specs.machine.EntryMap.{AreWithin};
 use crate::entry_map::EntryMap;
 use gabc_places::{Code, Fault, Limits, Place};
 
-/// In the value of a header that begins on this line.
+/// Returns the fault of a value of a header that begins on the line `line`.
 fn value_fault(line: u64) -> Fault
     ensures { result ≡ record { place = line_place line; code = F3 } }
 {
@@ -22,7 +22,8 @@ fn value_fault(line: u64) -> Fault
     }
 }
 
-/// What stops the headers at the end of the text, where a value may be open.
+/// Returns the fault of the headers at the end of the text, which is at `place`. The value of the
+/// header of `open_line` is open, if there is one.
 pub(crate) fn end_fault(place: Place, open_line: Option<u64>) -> Fault
     ensures { result ≡ spec.end_fault place open_line }
 {
@@ -35,8 +36,8 @@ pub(crate) fn end_fault(place: Place, open_line: Option<u64>) -> Fault
     }
 }
 
-/// The number of bytes of the canonical header lines at the line `%%`, or what stops the headers
-/// there.
+/// Returns the number of bytes of the canonical header lines at the line `%%`, or the fault of the
+/// headers there.
 pub(crate) fn score_len(
     limits: Limits,
     text: &str,

@@ -23,8 +23,8 @@ use crate::header_stage::HeaderStage;
 use gabc_places::{Chain, Char, Decoder, Fault, Limits, Room, Stage, drive};
 use std::alloc::{AllocError, Global};
 
-/// Law: a fresh stage of headers, driven over `inputs`, emits what the definition says of them. For
-/// want of memory nothing is emitted.
+/// Law: a fresh stage of headers, driven over `inputs`, emits what the definition says of them. If
+/// memory cannot be allocated, nothing is emitted.
 pub fn a_fresh_stage_emits(
     alloc: Global,
     limits: Limits,
@@ -44,7 +44,7 @@ pub fn a_fresh_stage_emits(
 /// Law: a fresh stage of headers after a fresh decoder, driven over the `bytes` of an input that
 /// ended, emits what the definition says of the characters and the fault that `text_of` returns.
 /// Without a fault that is what `headers_whole` returns for the text, then the characters of its
-/// body and the end. For want of memory nothing is emitted.
+/// body and the end. If memory cannot be allocated, nothing is emitted.
 pub fn a_fresh_stage_reads_bytes(
     alloc: Global,
     limits: Limits,
@@ -78,8 +78,8 @@ pub fn the_body_is_passed_on(stage: &mut HeaderStage, c: Char, out: &mut Room<He
     stage.push(Ok(c), out);
 }
 
-/// Law: what an input does to a stage, and with it to the book that the stage shows: from the event
-/// `Heads` on it is that of the headers.
+/// Law: an input moves a stage to its next state, and with it the book that the stage shows: from
+/// the event `Heads` on it is that of the headers.
 pub fn an_input_is_taken(
     stage: &mut HeaderStage,
     input: Result<Char, Fault>,
@@ -114,9 +114,8 @@ pub fn stages_of_one_text_agree()
         ≡ events_left other.limits other.progress xs }
 {}
 
-/// Law: the text that a stage holds sets it down again: pushed into a fresh stage, wherever its
-/// characters are said to stand, it leaves a stage that holds this text. What that emits are the
-/// findings of the text.
+/// Law: the text that a stage holds restores it: pushed into a fresh stage, whatever the places of
+/// its characters, it leaves a stage that holds this text. The events are the findings of the text.
 pub fn a_held_text_is_held_again()
     ensures state { (limits : Limits) (hasher : DefaultHasher) (xs : List Char) →
         All IsScalar (text_in xs) → IsHeld limits (text_in xs) →
@@ -128,8 +127,8 @@ pub fn a_held_text_is_held_again()
         ≡ map (λ f. Found f) (findings_held limits (text_in xs)) }
 {}
 
-/// Law: of no character a text is held. Where a text is held, and held still with a character more,
-/// what was found in it stays found, and what is found more comes after it.
+/// Law: the empty text is held. If a text is held, and held still with a character more, its
+/// findings stay, and further findings come after them.
 pub fn a_held_text_grows()
     ensures begins { (limits : Limits) → IsHeld limits [] }
     ensures found { (limits : Limits) (t : List ℕ) (c : ℕ) → All IsScalar t → IsScalar c →

@@ -19,11 +19,12 @@ use std::alloc::{AllocError, Global};
 use std::hash::DefaultHasher;
 
 /// Reads the headers of `text`, whose end is the input's end (GregorioRef, "Headers"). Returns the
-/// headers and where the body begins, or what stopped them: no line `%%` (F2), a value that is not
-/// ended (F3), more bytes than `limits.header`, as read or in canonical form (F4), or with `%%` and
-/// an LF more canonical bytes than `limits.input` (F7). It fails only for want of memory. Names are
-/// hashed with a fixed key, so names can be chosen that are slow to read: 1,872 of 8 bytes took 31
-/// ms, where others take 3. Where strangers write the text, take `headers_whole_with_hasher`.
+/// headers and the byte at which the body begins, or the fault that stopped them: no line `%%`
+/// (F2), a value that is not ended (F3), more bytes than `limits.header`, as read or in canonical
+/// form (F4), or with `%%` and an LF more canonical bytes than `limits.input` (F7). Fails only if
+/// memory cannot be allocated. Names are hashed with a fixed key, so names can be chosen that are
+/// slow to read: 1,872 of 8 bytes took 31 ms, while others take 3. If strangers write the text, use
+/// `headers_whole_with_hasher`.
 pub fn headers_whole(
     alloc: Global,
     text: &Text,
@@ -36,7 +37,7 @@ pub fn headers_whole(
 }
 
 /// Reads the headers of `text` as `headers_whole` does, and hashes their names from `hasher` on.
-/// What it returns does not depend on `hasher`, but who does not know how it begins cannot choose
+/// The result does not depend on `hasher`, but whoever does not know how it begins cannot choose
 /// names that make the reading slow.
 pub fn headers_whole_with_hasher(
     alloc: Global,
@@ -67,7 +68,8 @@ pub fn headers_whole_with_hasher(
     }
 }
 
-/// The headers at the line `%%`, where a value may be open.
+/// Returns the headers at the line `%%`, whose first character is at `place`, or their fault. The
+/// value of the header of `open_line` is open, if there is one.
 fn at_score(
     alloc: Global,
     text: &str,
@@ -104,7 +106,8 @@ fn at_score(
     }))
 }
 
-/// The headers are stopped.
+/// Returns the fault `fault` of the headers, with the findings before it. `at_end` says whether its
+/// point is the end of the text.
 fn head_fault(fault: Fault, findings: Findings, at_end: bool) -> HeadFault
     ensures { result ≡ record { fault = fault; findings = findings; at_end = at_end } }
 {

@@ -7,8 +7,8 @@ use Rattle.gabc_nabc.specs.Parts.{bytes_of}
 use Rattle.gabc_nabc.specs.declared.code.GlyphCode.{GlyphCode}
 use Rattle.gabc_nabc.specs.declared.descriptor.Descriptor.{Descriptor}
 
--- the code whose second letter stands at this place: if its first letter is at the start of the
--- text, or after a `!`
+-- the code whose second letter is at this place: if its first letter is at the start of the text,
+-- or after a `!`
 abbrev pub code_at : List ℕ → ℕ → List GlyphCode
 code_at text i = if (i == 1) || (slice_index text (i - 2) == 33) then record { first = slice_index text (i - 1); second = slice_index text i } ∷ [] else []
 

@@ -1,4 +1,4 @@
--- What is emitted of an NABC snippet, character by character: each by what stands before it.
+-- The events of an NABC snippet, character by character: each by the text before it.
 use Rattle.std.specs.Prelude.{ℕ, ◌-◌, ◌^◌, min, List, [], ◌∷◌, ◌++◌, Bool, false, not, ◌&&◌, ◌||◌, ◌==◌, nat_le, if◌then◌else◌, Option, Some, None, length, take, drop, encode_utf8_all}
 use Rattle.gabc_notes.specs.Events.{finding_event, end_by_mark}
 use Rattle.gabc_places.specs.declared.code.Code.TheVariants.{E3, E6, W7}
@@ -28,12 +28,12 @@ is_character t c = not (in_comment t) && not (is_in c (37 ∷ 32 ∷ 9 ∷ 10 �
 abbrev pub is_end : List ℕ → ℕ → Bool
 is_end t c = not (in_comment t) && ((c == 41) || (c == 124))
 
--- the characters of the snippet in cs, where the text stands before them
+-- the characters of the snippet in cs, if the text comes before them
 abbrev pub characters_after : List ℕ → List ℕ → List ℕ
 characters_after t [] = []
 characters_after t (c ∷ cs) = if is_character t c then c ∷ characters_after (t ++ c ∷ []) cs else characters_after (t ++ c ∷ []) cs
 
--- one of cs ends the snippet, where the text stands before them
+-- one of cs ends the snippet, if the text comes before them
 abbrev pub has_end_after : List ℕ → List ℕ → Bool
 has_end_after t [] = false
 has_end_after t (c ∷ cs) = is_end t c || has_end_after (t ++ c ∷ []) cs
@@ -42,11 +42,11 @@ has_end_after t (c ∷ cs) = is_end t c || has_end_after (t ++ c ∷ []) cs
 abbrev pub has_end : List ℕ → Bool
 has_end t = has_end_after [] t
 
--- what is kept of a text: of its characters each one that leaves the kept text viable
+-- the kept text of a text: of its characters each one that leaves the kept text viable
 abbrev pub kept_of : List ℕ → List ℕ
 kept_of t = keep nabc (characters_after [] t)
 
--- ---- codes that have no name
+-- ---- codes without a name
 
 abbrev pub is_letter : ℕ → Bool
 is_letter c = nat_le 97 c && nat_le c 122
@@ -76,7 +76,7 @@ joins t = is_in 33 (last_of t)
 abbrev pub takes_code : List ℕ → Bool
 takes_code t = is_snippet nabc t || joins t
 
--- the first letter of a code, if it stands here
+-- the first letter of a code, if it is here
 abbrev pub first_after : List ℕ → List ℕ → Option ℕ
 first_after t (a ∷ []) = if takes_code t && begins_code a then Some a else None
 first_after t _ = None
@@ -85,45 +85,45 @@ first_after t _ = None
 abbrev pub first_of : List ℕ → Option ℕ
 first_of t = first_after (before_last t) (last_of t)
 
--- with the letter c it is a code, and the table of names lacks that
+-- with the letter c it is a code, and the table of names lacks it
 abbrev pub is_missing : Option ℕ → ℕ → Bool
 is_missing None c = false
 is_missing (Some a) c = is_code a c && not (is_known a c)
 
--- ---- what is emitted
+-- ---- the events
 
 -- the bytes of a kept text. A count does not pass 2^64 - 1.
 abbrev pub bytes_in : List ℕ → ℕ
 bytes_in t = min (length (encode_utf8_all t)) (2 ^ 64 - 1)
 
--- The end at the character x, where that is kept: E6 if it is no NABC snippet, and the bytes of its
--- longest prefix that is one.
+-- The end at the character x, after this kept text: E6 if that is no NABC snippet, and the bytes of
+-- its longest prefix that is one.
 abbrev pub end_events : List ℕ → Char → List NoteEvent
 end_events kept x = (if is_snippet nabc kept then [] else finding_event x.place E6 ∷ []) ++ Ended (end_by_mark x.c) (bytes_in (trim nabc kept)) ∷ []
 
--- The character x of the snippet, where that is kept: kept, with W7 if it ends a code without a
+-- The character x of the snippet, after this kept text: kept, with W7 if it ends a code without a
 -- name, or E3.
 abbrev pub character_events : List ℕ → Char → List NoteEvent
 character_events kept x =
     if is_viable nabc (kept ++ x.c ∷ []) then Kept x ∷ (if is_missing (first_of kept) x.c then finding_event x.place W7 ∷ [] else []) else
     finding_event x.place E3 ∷ []
 
--- what is emitted of the character x after the text
+-- the events of the character x after the text
 abbrev pub events_at : List ℕ → Char → List NoteEvent
 events_at t x =
     if has_end t then [] else
     if is_end t x.c then end_events (kept_of t) x else
     if is_character t x.c then character_events (kept_of t) x else []
 
--- what is emitted of the end of the characters after the text
+-- the events of the end of the characters after the text
 abbrev pub cut_events : List ℕ → List NoteEvent
 cut_events t = if has_end t then [] else Ended (Cut (record { line = 0; column = 0 })) (bytes_in (kept_of t)) ∷ []
 
--- what is emitted of each of these characters after the text, and of their end
+-- the events of each of these characters after the text, and of their end
 abbrev pub nabc_events_after : List ℕ → List Char → List (List NoteEvent)
 nabc_events_after t [] = cut_events t ∷ []
 nabc_events_after t (x ∷ xs) = events_at t x ∷ nabc_events_after (t ++ x.c ∷ []) xs
 
--- what is emitted of these characters, a list for each, and of their end
+-- the events of these characters, a list for each, and of their end
 abbrev pub nabc_events : List Char → List (List NoteEvent)
 nabc_events xs = nabc_events_after [] xs

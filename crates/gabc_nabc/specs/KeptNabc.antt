@@ -1,5 +1,4 @@
--- What becomes of a character of an NABC snippet, and what is found with it, by what is kept before
--- it.
+-- The fate of a character of an NABC snippet, and its findings, by what is kept before it.
 use Rattle.std.specs.Prelude.{ℕ, List, [], ◌∷◌, ◌++◌, Bool, cond, not, ◌||◌, ◌&&◌, ◌==◌, codes, Some, None}
 use Rattle.gabc_places.specs.Fate.{Fate, Keep, Comment, Ends, LeaveOut}
 use Rattle.gabc_places.specs.declared.code.Code.{Code}
@@ -18,7 +17,7 @@ is_snippet t = is_read nabc t
 abbrev pub is_viable : List ℕ → Bool
 is_viable t = goes_on nabc ([] ∷ codes "a" ∷ codes "aa" ∷ codes "1" ∷ codes "a1" ∷ []) t
 
--- what becomes of the character c after this kept text; blanks are left out in silence
+-- the fate of the character c after this kept text; blanks are left out in silence
 abbrev pub fate_in_nabc : List ℕ → ℕ → Fate
 fate_in_nabc kept c =
     cond (c == 37) Comment
@@ -26,15 +25,15 @@ fate_in_nabc kept c =
     (cond (is_in c (32 ∷ 9 ∷ 10 ∷ [])) (LeaveOut None)
     (cond (is_viable (kept ++ c ∷ [])) Keep (LeaveOut (Some E3)))))
 
--- W7 of a code that has no name, by what stands before it, its first letter and its second
+-- W7 of a code without a name, by the text before it, its first letter and its second
 abbrev pub found_of_code : List ℕ → List ℕ → ℕ → List Code
 found_of_code before (a ∷ []) c = cond ((is_snippet before || joins before) && (is_code a c && not (is_known a c))) (W7 ∷ []) []
 found_of_code before _ c = []
 
--- what is found with the character c that is kept after this text
+-- the findings of the character c that is kept after this text
 abbrev pub found_in_nabc : List ℕ → ℕ → List Code
 found_in_nabc kept c = found_of_code (before_last kept) (last_of kept) c
 
--- what is found at the mark after it: E6 of an unfinished end
+-- the findings of the mark after it: E6 of an unfinished end
 abbrev pub found_at_end : List ℕ → List Code
 found_at_end kept = cond (is_snippet kept) [] (E6 ∷ [])

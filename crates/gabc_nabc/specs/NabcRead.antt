@@ -1,4 +1,4 @@
--- What `nabc_whole` says of a text, by relations over the whole of the snippet with which it
+-- The reading of a text by `nabc_whole`, by relations over the whole of the snippet with which it
 -- begins.
 use Rattle.std.specs.Prelude.{◌≡◌, ◌⊎◌, ℕ, List, [], ◌∷◌, ◌++◌, ◌==◌, true, false, chars, if◌then◌else◌, length, map, string_bytes, encode_utf8_all}
 use Rattle.gabc_places.specs.declared.code.Code.{Code}
@@ -72,12 +72,12 @@ pub record IsEnded (at : Place) (front kept : List ℕ) (found : List Finding) (
   pub findings_are : r.findings ≡ found ++ last
   pub how_is : r.how ≡ (let n = length (encode_utf8_all front) in if c == 124 then Next n else Close n)
 
--- the snippet ends where the rest begins, or is cut where the text ends
+-- the snippet ends before the rest, or is cut at the end of the text
 abbrev pub IsRead : Place → List ℕ → List ℕ → List Finding → List ℕ → SnippetRead → Type 0
 IsRead at front kept found [] r = (string_bytes r.kept ≡ encode_utf8_all kept) × (r.findings ≡ found) × (r.how ≡ Cut (record { line = 0; column = 0 }))
 IsRead at front kept found (c ∷ rest) r = IsEnded at front kept found c r
 
--- The text begins with the snippet, and what stands in front of the rest has no mark that ends one.
+-- The text begins with the snippet, and the characters before the rest have no mark that ends one.
 pub record IsNabcRead (at : Place) (t : List ℕ) (r : SnippetRead) : Type 0 where
   pub front : List ℕ
   pub rest : List ℕ

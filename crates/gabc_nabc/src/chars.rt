@@ -11,8 +11,8 @@ use gabc_places::{Char, Place, Sequence};
 use std::alloc::{AllocError, Global};
 
 /// Returns the characters of the text that `nabc_whole` keeps of the same arguments, each with its
-/// place in the source: a byte of that text belongs to the character whose bytes it is among. It
-/// fails only for want of memory.
+/// place in the source: a byte of that text belongs to the character of which it is a byte. Fails
+/// only if memory cannot be allocated.
 pub fn kept_chars(alloc: Global, body: &str, at: Place) -> Result<Sequence<Char>, AllocError>
     requires line { at.line + length body.now < 2 ^ 64 }
     requires column { at.column + length body.now < 2 ^ 64 }

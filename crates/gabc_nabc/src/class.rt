@@ -1,4 +1,4 @@
-//! Characters, by what they may do in NABC.
+//! The classes of characters in NABC.
 
 ghost use Rattle.std.specs.Prelude.{◌≡◌};
 ghost use Rattle.gabc_nabc.specs.CharClass.{class_of_character};
@@ -8,7 +8,7 @@ use NabcClass::{
     Other, Pitch, Slash, Tick,
 };
 
-/// What a character may be in a descriptor or a space.
+/// The class of a character, by its roles in a descriptor or a space.
 #[derive(Clone, Copy)]
 pub(crate) enum NabcClass {
     /// `h`, which begins a pitch and no code, and is a pitch itself.
@@ -27,7 +27,7 @@ pub(crate) enum NabcClass {
     Digit,
     /// `S`, `G`, `M`, `>` and `~`.
     Modifier,
-    /// `-`, a modifier that stands in letters too.
+    /// `-`, a modifier that may be in letters too.
     Hyphen,
     Bang,
     Slash,
@@ -56,7 +56,7 @@ const CLASSES: [NabcClass; 128] = [
     Letter, Letter, Letter, Other, Other, Other, Modifier, Other, // x y z { | } ~ DEL
 ];
 
-/// Returns the class of a character, by the table where it has one.
+/// Returns the class of the character `c`, by the table if it is below 128.
 #[inline(always)]
 pub(crate) fn class_of(c: char) -> NabcClass
     ensures { result ≡ class_of_character c }

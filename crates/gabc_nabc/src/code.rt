@@ -1,6 +1,6 @@
 //! The code of a glyph.
 
-/// The two letters that say which neume a glyph is.
+/// The two letters of a glyph that name its neume.
 #[derive(Clone, Copy, Debug, PartialEq, Eq)]
 pub struct GlyphCode {
     /// The first letter.
@@ -13,8 +13,8 @@ impl GlyphCode {
     ghost use Rattle.std.specs.Prelude.{◌≡◌, MatchOption, Some, None};
     ghost use Rattle.gabc_nabc.specs.Names.{name_by};
 
-    /// Returns its name in this project's words, such as `virga` of `vi`: none for a code that the
-    /// table of names lacks.
+    /// Returns its name in this project's words, such as `virga` for `vi`; `None` for a code that
+    /// the table of names lacks.
     pub fn name(self) -> Option<&'static str>
         ensures { let by_table = name_by self.first self.second in
             MatchOption result (by_table ≡ None) (λ name. by_table ≡ Some name.now) }

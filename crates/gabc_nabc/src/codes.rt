@@ -7,7 +7,7 @@ use crate::code::GlyphCode;
 use crate::descriptor::Descriptor;
 use std::marker::Model;
 
-/// Returns the code whose second letter is the byte `at` of `text`, from 1, if one stands there.
+/// Returns the code whose second letter is the byte `at` of `text`, from 1, if there is one.
 fn code_ending(text: &[u8], at: usize) -> Option<GlyphCode>
     requires from { 1 ≤ at }
     requires within { at < length text.now }
@@ -23,12 +23,13 @@ fn code_ending(text: &[u8], at: usize) -> Option<GlyphCode>
     }
 }
 
-/// Goes over the codes of a descriptor's glyphs, in order. Contracts see the list of those to come.
+/// An iterator over the codes of a descriptor's glyphs, in order. In contracts it is the list of
+/// the remaining ones.
 #[derive(Drop)]
 pub struct CodeReader<'a> {
     /// The bytes of the descriptor.
     text: &'a [u8],
-    /// Where the second letter of the next code may stand.
+    /// The byte at which the second letter of the next code may be.
     at: usize,
 }
 

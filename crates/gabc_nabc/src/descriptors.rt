@@ -13,7 +13,7 @@ use gabc_places::{Room, Span};
 use std::alloc::{AllocError, Global};
 use std::marker::Model;
 
-/// Returns the longest part that begins `text`: whether it is a space, and how many bytes it has.
+/// Returns the longest part that begins `text`: whether it is a space, and its number of bytes.
 fn first_part(text: &str) -> Option<(bool, usize)>
     ensures { result ≡ first_part_of text.now }
 {
@@ -35,13 +35,13 @@ fn first_part(text: &str) -> Option<(bool, usize)>
     best
 }
 
-/// Goes over the descriptors and spaces of a kept text, in order. Contracts see the list of those
-/// to come.
+/// An iterator over the descriptors and spaces of a kept text, in order. In contracts it is the
+/// list of the remaining ones.
 #[derive(Drop)]
 pub struct PartReader<'a> {
     /// The text from the next part on.
     rest: &'a str,
-    /// How many bytes of the kept text stand before it.
+    /// The number of bytes of the kept text before it.
     at: usize,
 }
 
@@ -79,10 +79,10 @@ impl<'a> Iterator for PartReader<'a> {
 }
 
 /// Returns an iterator over the descriptors and spaces of `kept`, in order: spans that count its
-/// bytes, each part the longest that begins where the one before it ends. They are all of an NABC
-/// snippet, such as what `nabc_whole` keeps wherever the snippet ended; another text is read as far
-/// as a part begins. They lie in `kept`, and are at most as many as its bytes. It asks for no
-/// memory, and each part is read when it is asked for.
+/// bytes, each part the longest that begins at the end of the one before it. They make up all of an
+/// NABC snippet, such as the text that `nabc_whole` keeps if the snippet ended; in another text
+/// they end at the first place where no part begins. They lie in `kept`, and are at most as many as
+/// its bytes. It does not allocate, and reads each part when it is asked for.
 pub fn parts_in(kept: &str) -> PartReader<'_>
     ensures parts { result ≡ parts_of kept.now }
     ensures within { AreWithin kept.now (parts_of kept.now) }
@@ -91,8 +91,8 @@ pub fn parts_in(kept: &str) -> PartReader<'_>
     PartReader { rest: kept, at: 0 }
 }
 
-/// Returns the descriptors and spaces of `kept`, as `parts_in` gives them. It fails only for want
-/// of memory.
+/// Returns the descriptors and spaces of `kept`, as `parts_in` returns them. Fails only if memory
+/// cannot be allocated.
 pub fn descriptors_whole(alloc: Global, kept: &str) -> Result<Descriptors, AllocError>
     ensures { IfOk result (λ parts. AreDescriptorsOf kept.now parts) }
 {
@@ -104,8 +104,8 @@ pub fn descriptors_whole(alloc: Global, kept: &str) -> Result<Descriptors, Alloc
     Ok(parts)
 }
 
-/// Adds to `out` the descriptors and spaces of `kept`, as `parts_in` gives them, and asks for no
-/// memory. `out` has to take as many parts more as `kept` has bytes.
+/// Adds to `out` the descriptors and spaces of `kept`, as `parts_in` returns them, and does not
+/// allocate. `out` has to take as many parts more as `kept` has bytes.
 pub fn descriptors_into(kept: &str, out: &mut Room<Descriptor>)
     requires { Fits out.old (length kept.now) }
     ensures { out.new ≡ extended_by out.old (parts_of kept.now) }

@@ -1,4 +1,4 @@
-//! Which texts are NABC snippets.
+//! The texts that are NABC snippets.
 
 ghost use Rattle.std.specs.Prelude.{IsTrue, ◌↔◌};
 ghost use Rattle.gabc_nabc.specs.Parts.{IsNabc};

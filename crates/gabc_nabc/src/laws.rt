@@ -1,5 +1,5 @@
-//! Laws of the definitions that contracts speak of. Each function is there for its clauses: all but
-//! one do nothing, and that one drives a fresh stage.
+//! Laws of the definitions that contracts use. Each function is there for its clauses: all but one
+//! do nothing, and that one drives a fresh stage.
 
 ghost use Rattle.std.specs.Prelude.{◌≡◌, ◌≤◌, ◌+◌, ◌*◌, ℕ, List, [], ◌∷◌, ◌++◌, Bool, length, take, drop, map, true, false, Some, encode_utf8_all, IsTrue, ◌↔◌, Decides};
 ghost use Rattle.gabc_places.specs.Findings.{AreInOrder, LieBetween};
@@ -77,15 +77,15 @@ pub fn parts_are_computed()
     ensures within { (bytes : List ℕ) → IsUtf8 bytes → AreWithin bytes (parts_of bytes) }
 {}
 
-/// Law: what is read of a text, by relations over the whole of it, is what is computed a character
-/// at a time.
+/// Law: the reading of a text by relations, over the whole of it, is the one that is computed a
+/// character at a time.
 pub fn what_is_read_is_computed()
     ensures { (at : Place) (t : List ℕ) (read : SnippetRead) →
         IsNabcRead at t read ↔ IsComputed at t read }
 {}
 
-/// Law: what is emitted of characters, by relations over the whole of the text before each, is
-/// what is computed a character at a time.
+/// Law: the events of characters by relations, over the whole of the text before each, are those
+/// that are computed a character at a time.
 pub fn what_is_emitted_is_computed()
     ensures { (xs : List Char) (lists : List (List NoteEvent)) →
         AreNabcEvents xs lists ↔ lists ≡ nabc_events xs }
@@ -108,8 +108,8 @@ pub fn codes_are_two_letters()
     ensures { (a c : ℕ) → IsTrue (is_code a c) ↔ Spells code (a ∷ c ∷ []) }
 {}
 
-/// Law: what is emitted of characters does not depend on what follows them, and after the end
-/// nothing is emitted.
+/// Law: the events of characters do not depend on those that follow them, and after the end nothing
+/// is emitted.
 pub fn what_follows_emits_nothing()
     ensures prefix { (xs ys zs : List Char) →
         take (length xs) (nabc_events (xs ++ ys)) ≡ take (length xs) (nabc_events (xs ++ zs)) }
@@ -135,7 +135,7 @@ pub fn one_end_is_emitted()
         ≤ length (encode_utf8_all (kept_in (concat_of (nabc_events xs))))) }
 {}
 
-/// Law: what is emitted of a character has at most one finding, which stands at its place.
+/// Law: the events of a character have at most one finding, which is at its place.
 pub fn one_finding_a_character()
     ensures { (t : List ℕ) (x : Char) → AreAtMostOne x.place (findings_of (events_at t x)) }
 {}
@@ -156,7 +156,7 @@ pub fn names_are_short()
     ensures { (a c : ℕ) (name : List ℕ) → name_by a c ≡ Some name → length name ≤ 20 }
 {}
 
-/// Law: what is emitted of a text through the character after a prefix has its findings at the
+/// Law: the findings of a text that are emitted through the character after a prefix are at the
 /// text's place or later, and no later than that character.
 pub fn findings_lie_within()
     ensures { (at : Place) (prefix rest : List ℕ) →
@@ -165,8 +165,8 @@ pub fn findings_lie_within()
         LieBetween at (place_past at prefix) (findings_of events) }
 {}
 
-/// Law: of a character at most one end is emitted, after all else: at a `)` or a `|`. Of the end of
-/// the characters nothing is emitted but that they were cut.
+/// Law: at most one end is emitted at a character, after all other events: at a `)` or a `|`. At
+/// the end of the characters nothing is emitted but that they were cut.
 pub fn a_snippet_ends_at_its_mark()
     ensures mark { (t : List ℕ) (x : Char) → EndAtMost true x.c (events_at t x) }
     ensures last { (t : List ℕ) → AreCutAtMost (cut_events t) }

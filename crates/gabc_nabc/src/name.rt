@@ -6,7 +6,8 @@ ghost use Rattle.gabc_nabc.specs.Names.{name_among, name_by, name_in, is_known};
 
 use crate::names::NAMES;
 
-/// Returns the name of the code of these two letters, by the first row of `names` that has it.
+/// Returns the name of the code of the letters `first` and `second`, by the first row of `names`
+/// that has it.
 fn find_name(
     names: &[(char, char, &'static str)],
     first: char,
@@ -25,7 +26,7 @@ fn find_name(
     None
 }
 
-/// Returns the name of the code of these two letters.
+/// Returns the name of the code of the letters `first` and `second`, if it has one.
 #[inline(always)]
 pub(crate) fn name_at(first: char, second: char) -> Option<&'static str>
     ensures { MatchOption result (name_by first second ≡ None) (λ name. name_by first second
@@ -34,15 +35,15 @@ pub(crate) fn name_at(first: char, second: char) -> Option<&'static str>
     find_name(&NAMES, first, second)
 }
 
-/// Returns whether the table of names has the code of these two letters.
+/// Returns whether the table of names has the code of the letters `first` and `second`.
 pub(crate) fn is_named(first: char, second: char) -> bool
     ensures { result ≡ is_known first second }
 {
     name_at(first, second).is_some()
 }
 
-/// Returns the name of `code` in this project's words, such as `virga` of `vi`; `None` for a code
-/// that the table of names lacks, and for a text of other than two characters.
+/// Returns the name of `code` in this project's words, such as `virga` for `vi`; `None` for a code
+/// that the table of names lacks, and for a text that has not two characters.
 pub fn name_of(code: &str) -> Option<&str>
     ensures { MatchOption result (name_in (chars code.now) ≡ None) (λ name. name_in (chars code.now)
         ≡ Some name.now) }

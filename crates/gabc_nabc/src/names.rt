@@ -3,7 +3,7 @@
 ghost use Rattle.std.specs.Prelude.{◌≡◌, [], ◌∷◌, map};
 ghost use Rattle.gabc_nabc.specs.KnownNames.{names_spelled};
 
-/// The codes that are known: two letters and the name of the neume, in this project's words.
+/// The known codes: two letters and the name of the neume, in this project's words.
 #[rattlefmt::skip]
 pub(crate) const NAMES: [(char, char, &str); 31] = [
     ('v', 'i', "virga"),

@@ -1,4 +1,4 @@
-//! How far a text is a regular NABC snippet: it is kept as it stands, and nothing is found in it.
+//! The length of a regular NABC snippet: it is kept as it is written, and nothing is found in it.
 
 ghost use Rattle.std.specs.Prelude.{◌≡◌, true};
 ghost use Rattle.gabc_patterns.specs.LongestPrefix.{IsLongestPrefix};
@@ -12,7 +12,7 @@ use crate::name::is_named;
 use crate::stage::{first_letter, lacks_name};
 use crate::state::{DescriptorState, is_whole, next_state};
 
-/// Returns whether `c` is known to stand in no snippet: it ends one, or is not of ASCII.
+/// Returns whether `c` is known to be in no snippet: it ends one, or is not of ASCII.
 #[inline(always)]
 fn is_foreign(c: char) -> bool
     ensures { result ≡ true → class_of_character c ≡ NabcClass.Other }
@@ -20,7 +20,7 @@ fn is_foreign(c: char) -> bool
     c == ')' || c == '|' || !c.is_ascii()
 }
 
-/// Where the reading of a snippet stands in which nothing was found yet.
+/// The state of the reading of a snippet in which nothing was found yet.
 #[derive(Clone, Copy)]
 pub(crate) struct RegularState {
     part: DescriptorState,
@@ -29,8 +29,8 @@ pub(crate) struct RegularState {
 }
 
 impl RegularState {
-    /// Returns where the reading stands after `c`; `None` where `c` is not kept or ends a code that
-    /// has no name. What stands in no snippet has a short way.
+    /// Returns the state after `c`; `None` if `c` is not kept or ends a code without a name. A
+    /// character that is in no snippet takes a short way.
     #[inline(always)]
     fn after(self, c: char) -> Option<RegularState>
         ensures { result ≡ regular_after self c }
@@ -57,7 +57,8 @@ impl RegularState {
     }
 }
 
-/// Returns whether `bytes` begin with a code that has a name, and what stands in no snippet.
+/// Returns whether `bytes` begin with a code that has a name, and after it a character that is in
+/// no snippet.
 fn begins_with_lone_code(bytes: &[u8]) -> bool
     ensures { result ≡ true → IsLoneCode bytes.now }
 {
@@ -66,7 +67,7 @@ fn begins_with_lone_code(bytes: &[u8]) -> bool
         && is_named(char::from(bytes[0]), char::from(bytes[1]))
 }
 
-/// Returns what `regular_nabc` returns, whatever the text is.
+/// Returns the length that `regular_nabc` returns, for any text.
 fn regular_by_bytes(text: &str) -> usize
     ensures { IsLongestPrefix IsRegular text.now result }
 {
@@ -91,9 +92,9 @@ fn regular_by_bytes(text: &str) -> usize
     regular
 }
 
-/// Returns how many bytes of `text` its longest prefix has that is a regular snippet of NABC: in
-/// front of the `)` or `|` that ends it, each of its characters is kept and nothing is found
-/// (GregorioRef, the NABC reference). The empty one is such a prefix. Most snippets are one code.
+/// Returns the length in bytes of the longest prefix of `text` that is a regular snippet of NABC:
+/// before the `)` or `|` that ends it, each of its characters is kept and nothing is found
+/// (GregorioRef, the NABC reference). The empty text is such a prefix. Most snippets are one code.
 #[inline(never)]
 pub fn regular_nabc(text: &str) -> usize
     ensures { IsLongestPrefix IsRegular text.now result }

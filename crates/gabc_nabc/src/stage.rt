@@ -18,7 +18,7 @@ use crate::state::{DescriptorState, is_whole, next_state};
 use gabc_notes::{NoteEnd, NoteEvent};
 use gabc_places::{Char, Code, Finding, Place, Room, Stage};
 
-/// What is known of a character where it stands.
+/// The facts about a character in its context.
 #[derive(Clone, Copy)]
 pub(crate) struct NabcFacts {
     /// The kept text is an NABC snippet.
@@ -26,11 +26,11 @@ pub(crate) struct NabcFacts {
     /// The kept text with the character is viable, and an NABC snippet.
     pub(crate) viable: bool,
     pub(crate) whole_after: bool,
-    /// The character ends a code that has no name.
+    /// The character ends a code without a name.
     pub(crate) unknown: bool,
 }
 
-/// What becomes of a character.
+/// The role of a character.
 #[derive(Clone, Copy)]
 pub(crate) enum NabcRole {
     /// It is a blank or part of a comment.
@@ -63,7 +63,7 @@ pub(crate) fn first_letter(state: DescriptorState, letter: char) -> Option<char>
     }
 }
 
-/// Returns whether these are the letters of a code.
+/// Returns whether `first` and `second` are the letters of a code.
 fn makes_code(first: char, second: char) -> bool
     ensures { result ≡ is_code first second }
 {
@@ -76,7 +76,7 @@ fn makes_code(first: char, second: char) -> bool
     }
 }
 
-/// Returns whether a character ends a code that has no name, where `first` is the first letter of
+/// Returns whether the character `c` ends a code without a name, if `first` is the first letter of
 /// one.
 #[inline(always)]
 pub(crate) fn lacks_name(first: Option<char>, c: char) -> bool
@@ -88,7 +88,7 @@ pub(crate) fn lacks_name(first: Option<char>, c: char) -> bool
     }
 }
 
-/// Returns what is known of a character, by the state before it and the next one, if there is one.
+/// Returns the facts about a character, by the state before it and the next one, if there is one.
 fn look(state: DescriptorState, next: Option<DescriptorState>, letter: char, c: char) -> NabcFacts
     ensures { result ≡ facts_by_states state next letter c }
 {
@@ -103,7 +103,7 @@ fn look(state: DescriptorState, next: Option<DescriptorState>, letter: char, c: 
     }
 }
 
-/// Returns what becomes of a character.
+/// Returns the role of a character.
 fn role_of(comment: bool, viable: bool, c: char) -> NabcRole
     ensures { result ≡ role_in comment viable c }
 {
@@ -118,8 +118,8 @@ fn role_of(comment: bool, viable: bool, c: char) -> NabcRole
     }
 }
 
-/// Returns what is emitted at a character. The longest prefix of the kept text that is an NABC
-/// snippet has `whole` bytes.
+/// Returns the events of a character. The longest prefix of the kept text that is an NABC snippet
+/// has `whole` bytes.
 fn events_by(role: NabcRole, facts: NabcFacts, whole: usize, x: Char) -> NabcEvents
     ensures { result ≡ events_in role facts whole x }
 {
@@ -152,7 +152,7 @@ fn events_by(role: NabcRole, facts: NabcFacts, whole: usize, x: Char) -> NabcEve
     }
 }
 
-/// Adds what is emitted.
+/// Adds the events of a call to `out`.
 fn emit(events: NabcEvents, out: &mut Room<NoteEvent>)
     requires { Fits out.old 3 }
     ensures { out.new ≡ extended_by out.old (event_list events) }
@@ -165,9 +165,9 @@ fn emit(events: NabcEvents, out: &mut Room<NoteEvent>)
     }
 }
 
-/// Reads an NABC snippet (GregorioRef, the NABC reference): emits each character that is kept, the
-/// findings as they become known, and the end. A call emits at most 3 events. It asks for no
-/// memory. The call that ends it changes nothing else of it, and after that none changes it.
+/// Reads an NABC snippet (GregorioRef, the NABC reference): emits each kept character, the findings
+/// as they become known, and the end. A call emits at most 3 events. It does not allocate. The call
+/// that ends it changes nothing else of it, and after that none changes it.
 #[derive(Drop)]
 pub struct NabcStage {
     state: DescriptorState,
@@ -184,8 +184,8 @@ pub struct NabcStage {
 impl NabcStage {
     /// Returns a stage before the first character of a snippet. It has kept the empty text, and no
     /// comment is open. A call emits at most 3 events: of a character that it is kept, if it is,
-    /// and what is found there; of the mark that ends the snippet what is found, and the end; where
-    /// the characters end before it, that they were cut. After the end nothing is emitted, and the
+    /// and its finding; of the mark that ends the snippet the findings, and the end; if the
+    /// characters end before it, that they were cut. After the end nothing is emitted, and the
     /// stage stays as it is.
     pub fn new() -> NabcStage
         ensures events { (xs : List Char) → AreNabcEvents xs (events_left result xs) }
@@ -202,8 +202,8 @@ impl NabcStage {
         }
     }
 
-    /// Adds a character to the kept text. With it that stands at `next`, and `whole` says that it
-    /// is an NABC snippet then.
+    /// Adds the character `c` to the kept text. `next` is the state after it, and `whole` says
+    /// whether the kept text is an NABC snippet then.
     fn keep(&mut self, next: DescriptorState, whole: bool, c: char)
         ensures { self.new ≡ stage_kept self.old next whole c }
     {
@@ -215,7 +215,7 @@ impl NabcStage {
         }
     }
 
-    /// Takes a character with this role.
+    /// Takes a character with the role `role`.
     fn advance(&mut self, role: NabcRole, facts: NabcFacts, next: Option<DescriptorState>, c: char)
         ensures { self.new ≡ stage_moved_on self.old role facts next c }
     {
@@ -236,7 +236,7 @@ impl NabcStage {
         self.comment
     }
 
-    /// Takes a character, and adds what is emitted at it.
+    /// Takes the character `x`, and adds its events to `out`.
     pub(crate) fn take(&mut self, x: Char, out: &mut Room<NoteEvent>)
         requires { Fits out.old 3 }
         ensures stage { self.new ≡ stage_after self.old x.c }
@@ -252,7 +252,7 @@ impl NabcStage {
         self.advance(role, facts, next, x.c);
     }
 
-    /// Ends the characters, and adds what is emitted then.
+    /// Ends the characters, and adds the last events to `out`.
     pub(crate) fn stop(&self, out: &mut Room<NoteEvent>)
         requires { Fits out.old 3 }
         ensures { out.new ≡ extended_by out.old (events_of_cut self.now) }

@@ -6,7 +6,7 @@ ghost use Rattle.gabc_nabc.specs.machine.DescriptorMachine.{is_space_at_end};
 
 use crate::class::NabcClass;
 
-/// Where a part stands after some of its characters.
+/// The state of a part after some of its characters.
 #[derive(Clone, Copy)]
 pub(crate) enum DescriptorState {
     /// Between parts.
@@ -50,7 +50,7 @@ pub(crate) enum DescriptorState {
     Space,
 }
 
-/// Returns whether it is a letter.
+/// Returns whether `class` is that of a letter.
 fn is_letter(class: NabcClass) -> bool
     ensures { result ≡ is_a_letter class }
 {
@@ -61,7 +61,7 @@ fn is_letter(class: NabcClass) -> bool
     }
 }
 
-/// Returns whether it is a letter that is a pitch.
+/// Returns whether `class` is that of a letter that is a pitch.
 fn is_pitch(class: NabcClass) -> bool
     ensures { result ≡ is_a_pitch class }
 {
@@ -71,7 +71,7 @@ fn is_pitch(class: NabcClass) -> bool
     }
 }
 
-/// Returns where a part stands after the first character of a code, if that may begin one.
+/// Returns the state after the first character of a code, if the character may begin one.
 fn code_begins(class: NabcClass) -> Option<DescriptorState>
     ensures { result ≡ code_begun class }
 {
@@ -86,7 +86,7 @@ fn code_begins(class: NabcClass) -> Option<DescriptorState>
     }
 }
 
-/// Returns where a part stands after its first character, if that may begin one.
+/// Returns the state after the first character of a part, if the character may begin one.
 fn begins(class: NabcClass) -> Option<DescriptorState>
     ensures { result ≡ part_begun class }
 {
@@ -97,7 +97,7 @@ fn begins(class: NabcClass) -> Option<DescriptorState>
     }
 }
 
-/// Returns where a part stands after the first character of points or letters.
+/// Returns the state after the first character of points or letters.
 fn tail_begins(class: NabcClass) -> Option<DescriptorState>
     ensures { result ≡ in_tail class }
 {
@@ -109,7 +109,7 @@ fn tail_begins(class: NabcClass) -> Option<DescriptorState>
     }
 }
 
-/// Returns where the part stands with a character more, if it goes on.
+/// Returns the state after one more character, if the part goes on.
 #[inline(always)]
 pub(crate) fn goes_on(state: DescriptorState, class: NabcClass) -> Option<DescriptorState>
     ensures { result ≡ going_on state class }
@@ -165,7 +165,7 @@ pub(crate) fn goes_on(state: DescriptorState, class: NabcClass) -> Option<Descri
     }
 }
 
-/// Returns where the reading stands if the part ended at its longest so far.
+/// Returns the state of the reading if the part ended at its longest so far.
 fn falls_back(state: DescriptorState) -> Option<DescriptorState>
     ensures { result ≡ falling_back state }
 {
@@ -184,8 +184,8 @@ fn falls_back(state: DescriptorState) -> Option<DescriptorState>
     }
 }
 
-/// Returns where the reading stands with a character more: the part goes on, or it ended at its
-/// longest and another begins there.
+/// Returns the state after one more character: the part goes on, or it ended at its longest and
+/// another begins there.
 #[inline(always)]
 pub(crate) fn next_state(state: DescriptorState, class: NabcClass) -> Option<DescriptorState>
     ensures { result ≡ next_state state class }
@@ -213,7 +213,7 @@ pub(crate) fn ends(state: DescriptorState) -> Option<bool>
     }
 }
 
-/// Returns whether what was read is an NABC snippet.
+/// Returns whether a text that ends in this state is an NABC snippet.
 pub(crate) fn is_whole(state: DescriptorState) -> bool
     ensures { result ≡ whole_at state }
 {

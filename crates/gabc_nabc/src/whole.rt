@@ -11,7 +11,7 @@ use gabc_notes::{NoteEnd, NoteEvent, SnippetEnding, SnippetRead};
 use gabc_places::{Char, Findings, Place, Room};
 use std::alloc::{AllocError, Global};
 
-/// What was read so far.
+/// The reading so far.
 #[derive(Drop)]
 struct NabcBuilder {
     kept: String,
@@ -21,7 +21,7 @@ struct NabcBuilder {
 }
 
 impl NabcBuilder {
-    /// Returns a reading of nothing.
+    /// Returns an empty reading.
     fn new(alloc: Global) -> NabcBuilder
         ensures { built_nabc_of result ≡ no_nabc }
     {
@@ -32,7 +32,7 @@ impl NabcBuilder {
         }
     }
 
-    /// Adds what the stage emitted.
+    /// Adds an event of the stage.
     fn add(&mut self, output: NoteEvent) -> Result<(), AllocError>
         ensures { OnOk result (built_nabc_of self.new
             ≡ with_event (built_nabc_of self.old) output) }
@@ -45,7 +45,7 @@ impl NabcBuilder {
         Ok(())
     }
 
-    /// Adds all that the stage emitted.
+    /// Adds all events of the stage.
     fn add_all(&mut self, events: &[NoteEvent]) -> Result<(), AllocError>
         ensures { OnOk result (built_nabc_of self.new ≡
             with_events (built_nabc_of self.old) events.now) }
@@ -63,7 +63,7 @@ impl NabcBuilder {
         self.end
     }
 
-    /// Passes a character to the stage, and adds what it emits. Nothing stays in the room.
+    /// Passes a character to the stage, and adds its events. `room` is left empty.
     fn feed(
         &mut self,
         stage: &mut NabcStage,
@@ -83,7 +83,7 @@ impl NabcBuilder {
         Ok(())
     }
 
-    /// Ends the stage, and adds what it emits.
+    /// Ends the stage, and adds its events.
     fn close(&mut self, stage: &NabcStage, room: &mut Room<NoteEvent>) -> Result<(), AllocError>
         requires { room.old ≡ record { items = []; limit = 3 } }
         ensures { let now = with_events (built_nabc_of self.old) (events_of_cut stage.now) in
@@ -102,7 +102,7 @@ impl NabcBuilder {
         self.kept.truncate(len);
     }
 
-    /// Returns what was read of a snippet that ends as `how` says.
+    /// Returns the reading of a snippet with the end `how`.
     fn into_read(self, how: SnippetEnding) -> SnippetRead
         ensures kept { string_bytes result.kept ≡ string_bytes self.kept }
         ensures findings { result.findings ≡ self.findings }
@@ -122,10 +122,10 @@ impl NabcBuilder {
 }
 
 /// Reads the NABC snippet with which `body` begins, up to its `)` or `|`, or the end of `body`.
-/// Returns the kept text, the findings in order, and the end with the byte where it stands. The
-/// first character of `body` stands at `at`, a line and a column from 1, as `gabc_places` counts
-/// them in a `Text`. Each number of `at` and the bytes of `body` together have to be below 2^64. It
-/// fails only for want of memory.
+/// Returns the kept text, the findings in order, and the end with the byte of its mark. The first
+/// character of `body` is at `at`, a line and a column from 1, as `gabc_places` counts them in a
+/// `Text`. Each number of `at` and the bytes of `body` together have to be below 2^64. Fails only
+/// if memory cannot be allocated.
 pub fn nabc_whole(alloc: Global, body: &str, at: Place) -> Result<SnippetRead, AllocError>
     requires line { at.line + length body.now < 2 ^ 64 }
     requires column { at.column + length body.now < 2 ^ 64 }

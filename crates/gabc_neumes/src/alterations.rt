@@ -9,18 +9,18 @@ use crate::sound::{Alter, Clef, Sound, degree};
 use gabc_notes::{Item, ItemKind, height_of};
 use std::marker::Model;
 
-/// How many heights pitches have: from 0 for `a` to 14 for `p`.
+/// The number of heights of pitches: from 0 for `a` to 14 for `p`.
 const HEIGHTS: usize = 15;
 
-/// The clef and the alterations that are in force at a place of a score. It asks for no memory.
+/// The clef and the alterations that are in force at a place of a score. It does not allocate.
 ///
-/// What stands in the score is passed in its order: the start of each word by `start_word`, before
-/// the first item of the syllable that begins it, and each item of the notes by `pass`. Contracts
-/// see the clef and the alteration of each height.
+/// The parts of the score are passed in their order: the start of each word by `start_word`, before
+/// the first item of the syllable that begins it, and each item of the notes by `pass`. In
+/// contracts it is the clef and the alteration of each height.
 #[derive(Clone, Copy, Debug)]
 pub struct Alterations {
     clef: Option<Clef>,
-    /// That of each height.
+    /// The alteration of each height.
     alters: [Alter; HEIGHTS],
 }
 
@@ -38,7 +38,7 @@ impl Model for Alterations {
         × IfSome a.clef (λ clef. (1 ≤ clef.line) × (clef.line ≤ 5)) };
 }
 
-/// Returns the line that `text`, which stands after the letters of a clef, begins with.
+/// Returns the line at the beginning of `text`, which comes after the letters of a clef.
 fn line_at(text: &[u8]) -> Option<u8>
     ensures line { result ≡ line_at text.now }
     ensures range { IfSome result (λ line. (1 ≤ line) × (line ≤ 5)) }
@@ -63,8 +63,8 @@ fn clef_at(text: &[u8]) -> Option<Clef>
     Some(Clef { f, flat, line })
 }
 
-/// Returns the alteration that `text` is, by the sign after its pitch: `x` or `X` is a flat, `y` or
-/// `Y` a natural, `#` a sharp (GregorioRef, "Additional Symbols").
+/// Returns the alteration of `text`, by the sign after its pitch: `x` or `X` is a flat, `y` or `Y`
+/// a natural, `#` a sharp (GregorioRef, "Additional Symbols").
 pub fn sign_of(text: &[u8]) -> Alter
     ensures { result ≡ sign_of text.now }
 {
@@ -95,7 +95,7 @@ fn is_virgula(text: &[u8]) -> bool
     }
 }
 
-/// Returns `own`, or with none a flat if the clef gives one.
+/// Returns `own`, or if it is none a flat, if the clef has one.
 fn told(own: Alter, flat_by_clef: bool) -> Alter
     ensures { result ≡ told own flat_by_clef }
 {
@@ -106,7 +106,7 @@ fn told(own: Alter, flat_by_clef: bool) -> Alter
 }
 
 impl Alterations {
-    /// Returns what is in force before a score: no clef, and no alteration.
+    /// Returns the state before a score: no clef and no alteration is in force.
     pub fn new() -> Alterations
         ensures { result ≡ nothing_in_force }
     {
@@ -116,9 +116,9 @@ impl Alterations {
         }
     }
 
-    /// Returns what is in force where the clef is `clef`, if there is one, and `alters` are the
-    /// alterations of the heights from 0 to 14, without the `b` of the clef. Returns `None` where
-    /// the line of `clef` is none of 1 to 5.
+    /// Returns the state with the clef `clef`, if there is one, and the alterations `alters` of the
+    /// heights from 0 to 14, without the `b` of the clef. Returns `None` if the line of `clef` is
+    /// none of 1 to 5.
     pub fn resume(clef: Option<Clef>, alters: [Alter; HEIGHTS]) -> Option<Alterations>
         ensures some { IsSome result ↔ IfSome clef (λ c. (1 ≤ c.line) × (c.line ≤ 5)) }
         ensures made { IfSome result (λ a. a ≡ record { clef = clef; alters = alters }) }
@@ -136,7 +136,7 @@ impl Alterations {
         self.alters = [Alter::None; HEIGHTS];
     }
 
-    /// Passes a clef of that text.
+    /// Passes a clef with the text `text`.
     fn pass_clef(&mut self, text: &[u8])
         ensures { self.new ≡ in_force_after self.old (AnItem ItemKind.Clef text.now ∷ []) }
     {
@@ -146,18 +146,18 @@ impl Alterations {
         self.alters = [Alter::None; HEIGHTS];
     }
 
-    /// Passes a bar of that text.
+    /// Passes a bar with the text `text`.
     fn pass_bar(&mut self, text: &[u8])
         ensures { self.new ≡ in_force_after self.old (AnItem ItemKind.Bar text.now ∷ []) }
     {
-        // how many heights there are is known where a field is used
+        // the number of heights is known where a field is used
         let _ = &self.alters;
         if !is_virgula(text) {
             self.alters = [Alter::None; HEIGHTS];
         }
     }
 
-    /// Passes an alteration of that text.
+    /// Passes an alteration with the text `text`.
     fn pass_alteration(&mut self, text: &[u8])
         ensures { self.new ≡ in_force_after self.old (AnItem ItemKind.Alteration text.now ∷ []) }
     {
@@ -176,7 +176,7 @@ impl Alterations {
         requires { (item.span.from ≤ item.span.to) × (item.span.to ≤ length kept.now) }
         ensures { self.new ≡ in_force_after self.old (step_of kept.now item ∷ []) }
     {
-        // how many heights there are is known where a field is used
+        // the number of heights is known where a field is used
         let _ = &self.alters;
         let text = &kept.as_bytes()[item.span.from..item.span.to];
         match item.kind {
@@ -213,9 +213,9 @@ impl Alterations {
         }
     }
 
-    /// Returns how a note of this `height` sounds: its degree under the clef in force, and the
-    /// alteration in force at `height`; with none, the flat by which the clef's `b` makes a si
-    /// flat.
+    /// Returns the sound of a note at the height `height`: its degree under the clef in force, and
+    /// the alteration in force at `height`; if there is none, the flat by which the clef's `b`
+    /// makes a si flat.
     pub fn sound(&self, height: u8) -> Sound
         ensures { result ≡ sound_of self.now height }
     {

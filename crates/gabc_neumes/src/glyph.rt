@@ -1,4 +1,4 @@
-//! What a glyph is.
+//! The glyphs of notes.
 
 use gabc_notes::Shape;
 
@@ -27,11 +27,11 @@ pub enum Base {
     Climacus,
     /// One or more inclinata, of any heights.
     Inclinata,
-    /// One note of that shape.
+    /// One note of the shape `Shape`.
     One(Shape),
 }
 
-/// What follows the notes of a base.
+/// The notes of a glyph after those of its base.
 #[derive(Clone, Copy, Debug, PartialEq, Eq)]
 pub enum Tail {
     /// Nothing.
@@ -42,23 +42,23 @@ pub enum Tail {
     Resupinus,
 }
 
-/// What neume a glyph is.
+/// The neume of a glyph.
 #[derive(Clone, Copy, Debug, PartialEq, Eq)]
 pub struct GlyphKind {
     /// The neume without its tail.
     pub base: Base,
-    /// What follows the notes of the base.
+    /// The notes after those of the base.
     pub tail: Tail,
 }
 
-/// A glyph of a segment: its kind, the index of its first note in the segment, and how many notes
-/// it has.
+/// A glyph of a segment: its kind, the index of its first note in the segment, and its number of
+/// notes.
 #[derive(Clone, Copy, Debug, PartialEq, Eq)]
 pub struct Glyph {
-    /// What neume it is.
+    /// Its neume.
     pub kind: GlyphKind,
     /// The index of its first note in the segment, from 0.
     pub first: usize,
-    /// How many notes it has.
+    /// Its number of notes.
     pub count: usize,
 }

@@ -19,13 +19,13 @@ use gabc_places::Room;
 /// A search for the longest glyph that begins some notes, which reads them one by one.
 #[derive(Clone, Copy)]
 struct GlyphSearch {
-    /// Where the notes that are read stand in a glyph.
+    /// The state of a glyph after the notes that are read.
     state: GlyphState,
     /// The height of the last of them.
     before: Option<u8>,
-    /// How many they are.
+    /// Their number.
     read: usize,
-    /// The longest glyph that they begin with: its kind, and how many notes it has.
+    /// The longest glyph that they begin with: its kind, and its number of notes.
     best: Option<(GlyphKind, usize)>,
 }
 
@@ -59,7 +59,7 @@ impl GlyphSearch {
     }
 }
 
-/// Returns the longest glyph that begins `notes`: its kind, and how many notes it has.
+/// Returns the longest glyph that begins `notes`: its kind, and its number of notes.
 fn first_glyph(notes: &[Note]) -> Option<(GlyphKind, usize)>
     ensures found { IfSome result (λ g. IsFirstGlyph notes.now g.0 g.1) }
     ensures none { IfNone result (notes.now ≡ []) }
@@ -76,8 +76,8 @@ fn first_glyph(notes: &[Note]) -> Option<(GlyphKind, usize)>
 
 /// Returns the first glyph of the notes of a segment from `first` on, which are `first` and those
 /// among the items of the segment that begin `later`: the longest neume that begins there, as its
-/// kind, and how many notes it has. `later` has to give items of `kept`, fewer than it has bytes,
-/// as `gabc_notes::items_in` does after an item. It asks for no memory.
+/// kind, and its number of notes. `later` has to have items of `kept`, fewer than it has bytes, as
+/// `gabc_notes::items_in` has after an item. It does not allocate.
 pub fn glyph_from(kept: &str, first: Note, later: &ItemReader<'_>) -> Option<(GlyphKind, usize)>
     requires within { AreWithin kept.now later.now }
     requires few { length later.now < length kept.now }
@@ -101,9 +101,9 @@ pub fn glyph_from(kept: &str, first: Note, later: &ItemReader<'_>) -> Option<(Gl
 }
 
 /// Adds to `out` the glyphs of a segment whose notes are `notes`, in order: each is the longest
-/// neume that begins where the one before it ends, and its notes count from 0 in `notes`
+/// neume that begins at the end of the one before it, and its notes count from 0 in `notes`
 /// (GregorioRef, "Complex Neumes"). `out` has to take as many glyphs more as there are notes. It
-/// asks for no memory.
+/// does not allocate.
 pub fn cut(notes: &[Note], out: &mut Room<Glyph>)
     requires { Fits out.old (length notes.now) }
     ensures { (glyphs : List Glyph) × AreGlyphsOf notes.now glyphs ×

@@ -8,8 +8,7 @@ use crate::glyph::GlyphKind;
 use crate::state::{GlyphState, class_of, ends, goes_on};
 use gabc_notes::Note;
 
-/// Returns the kind of the glyph that `notes` are, if all of them together are one; no notes are
-/// none.
+/// Returns the kind of the glyph of `notes`, if all of them together are one; `None` for no notes.
 pub fn kind_of(notes: &[Note]) -> Option<GlyphKind>
     ensures { MatchOption result
         ((kind : GlyphKind) → ¬ HasKind kind notes.now) (λ kind. HasKind kind notes.now) }

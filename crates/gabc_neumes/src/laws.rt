@@ -1,5 +1,5 @@
-//! Laws of the definitions that contracts speak of. Each function is there for its clauses, and
-//! does nothing.
+//! Laws of the definitions that contracts use. Each function is there for its clauses, and does
+//! nothing.
 
 ghost use Rattle.std.specs.Prelude.{◌≡◌, ◌≤◌, ◌<◌, ℕ, ◌⊎◌, List, [], ◌∷◌, ◌++◌, Bool, true, false};
 ghost use Rattle.gabc_patterns.specs.LongestItems.{HasSome};
@@ -32,7 +32,7 @@ pub fn glyphs_are_computed()
     ensures { (notes : List Note) → AreGlyphsOf notes (glyphs_of notes) }
 {}
 
-/// Law: where a glyph begins with some notes, all of them are a glyph, or all but the last: whoever
+/// Law: if a glyph begins with some notes, all of them are a glyph, or all but the last: whoever
 /// reads on as long as a glyph may go on has read at most one note after the longest glyph.
 pub fn an_open_glyph_has_one_note_more()
     ensures { (k : GlyphKind) (notes more : List Note) (n : Note) → HasKind k (notes ++ n ∷ more) →
@@ -47,21 +47,21 @@ pub fn elements_are_one()
         AreSegmentsOf items ss → AreSegmentsOf items ts → ss ≡ ts }
 {}
 
-/// Law: what passes a test stands in a run: each item but a divider in an element, and each note in
-/// a segment.
+/// Law: each item that passes a test is in a run: each item but a divider in an element, and each
+/// note in a segment.
 pub fn what_passes_stands_in_a_run()
     ensures { (p : Item → Bool) (items : List Item) (i : ℕ) → passes_at p items i ≡ true →
         (s : Span) × IsRun p items s × (s.from ≤ i) × (i < s.to) }
 {}
 
-/// Law: what is part of a segment is part of an element.
+/// Law: each part of a segment is part of an element.
 pub fn segments_stand_in_elements()
     ensures { (kept : List ℕ) (i : Item) → is_in_segment i ≡ true → is_in_element kept i ≡ true }
 {}
 
 /// Law: the clef in force after some steps is the nearest on the way back, else that of the outset.
 /// The alteration in force at a height is the nearest of that height, if nothing that ends
-/// alterations comes first; where neither comes, it is that of the outset.
+/// alterations comes first; if neither comes, it is that of the outset.
 pub fn positions_say_what_is_in_force()
     ensures clef { (outset : InForce) (before : List ScoreStep) →
         (in_force_after outset before).clef ≡ clef_in_force outset before }
@@ -69,9 +69,9 @@ pub fn positions_say_what_is_in_force()
         own_alter (in_force_after outset before) height ≡ alter_in_force outset before height }
 {}
 
-/// Law: what is in force after some steps, and then after more, is in force after all of them: so
-/// whoever passes them one by one has what the definition says of all. It is also said of steps in
-/// the order of the score.
+/// Law: the clef and alterations in force after some steps, and then after more, are those in force
+/// after all of them: so whoever passes them one by one has what the definition says of all. It is
+/// also said of steps in the order of the score.
 pub fn steps_are_passed_one_by_one()
     ensures back { (outset : InForce) (before more : List ScoreStep) →
         in_force_after (in_force_after outset before) more

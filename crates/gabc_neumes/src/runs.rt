@@ -11,14 +11,14 @@ ghost use Rattle.gabc_neumes.specs.machine.Runs.{is_inner, is_part, run_between}
 use gabc_notes::{Item, ItemKind};
 use gabc_places::{Room, Span};
 
-/// What a run of items is.
+/// The kind of a run of items.
 #[derive(Clone, Copy)]
 pub(crate) enum RunKind {
     Element,
     Segment,
 }
 
-/// Returns whether a spacing of that text stands within an element.
+/// Returns whether a spacing with the text `text` is inside an element.
 fn is_inner_text(text: &[u8]) -> bool
     ensures { result ≡ is_inner text.now }
 {
@@ -29,7 +29,7 @@ fn is_inner_text(text: &[u8]) -> bool
     }
 }
 
-/// Returns whether an item of that kind is a divider, by `text`, the bytes that it has.
+/// Returns whether an item of kind `kind` with the bytes `text` is a divider.
 #[tactic(auto, using(crate::proofs::runs_of_items::InnerSpacings::is_inner_same))]
 fn is_divider(kind: ItemKind, text: &[u8]) -> bool
     ensures { result ≡ divides kind text.now }
@@ -62,7 +62,7 @@ pub fn is_in_segment(item: Item) -> bool
 }
 
 impl RunKind {
-    /// Returns whether `item` of `kept` is part of such a run.
+    /// Returns whether `item` of `kept` is part of a run of this kind.
     fn has(self, kept: &str, item: Item) -> bool
         requires { (item.span.from ≤ item.span.to) × (item.span.to ≤ length kept.now) }
         ensures { result ≡ is_part self kept.now item }
@@ -84,7 +84,7 @@ fn add_run(from: usize, to: usize, out: &mut Room<Span>)
     }
 }
 
-/// Adds the runs of that kind to `out`.
+/// Adds the runs of kind `kind` to `out`.
 fn add_runs(kind: RunKind, kept: &str, items: &[Item], out: &mut Room<Span>)
     requires within { AreWithin kept.now items.now }
     requires room { Fits out.old (length items.now) }
@@ -102,9 +102,9 @@ fn add_runs(kind: RunKind, kept: &str, items: &[Item], out: &mut Room<Span>)
 }
 
 /// Adds to `out` the elements of `items`, items of `kept`, in order. Their spans count the items
-/// from 0. An element is as many items in a row as have no divider among them; it may hold no note
+/// from 0. An element is a longest row of items with no divider among them; it may have no note
 /// (GregorioRef, "Neume Spacing"). The items have to lie in `kept`, as those of `items_whole` do,
-/// and `out` has to take as many spans more as there are items. It asks for no memory.
+/// and `out` has to take as many spans more as there are items. It does not allocate.
 pub fn elements(kept: &str, items: &[Item], out: &mut Room<Span>)
     requires within { AreWithin kept.now items.now }
     requires room { Fits out.old (length items.now) }
@@ -115,10 +115,9 @@ pub fn elements(kept: &str, items: &[Item], out: &mut Room<Span>)
 }
 
 /// Adds to `out` the segments of `items`, items of `kept`, in order. Their spans count the items
-/// from 0. A segment is as many notes, attributes and fusion marks in a row as there are; it may
-/// hold no note. What is cut into glyphs are its notes. The items have to lie in `kept`, as those
-/// of `items_whole` do, and `out` has to take as many spans more as there are items. It asks for no
-/// memory.
+/// from 0. A segment is a longest row of notes, attributes and fusion marks; it may have no note.
+/// Its notes are cut into glyphs. The items have to lie in `kept`, as those of `items_whole` do,
+/// and `out` has to take as many spans more as there are items. It does not allocate.
 pub fn segments(kept: &str, items: &[Item], out: &mut Room<Span>)
     requires within { AreWithin kept.now items.now }
     requires room { Fits out.old (length items.now) }

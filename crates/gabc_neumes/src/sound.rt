@@ -3,10 +3,10 @@
 ghost use Rattle.std.specs.Prelude.{◌≡◌, ◌≤◌};
 ghost use Rattle.gabc_neumes.specs.Sound.{degree};
 
-/// A clef: whose line it marks, whether it has a `b`, and which line that is.
+/// A clef: its kind, whether it has a `b`, and its line.
 #[derive(Clone, Copy, Debug, PartialEq, Eq)]
 pub struct Clef {
-    /// Whether it is an `f`, which marks the line of fa, and no `c`, which marks that of ut.
+    /// Whether it is an `f`, which marks the line of fa, and not a `c`, which marks the line of ut.
     pub f: bool,
     /// Whether it has a `b`, by which each si is flat.
     pub flat: bool,
@@ -14,10 +14,10 @@ pub struct Clef {
     pub line: u8,
 }
 
-/// What alters a note.
+/// The alteration of a note.
 #[derive(Clone, Copy, Debug, PartialEq, Eq)]
 pub enum Alter {
-    /// Nothing.
+    /// None.
     None,
     /// A flat, as `ix`.
     Flat,
@@ -27,19 +27,19 @@ pub enum Alter {
     Sharp,
 }
 
-/// How a note sounds.
+/// The sound of a note.
 #[derive(Clone, Copy, Debug, PartialEq, Eq)]
 pub struct Sound {
     /// Its degree: 0 for ut to 6 for si; none before any clef.
     pub degree: Option<u8>,
-    /// What alters it.
+    /// Its alteration.
     pub alter: Alter,
 }
 
-/// Returns the degree of a note of this `height` under `clef`: 0 for ut to 6 for si. A `height`
-/// counts from 0 for the pitch `a`, as `height_of` does. The line of `clef` has to be one of 1 to
-/// 5; line 1 is the height 3, and each line lies 2 above the one before it (GregorioRef, "Pitches",
-/// "Clefs").
+/// Returns the degree of a note at the height `height` under `clef`: 0 for ut to 6 for si. A height
+/// counts from 0 for the pitch `a`, as `height_of` returns it. The line of `clef` has to be one of
+/// 1 to 5; line 1 is the height 3, and each line is 2 above the one before it (GregorioRef,
+/// "Pitches", "Clefs").
 pub fn degree(clef: Clef, height: u8) -> u8
     requires { (1 ≤ clef.line) × (clef.line ≤ 5) }
     ensures { result ≡ degree clef height }

@@ -7,8 +7,8 @@ ghost use Rattle.gabc_neumes.specs.machine.GlyphMachine.{step_class, class_at, n
 use crate::glyph::{Base, GlyphKind, Tail};
 use gabc_notes::{Note, Shape};
 
-/// What a note may do in a glyph: a first note by its shape, another one by its shape and by how it
-/// lies to the note before it.
+/// The class of a note in a glyph: of a first note by its shape, of another one by its shape and by
+/// whether it is higher or lower than the note before it.
 #[derive(Clone, Copy)]
 pub(crate) enum NoteClass {
     First(Shape),
@@ -37,7 +37,7 @@ pub(crate) enum JoinedBase {
     TorculusResupinusFlexus,
 }
 
-/// Where a glyph stands after some of its notes.
+/// The state of a glyph after some of its notes.
 #[derive(Clone, Copy)]
 pub(crate) enum GlyphState {
     Start,
@@ -54,7 +54,7 @@ pub(crate) enum GlyphState {
     ResumedClimacus,
 }
 
-/// Returns whether a note of that shape may be joined to others.
+/// Returns whether a note of shape `shape` may be joined to others.
 fn is_joinable_shape(shape: Shape) -> bool
     ensures { result ≡ is_joinable shape }
 {
@@ -103,7 +103,7 @@ pub(crate) fn class_of(before: Option<u8>, note: Note) -> NoteClass
     }
 }
 
-/// Returns whether a climacus may begin with a note of that shape.
+/// Returns whether a climacus may begin with a note of shape `shape`.
 fn falls_from(shape: Shape) -> bool
     ensures { result ≡ begins_climacus shape }
 {
@@ -114,7 +114,7 @@ fn falls_from(shape: Shape) -> bool
 }
 
 impl JoinedBase {
-    /// Returns the base with a joinable note more, which is higher if `up`, else lower.
+    /// Returns the base with one more joinable note, which is higher if `up`, else lower.
     fn with(self, up: bool) -> Option<JoinedBase>
         ensures { result ≡ with_note self up }
     {
@@ -130,7 +130,7 @@ impl JoinedBase {
         }
     }
 
-    /// Returns the base as glyphs have it.
+    /// Returns the base of a glyph.
     fn base(self) -> Base
         ensures { result ≡ base_of self }
     {
@@ -148,7 +148,7 @@ impl JoinedBase {
     }
 }
 
-/// Returns the state after a note more, if a glyph goes on with it.
+/// Returns the state after one more note, if a glyph goes on with it.
 pub(crate) fn goes_on(state: GlyphState, class: NoteClass) -> Option<GlyphState>
     ensures { result ≡ next_state state class }
 {
@@ -187,7 +187,7 @@ pub(crate) fn goes_on(state: GlyphState, class: NoteClass) -> Option<GlyphState>
     }
 }
 
-/// Returns a kind.
+/// Returns the kind of a glyph with the base `base` and the tail `tail`.
 fn kind(base: Base, tail: Tail) -> Option<GlyphKind>
     ensures { result ≡ Some (record { base = base; tail = tail }) }
 {

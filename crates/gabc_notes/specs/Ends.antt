@@ -1,4 +1,4 @@
--- Where an end is emitted.
+-- The characters at which an end is emitted.
 use Rattle.std.specs.Prelude.{◌≡◌, ℕ, List, [], ◌∷◌, ◌++◌, Bool, true, false, ◌⊎◌}
 use Rattle.gabc_places.specs.declared.place.Place.{Place}
 use Rattle.gabc_notes.specs.SnippetRead.{ends_of}

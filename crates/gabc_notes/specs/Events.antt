@@ -1,5 +1,5 @@
--- What is emitted of a snippet, character by character. What is emitted of a character depends on
--- it and on the characters before it; these are listed with the nearest first, and called `back`.
+-- The events of a snippet, character by character. The events of a character depend on it and on
+-- the characters before it; these are listed with the nearest first, and called `back`.
 use Rattle.std.specs.Prelude.{ℕ, ◌^◌, ◌-◌, ◌/◌, ◌%◌, nat_lt, min, sum_by, find, List, [], ◌∷◌, ◌++◌, Bool, false, not, ◌&&◌, ◌||◌, ◌==◌, codes, if◌then◌else◌, Option, Some, None}
 use Rattle.std.specs.Char.{len_utf8}
 use Rattle.std.specs.List.{list_any}
@@ -123,7 +123,7 @@ abbrev pub opener : List Char → Place
 opener back = option_map_or (λ (p : Point). p.here.place)
     (find (λ (p : Point). is_kept p && not (is_in_raw p)) (points back)) (record { line = 0; column = 0 })
 
--- ---- what is emitted
+-- ---- the events
 
 abbrev pub finding_event : Place → Code → NoteEvent
 finding_event place code = Found (record { place = place; code = code })
@@ -170,8 +170,7 @@ at_end p =
     ++ ((if is_fused p.back then finding_event p.here.place W10 ∷ [] else [])
     ++ Ended (end_by_mark p.here.c) (bytes_of (trim gabc (kept p.back))) ∷ [])
 
--- what is emitted of a character: of one in a comment or after the end nothing; E1 of one that is
--- not kept
+-- the events of a character: of one in a comment or after the end none; E1 of one that is not kept
 abbrev pub events_at : Bool → ℕ → Point → List NoteEvent
 events_at split macros p =
     if is_over split p.back then [] else
@@ -179,17 +178,17 @@ events_at split macros p =
     if is_comment p then [] else
     if is_kept p then Kept p.here ∷ warnings macros p else finding_event p.here.place E1 ∷ []
 
--- what is emitted when the characters end before the snippet does
+-- the events when the characters end before the snippet does
 abbrev pub cut_events : Bool → List Char → List NoteEvent
 cut_events split back =
     if is_over split back then [] else
     Ended (Cut (if in_raw (kept back) then opener back else record { line = 0; column = 0 })) (bytes_of (kept back)) ∷ []
 
--- what is emitted of these characters after those, a list for each, and of their end, a list more
+-- the events of these characters after those, a list for each, and of their end, a list more
 abbrev pub note_events_after : Bool → ℕ → List Char → List Char → List (List NoteEvent)
 note_events_after split macros back [] = cut_events split back ∷ []
 note_events_after split macros back (x ∷ xs) = events_at split macros (record { back = back; here = x }) ∷ note_events_after split macros (x ∷ back) xs
 
--- what is emitted of these characters and their end
+-- the events of these characters and their end
 unfoldable pub note_events : Bool → ℕ → List Char → List (List NoteEvent)
 note_events split macros xs = note_events_after split macros [] xs

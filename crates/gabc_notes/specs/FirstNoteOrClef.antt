@@ -10,7 +10,7 @@ is_note_or_clef Note = true
 is_note_or_clef Clef = true
 is_note_or_clef _ = false
 
--- which of the two the first of these items is that is a note or a clef
+-- the kind of the first of these items that is a note or a clef
 abbrev pub first_note_or_clef : List Item → Option ItemKind
 first_note_or_clef [] = None
 first_note_or_clef (i ∷ items) = cond (is_note_or_clef i.kind) (Some i.kind) (first_note_or_clef items)

@@ -1,4 +1,4 @@
--- Which comes first in a kept text, a note or a clef.
+-- Whether a note or a clef comes first in a kept text.
 use Rattle.std.specs.Prelude.{List, [], ◌∷◌, Bool, true, false, Option, Some, None}
 use Rattle.gabc_notes.specs.Events.{ItemText}
 use Rattle.gabc_notes.specs.declared.item.ItemKind.{ItemKind}

@@ -1,4 +1,4 @@
--- The items of a kept text by the bytes where they begin and end.
+-- The items of a kept text by the bytes at which they begin and end.
 use Rattle.std.specs.Prelude.{◌≡◌, ℕ, ◌+◌, ◌≤◌, List, [], ◌∷◌, map, slice_range, length, encode_utf8_all}
 use Rattle.std.specs.Str.{chars}
 use Rattle.std.specs.List.{All}
@@ -26,33 +26,33 @@ bytes_of bytes i = slice_range bytes i.span.from i.span.to
 abbrev pub read_as : List ℕ → Item → ItemKind × List ℕ
 read_as bytes i = (i.kind, chars (bytes_of bytes i))
 
--- an item's kind, and where it begins and ends
+-- an item's kind, and its beginning and end
 abbrev pub piece_of : Item → ItemSpan ItemKind
 piece_of i = (i.kind, i.span.from, i.span.to)
 
--- The items make up the text: each is the longest that begins at its place, and begins where the
--- one before it ends.
+-- The items make up the text: each is the longest that begins at its place, and begins at the end
+-- of the one before it.
 pub record MakeUp (bytes : List ℕ) (items : List Item) : Type 0 where
   pub reads : IsReading gabc (map (read_as bytes) items) (chars bytes)
   pub joined : FollowOn 0 (map piece_of items) (length bytes)
 
--- items of these kinds and characters, which stand one after the other from that byte on
+-- items of these kinds and characters, one after the other from that byte on
 abbrev pub placed_items : ℕ → List (ItemKind × List ℕ) → List Item
 placed_items at [] = []
 placed_items at (i ∷ is) =
     let to = at + length (encode_utf8_all i.1) in
     record { kind = i.0; span = record { from = at; to = to } } ∷ placed_items to is
 
--- The items of the text, as far as one begins: each is the longest that begins where the one before
--- it ends. Of a snippet they are all.
+-- The items of the text, up to the first place where none begins: each is the longest that begins
+-- at the end of the one before it. Of a snippet they are all.
 pub record AreItemsOf (bytes : List ℕ) (items : List Item) : Type 0 where
   pub texts : List (ItemKind × List ℕ)
   pub rest : List ℕ
   pub reads : ReadsTo gabc texts (chars bytes) rest
   pub placed : items ≡ placed_items 0 texts
 
--- the items of what is left of a text from that byte on, each the longest that begins at its place,
--- as far as an item begins
+-- the items of the rest of a text from that byte on, each the longest that begins at its place, up
+-- to the first place where none begins
 abbrev pub items_from : ℕ → List ℕ → List Item
 items_from at rest = placed_items at (items_by gabc (chars rest))
 

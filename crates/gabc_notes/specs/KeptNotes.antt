@@ -1,5 +1,4 @@
--- What becomes of a character of a GABC snippet, and what is found with it, by what is kept before
--- it.
+-- The fate of a character of a GABC snippet, and its findings, by what is kept before it.
 use Rattle.std.specs.Prelude.{ℕ, List, [], ◌∷◌, ◌++◌, Bool, false, cond, not, ◌&&◌, ◌||◌, ◌==◌, codes, reverse, Some}
 use Rattle.gabc_places.specs.Fate.{Fate, Keep, Comment, Ends, LeaveOut}
 use Rattle.gabc_places.specs.declared.code.Code.{Code}
@@ -20,7 +19,7 @@ is_viable t = goes_on gabc ([] ∷ codes "f" ∷ codes "]" ∷ []) t
 abbrev pub in_raw : List ℕ → Bool
 in_raw t = is_snippet (t ++ codes "]") && not (is_snippet t)
 
--- what becomes of the character c after this kept text; a `|` is a mark if the notes are split
+-- the fate of the character c after this kept text; a `|` is a mark if the notes are split
 abbrev pub fate_in_notes : Bool → List ℕ → ℕ → Fate
 fate_in_notes split kept c =
     cond (in_raw kept) Keep
@@ -37,18 +36,18 @@ abbrev pub is_fused : List ItemText → Bool
 is_fused [] = false
 is_fused (i ∷ before) = opens_fusion (Some i) || (not (closes_fusion (Some i)) && is_fused before)
 
--- what is found with the nearest item: W10 of an `@[` while one is open and of a `]` while none is,
--- W8 of a macro that is not defined
+-- the findings of the nearest item: W10 of an `@[` while one is open and of a `]` while none is, W8
+-- of a macro that is not defined
 abbrev pub found_of_item : ℕ → List ItemText → List Code
 found_of_item macros [] = []
 found_of_item macros (i ∷ before) =
     cond ((opens_fusion (Some i) && is_fused before) || (closes_fusion (Some i) && not (is_fused before))) (W10 ∷ []) []
     ++ cond (is_missing macros (macro_of (Some i))) (W8 ∷ []) []
 
--- what is found with the last character of a kept text: an item that ends with it
+-- the findings of the last character of a kept text: those of an item that ends with it
 abbrev pub found_in_notes : ℕ → List ℕ → List Code
 found_in_notes macros kept = cond (is_snippet kept) (found_of_item macros (items_back kept)) []
 
--- what is found at the mark after it: E6 of an unfinished end, W10 of an `@[` that is open
+-- the findings of the mark after it: E6 of an unfinished end, W10 of an `@[` that is open
 abbrev pub found_at_end : List ℕ → List Code
 found_at_end kept = cond (is_snippet kept) [] (E6 ∷ []) ++ cond (is_fused (items_back kept)) (W10 ∷ []) []

@@ -1,4 +1,4 @@
--- What a note is: its height, its shape, and whether it is initio debilis.
+-- A note: its height, its shape, and whether it is initio debilis.
 use Rattle.std.specs.Prelude.{ℕ, ◌-◌, List, [], ◌∷◌, Bool, true, false, ◌==◌, ◌&&◌, ◌||◌, not, nat_le, codes, if◌then◌else◌, Option, Some, None}
 use Rattle.gabc_patterns.specs.Pattern.{is_in}
 use Rattle.gabc_patterns.specs.Derivative.{same_texts}
@@ -54,11 +54,11 @@ shape_by t =
     if begins_with (codes "R") t then Lined else
     if begins_with (codes "=") t then Linea else Punctum
 
--- a note begins with `-` where it is initio debilis
+-- a note begins with `-` if it is initio debilis
 abbrev pub is_debilis : List ℕ → Bool
 is_debilis t = begins_with (codes "-") t
 
--- what follows that
+-- the text after that
 abbrev pub from_pitch : List ℕ → List ℕ
 from_pitch [] = []
 from_pitch (c ∷ t) = if c == 45 then t else c ∷ t
@@ -77,12 +77,12 @@ abbrev pub height_at : List ℕ → ℕ
 height_at [] = 0
 height_at (c ∷ t) = height_of c
 
--- the shape of such a text: a capital is an inclinatum, else the letters after the pitch say it
+-- the shape of such a text: a capital is an inclinatum, else the letters after the pitch name it
 abbrev pub shape_at : List ℕ → Shape
 shape_at [] = Punctum
 shape_at (c ∷ t) = if is_capital c then Inclinatum else shape_by (letters t)
 
--- the note that an item is, if it is one
+-- the note of an item, if it is one
 abbrev pub note_by : ItemKind → Span → List ℕ → Option Note
 note_by NoteKind span t = Some (record { height = height_at (from_pitch t); shape = shape_at (from_pitch t); debilis = is_debilis t; span = span })
 note_by _ span t = None

@@ -15,12 +15,12 @@ use Rattle.gabc_notes.specs.declared.stage.NoteEnd.TheVariants.{Cut}
 use Rattle.gabc_notes.specs.declared.stage.NoteEvent.{NoteEvent}
 use Rattle.gabc_notes.specs.declared.stage.NoteEvent.TheVariants.{Kept, Found, Ended}
 
--- that the character is kept, where it is
+-- that the character is kept, if it is
 abbrev pub AreIfKept : Type 0 → Char → List NoteEvent → Type 0
 AreIfKept IsKept x events = (IsKept × (events ≡ Kept x ∷ [])) ⊎ ((¬ IsKept) × (events ≡ []))
 
--- Of the character m after those, which does not end the snippet: that it is kept, where it is, and
--- what is found at it.
+-- Of the character m after those, which does not end the snippet: that it is kept, if it is, and
+-- its findings.
 pub record AreOfCharacter (split : Bool) (macros : ℕ) (back : List Marked) (m : Marked) (events : List NoteEvent) : Type 0 where
   pub no_end : ¬ IsEnd split back m.0
   pub marked : IsTrue m.1 ↔ IsInComment (m ∷ back)
@@ -30,8 +30,8 @@ pub record AreOfCharacter (split : Bool) (macros : ℕ) (back : List Marked) (m 
   pub is_found : AreThoseFound (λ f. IsFound macros m back f.code f.place) found
   pub all : events ≡ kept ++ map Found found
 
--- Of the mark x that ends the snippet after those: what is found there, and the end, with the bytes
--- of what is kept but an unfinished end.
+-- Of the mark x that ends the snippet after those: its findings, and the end, with the bytes of the
+-- kept text without an unfinished end.
 pub record AreOfMark (split : Bool) (back : List Marked) (x : Char) (events : List NoteEvent) : Type 0 where
   pub mark : IsEnd split back x
   pub kept : List ℕ
@@ -42,8 +42,8 @@ pub record AreOfMark (split : Bool) (back : List Marked) (x : Char) (events : Li
   pub is_found : AreFoundAtEnd back kept x found
   pub all : events ≡ map Found found ++ Ended (end_by_mark x.c) (bytes_of whole) ∷ []
 
--- Of the end of the characters: that they are cut, at the bracket that is open, with the bytes of
--- what is kept.
+-- Of the end of the characters: that they are cut, at the open bracket, with the bytes of the kept
+-- text.
 pub record AreOfCut (back : List Marked) (events : List NoteEvent) : Type 0 where
   pub kept : List ℕ
   pub keeps : IsKeptOf back kept

@@ -1,5 +1,5 @@
--- What `snippet_whole` says of a text, by relations over the whole of the snippet with which it
--- begins. Characters are listed with the nearest first, each with whether it lies in a comment.
+-- The reading of a text by `snippet_whole`, by relations over the whole of the snippet with which
+-- it begins. Characters are listed with the nearest first, each with whether it lies in a comment.
 use Rattle.std.specs.Prelude.{◌≡◌, ◌⊎◌, ◌↔◌, ℕ, List, [], ◌∷◌, ◌++◌, ◌==◌, Bool, true, false, IsTrue, codes, chars, if◌then◌else◌, Some, map, reverse, sum_by, string_bytes, encode_utf8_all}
 use Rattle.std.specs.Char.{len_utf8}
 use Rattle.std.specs.List.{list_any}
@@ -77,13 +77,12 @@ abbrev pub IsFused : List Marked → Type 0
 IsFused [] = ⊥
 IsFused (m ∷ back) = EndsItem (m ∷ back) (Fusion, codes "@[") ⊎ ((¬ EndsItem (m ∷ back) (Fusion, codes "]")) × IsFused back)
 
--- the last of them is kept, and stands outside raw
+-- the last of them is kept, and is outside raw
 abbrev pub IsKeptOutside : List Marked → Type 0
 IsKeptOutside [] = ⊥
 IsKeptOutside (m ∷ back) = ((t : List ℕ) × IsKeptWith (m ∷ back) t) × (¬ IsInRaw back)
 
--- the last one that is kept and stands outside raw stands there: inside raw it is the bracket that
--- is open
+-- the last one that is kept and is outside raw is at this place: inside raw it is the open bracket
 abbrev pub IsOpener : List Marked → Place → Type 0
 IsOpener [] place = place ≡ record { line = 0; column = 0 }
 IsOpener (m ∷ back) place = (IsKeptOutside (m ∷ back) × (place ≡ m.0.place)) ⊎ ((¬ IsKeptOutside (m ∷ back)) × IsOpener back place)
@@ -133,11 +132,11 @@ pub record IsEnded (split : Bool) (back : List Marked) (kept : List ℕ) (found 
   pub findings_are : r.findings ≡ found ++ last
   pub how_is : r.how ≡ (let n = sum_by (λ (m : Marked). len_utf8 m.0.c) back in if x.c == 124 then Next n else Close n)
 
--- where a bracket is open, the place of it; else no place
+-- the place of the open bracket, if one is open; else no place
 abbrev pub IsCutAt : List Marked → Place → Type 0
 IsCutAt back place = (IsInRaw back × IsOpener back place) ⊎ ((¬ IsInRaw back) × (place ≡ record { line = 0; column = 0 }))
 
--- the snippet ends where the rest begins, or is cut where the text ends
+-- the snippet ends before the rest, or is cut at the end of the text
 abbrev pub IsRead : Bool → List Marked → List ℕ → List Finding → List Char → SnippetRead → Type 0
 IsRead split back kept found [] r = (string_bytes r.kept ≡ encode_utf8_all kept) × (r.findings ≡ found) × ((place : Place) × IsCutAt back place × (r.how ≡ Cut place))
 IsRead split back kept found (x ∷ rest) r = IsEnded split back kept found x r

@@ -1,4 +1,4 @@
--- A text in front of a mark, read as exactly that text.
+-- A text before a mark, read as exactly that text.
 use Rattle.std.specs.Prelude.{◌≡◌, ℕ, ◌+◌, List, [], ◌∷◌, ◌++◌, length, take, Bool, Some, reverse}
 use Rattle.std.specs.List.{All}
 use Rattle.gabc_places.specs.declared.code.Finding.{Finding}
@@ -14,9 +14,9 @@ use Rattle.gabc_notes.specs.SnippetRead.{findings_of, ends_of, stop_after, kept_
 abbrev pub IsWarning : Finding → Type 0
 IsWarning f = severity_of f.code ≡ Warning
 
--- The text t begins at that place, and after it stand the mark and the rest. The snippet is all of
--- t and ends at the mark; its kept text is t, each character at its place; the end is emitted of
--- the mark; and what is found are warnings, so no E1 and no E6.
+-- The text t begins at that place, and the mark and the rest come after it. The snippet is all of t
+-- and ends at the mark; its kept text is t, each character at its place; the end is emitted at the
+-- mark; and the findings are warnings, so no E1 and no E6.
 pub record IsReadAgain (split : Bool) (macros : ℕ) (at : Place) (t : List ℕ) (mark : ℕ) (rest : List ℕ) : Type 0 where
   pub stop : stop_after split [] (placed_characters_from at (t ++ mark ∷ rest)) ≡ record { back = reverse (placed_characters_from at t); mark = Some mark }
   pub kept : kept_by (Some mark) (reverse (placed_characters_from at t)) ≡ t

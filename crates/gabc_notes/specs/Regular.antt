@@ -1,4 +1,4 @@
--- Snippets that are kept as they stand, and in which nothing is found.
+-- Snippets that are kept as they are written, and in which nothing is found.
 use Rattle.std.specs.Prelude.{◌≡◌, ℕ, List, [], ◌∷◌, ◌++◌, Bool, map}
 use Rattle.gabc_places.specs.declared.place.Char.{Char}
 use Rattle.gabc_places.specs.declared.place.Place.{Place}
@@ -11,15 +11,15 @@ use Rattle.gabc_notes.specs.declared.stage.NoteEnd.{NoteEnd}
 use Rattle.gabc_notes.specs.declared.stage.NoteEvent.{NoteEvent}
 use Rattle.gabc_notes.specs.declared.stage.NoteEvent.TheVariants.{Kept, Ended}
 
--- what is emitted of a character that is kept, and at which nothing else is emitted
+-- the events of a character that is kept, and at which nothing else is emitted
 abbrev pub only_kept : Char → List NoteEvent
 only_kept x = Kept x ∷ []
 
 abbrev pub each_kept : List Char → List (List NoteEvent)
 each_kept xs = map only_kept xs
 
--- The text is a snippet. In front of a mark that ends it, wherever it stands and whatever macros
--- are defined, each of its characters is kept, and nothing else is emitted but that end: nothing is
+-- The text is a snippet. Before a mark that ends it, wherever it begins and whatever macros are
+-- defined, each of its characters is kept, and nothing else is emitted but that end: nothing is
 -- found.
 pub record IsRegular (t : List ℕ) : Type 0 where
   pub snippet : IsSnippet gabc t

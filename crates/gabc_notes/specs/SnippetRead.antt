@@ -1,4 +1,4 @@
--- What a snippet says as a whole.
+-- The reading of a whole snippet.
 use Rattle.std.specs.Prelude.{◌≡◌, ℕ, sum_by, List, [], ◌∷◌, length, take, Bool, if◌then◌else◌, Option, Some, None, string_bytes, encode_utf8_all}
 use Rattle.std.specs.Char.{len_utf8}
 use Rattle.gabc_places.specs.declared.code.Finding.{Finding}
@@ -41,7 +41,7 @@ ends_of [] = []
 ends_of (Ended how bytes ∷ emitted) = (how, bytes) ∷ ends_of emitted
 ends_of (o ∷ emitted) = ends_of emitted
 
--- where a snippet stops: the characters before its end, the nearest first, and the mark that ends
+-- the stop of a snippet: the characters before its end, the nearest first, and the mark that ends
 -- it, if there is one
 pub record SnippetStop : Type 0 where
   pub back : List Char
@@ -67,22 +67,22 @@ kept_chars_in split macros xs = let s = stop_after split [] xs in take (length (
 abbrev pub index_of : List Char → ℕ
 index_of back = sum_by (λ (x : Char). len_utf8 x.c) back
 
--- how it ends, as a stage emits it: at a mark; cut with the place of the bracket that is open
+-- its end, as a stage emits it: at a mark; cut with the place of the open bracket
 abbrev pub end_by : Option ℕ → List Char → NoteEnd
 end_by None back = end.Cut (if in_raw (kept back) then opener back else record { line = 0; column = 0 })
 end_by (Some c) back = end_by_mark c
 
--- how a snippet ends whose stage emitted this end at that byte
+-- the end of a snippet whose stage emitted this end at that byte
 abbrev pub ending_at : NoteEnd → ℕ → SnippetEnding
 ending_at end.Next index = Next index
 ending_at end.Close index = Close index
 ending_at (end.Cut place) index = Cut place
 
--- how it ends: at the byte of the mark, or cut
+-- its end: at the byte of the mark, or cut
 abbrev pub ending_by : Option ℕ → List Char → SnippetEnding
 ending_by mark back = ending_at (end_by mark back) (index_of back)
 
--- so what is read of a text that begins at this place is computed
+-- the reading of a text that begins at this place is computed so
 pub record IsComputed (at : Place) (split : Bool) (macros : ℕ) (text : List ℕ) (read : SnippetRead) : Type 0 where
   pub kept_is : string_bytes read.kept ≡ encode_utf8_all (let s = stop_after split [] (placed_characters_from at text) in kept_by s.mark s.back)
   pub findings_are : read.findings ≡ findings_of (concat_of (note_events split macros (placed_characters_from at text)))

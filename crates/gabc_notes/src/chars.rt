@@ -44,7 +44,7 @@ fn add_all_kept(
     Ok(())
 }
 
-/// Returns how many characters `text` has.
+/// Returns the number of characters of `text`.
 fn characters(text: &str) -> usize
     ensures { result ≡ length (chars text.now) }
 {
@@ -52,8 +52,8 @@ fn characters(text: &str) -> usize
 }
 
 /// Returns the first of the characters that `stage` emits as kept, driven over `body` and then
-/// ended: as many as `kept` has, or all if there are fewer. The first character of `body` stands at
-/// `at`. It fails only for want of memory. The stage is spent either way.
+/// ended: as many as `kept` has, or all if there are fewer. The first character of `body` is at
+/// `at`. Fails only if memory cannot be allocated. The stage is spent either way.
 pub fn kept_chars_by<S>(
     alloc: Global,
     mut stage: S,
@@ -88,8 +88,8 @@ where
 }
 
 /// Returns the characters of the text that `snippet_whole` keeps of the same arguments, each with
-/// its place in the source: a byte of that text belongs to the character whose bytes it is among.
-/// It fails only for want of memory.
+/// its place in the source: a byte of that text belongs to the character of which it is a byte.
+/// Fails only if memory cannot be allocated.
 pub fn kept_chars(
     alloc: Global,
     body: &str,

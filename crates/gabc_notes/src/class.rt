@@ -1,4 +1,4 @@
-//! Characters, by what they may do in notes.
+//! The classes of characters in notes.
 
 ghost use Rattle.std.specs.Prelude.{◌≡◌};
 ghost use Rattle.gabc_notes.specs.machine.CharClass.{class_of_character};
@@ -8,7 +8,7 @@ use CharClass::{
     FlatB, Hash, Hyphen, Open, Other, Pitch, Plus, Question, Sign, Slash, SmallZ, Suffix, Zero,
 };
 
-/// What a character may be in an item.
+/// The class of a character, by its roles in items.
 #[derive(Clone, Copy)]
 pub(crate) enum CharClass {
     Hyphen,
@@ -22,7 +22,7 @@ pub(crate) enum CharClass {
     ClefDigit,
     Zero,
     Digit,
-    /// `'` and `_`, which stand after bars too.
+    /// `'` and `_`, which may come after bars too.
     Sign,
     Suffix,
     Alter,
@@ -63,7 +63,7 @@ const CLASSES: [CharClass; 128] = [
     Alter, Alter, SmallZ, Other, Other, Other, Suffix, Other, // x y z { | } ~ DEL
 ];
 
-/// Returns the class of a character, by the table where it has one.
+/// Returns the class of the character `c`, by the table if it is below 128.
 #[inline(always)]
 pub(crate) fn class_of(c: char) -> CharClass
     ensures { result ≡ class_of_character c }

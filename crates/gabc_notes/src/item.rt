@@ -2,10 +2,10 @@
 
 use gabc_places::{Sequence, Span};
 
-/// What an item is.
+/// The kind of an item.
 #[derive(Clone, Copy, Debug, PartialEq, Eq)]
 pub enum ItemKind {
-    /// A pitch with what follows it, as `gv`, or a capital (GregorioRef, "One-Note Neumes").
+    /// A pitch with its signs, as `gv`, or a capital (GregorioRef, "One-Note Neumes").
     Note,
     /// A flat, a natural or a sharp, as `gx` ("Additional Symbols").
     Alteration,
@@ -28,7 +28,7 @@ pub enum ItemKind {
 /// An item of a kept text: its kind, and its span in bytes of the kept text.
 #[derive(Clone, Copy, Debug, PartialEq, Eq)]
 pub struct Item {
-    /// What it is.
+    /// Its kind.
     pub kind: ItemKind,
     /// Its bytes in the kept text.
     pub span: Span,

@@ -26,7 +26,7 @@ fn is_pitch_from(first: u8, byte: u8) -> bool
 }
 
 /// Returns whether `text` begins with a small pitch that is sure to be an item by itself: nothing
-/// stands after it, or one of the small pitches from `c` to `n`.
+/// comes after it, or one of the small pitches from `c` to `n`.
 fn begins_with_one_pitch(text: &[u8]) -> bool
     ensures { IsTrue result → IsUtf8 text.now → IsFirstItem text.now ItemKind.Note 1 }
 {
@@ -48,7 +48,7 @@ fn is_sign(byte: u8) -> bool
 }
 
 /// Returns whether `text` begins with a small pitch and a `.`, `_` or `'` that are sure to be an
-/// item: nothing stands after them, or one of the small pitches from `c` to `n`.
+/// item: nothing comes after them, or one of the small pitches from `c` to `n`.
 fn begins_with_signed_pitch(text: &[u8]) -> bool
     ensures { IsTrue result → IsUtf8 text.now → IsFirstItem text.now ItemKind.Note 2 }
 {
@@ -61,7 +61,7 @@ fn begins_with_signed_pitch(text: &[u8]) -> bool
     }
 }
 
-/// Returns the longest item that begins `text`: its kind, and how many bytes it has. Many items are
+/// Returns the longest item that begins `text`: its kind and its number of bytes. Many items are
 /// one pitch, alone or with a sign, so these are found first: else a dump takes 8 % more
 /// instructions for the plain score, and 39 % more for `notes` (docs/BENCHMARKS.md).
 #[inline(always)]
@@ -105,12 +105,13 @@ fn item_read(text: &str) -> Option<(ItemKind, usize)>
     best
 }
 
-/// Goes over the items of a kept text, in order. Contracts see the list of those to come.
+/// An iterator over the items of a kept text, in order. In contracts it is the list of the
+/// remaining ones.
 #[derive(Drop)]
 pub struct ItemReader<'a> {
     /// The text from the next item on.
     rest: &'a str,
-    /// How many bytes of the kept text stand before it.
+    /// The number of bytes of the kept text before it.
     at: usize,
 }
 
@@ -127,8 +128,8 @@ impl<'a> Model for ItemReader<'a> {
 }
 
 impl<'a> ItemReader<'a> {
-    /// Returns an iterator over the items that are still to come, to look ahead. It takes none of
-    /// them, and does not allocate.
+    /// Returns an iterator over the remaining items, to look ahead. It takes none of them, and does
+    /// not allocate.
     pub fn ahead(&self) -> ItemReader<'a>
         ensures { result ≡ self.now }
     {
@@ -162,10 +163,10 @@ impl<'a> Iterator for ItemReader<'a> {
 }
 
 /// Returns an iterator over the items of `kept`, in order: spans that count its bytes, each item
-/// the longest that begins where the one before it ends. They make up all of a snippet, as
-/// `is_snippet` says so; what `snippet_whole` keeps is one wherever the snippet ended. Of another
-/// text they go as far as an item begins. They lie in `kept`, and are at most as many as its bytes.
-/// It does not allocate, and each item is read when it is asked for.
+/// the longest that begins at the end of the one before it. They make up all of a snippet, as
+/// `is_snippet` says; the text that `snippet_whole` keeps is one if the snippet ended. In another
+/// text they end at the first place where no item begins. They lie in `kept`, and are at most as
+/// many as its bytes. It does not allocate, and reads each item when it is asked for.
 pub fn items_in(kept: &str) -> ItemReader<'_>
     ensures items { result ≡ items_of kept.now }
     ensures within { AreWithin kept.now (items_of kept.now) }
@@ -174,7 +175,8 @@ pub fn items_in(kept: &str) -> ItemReader<'_>
     ItemReader { rest: kept, at: 0 }
 }
 
-/// Returns the items of `kept`, as `items_in` gives them. It fails only on allocation failure.
+/// Returns the items of `kept`, as `items_in` returns them. Fails only if memory cannot be
+/// allocated.
 pub fn items_whole(alloc: Global, kept: &str) -> Result<Items, AllocError>
     ensures items { IfOk result (λ items. AreItemsOf kept.now items) }
     ensures within { IfOk result (λ items. AreWithin kept.now items) }
@@ -188,8 +190,8 @@ pub fn items_whole(alloc: Global, kept: &str) -> Result<Items, AllocError>
     Ok(items)
 }
 
-/// Adds to `out` the items of `kept`, as `items_in` gives them, and does not allocate. `out` has to
-/// take as many items more as `kept` has bytes.
+/// Adds to `out` the items of `kept`, as `items_in` returns them, and does not allocate. `out` has
+/// to take as many items more as `kept` has bytes.
 pub fn items_into(kept: &str, out: &mut Room<Item>)
     requires { Fits out.old (length kept.now) }
     ensures items { out.new ≡ extended_by out.old (items_of kept.now) }
@@ -201,7 +203,7 @@ pub fn items_into(kept: &str, out: &mut Room<Item>)
     }
 }
 
-/// Returns whether an item of that kind is a note or a clef. A custos is neither.
+/// Returns whether an item of kind `kind` is a note or a clef. A custos is neither.
 fn is_note_or_clef(kind: ItemKind) -> bool
     ensures { result ≡ note_or_clef kind }
 {
@@ -211,8 +213,8 @@ fn is_note_or_clef(kind: ItemKind) -> bool
     }
 }
 
-/// Returns which comes first among the items of `kept`, as `items_in` gives them: a note or a clef.
-/// If neither is among them it returns `None`. It does not allocate.
+/// Returns the kind of the first note or clef among the items of `kept`, as `items_in` returns
+/// them; `None`, if neither is among them. It does not allocate.
 pub fn first_note_or_clef(kept: &str) -> Option<ItemKind>
     ensures { result ≡ first_of (items_of kept.now) }
 {

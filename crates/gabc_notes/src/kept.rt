@@ -1,4 +1,4 @@
-//! Which texts are snippets.
+//! The texts that are snippets.
 
 ghost use Rattle.std.specs.Prelude.{IsTrue, ◌↔◌};
 ghost use Rattle.gabc_notes.specs.Items.{IsKept};

@@ -1,5 +1,5 @@
-//! Laws of the definitions that contracts speak of. Each function is there for its clauses: all but
-//! one do nothing, and that one drives a fresh stage.
+//! Laws of the definitions that contracts use. Each function is there for its clauses: all but one
+//! do nothing, and that one drives a fresh stage.
 
 ghost use Rattle.std.specs.Prelude.{◌≡◌, ◌↔◌, ◌≤◌, ◌+◌, ◌*◌, ℕ, List, [], ◌∷◌, ◌++◌, Bool, true, false, not, ◌&&◌, ◌==◌, length, take, drop, map, sum_by, codes, Some, is_some, Decides};
 ghost use Rattle.std.specs.Char.{len_utf8};
@@ -89,15 +89,15 @@ pub fn what_is_kept_goes_on()
         Trims gabc (kept back) (kept_by (Some mark) back) }
 {}
 
-/// Law: what is read of a text, by relations over the whole of it, is what is computed a character
-/// at a time.
+/// Law: the reading of a text by relations, over the whole of it, is the one that is computed a
+/// character at a time.
 pub fn what_is_read_is_computed()
     ensures { (at : Place) (split : Bool) (macros : ℕ) (t : List ℕ) (read : SnippetRead) →
         IsSnippetRead at split macros t read ↔ IsComputed at split macros t read }
 {}
 
-/// Law: what is emitted of characters, by relations over the whole of what stands before each, is
-/// what is computed a character at a time.
+/// Law: the events of characters by relations, over the whole of the text before each, are those
+/// that are computed a character at a time.
 pub fn what_is_emitted_is_computed()
     ensures { (split : Bool) (macros : ℕ) (xs : List Char) (lists : List (List NoteEvent)) →
         AreNoteEvents split macros xs lists ↔ lists ≡ note_events split macros xs }
@@ -158,8 +158,8 @@ pub fn one_end_is_emitted()
         ≤ sum_by len_utf8 (kept_of (concat_of (note_events split macros xs)))) }
 {}
 
-/// Law: what is emitted of characters does not depend on those that follow them, and after the end
-/// nothing is emitted.
+/// Law: the events of characters do not depend on those that follow them, and after the end nothing
+/// is emitted.
 pub fn what_follows_emits_nothing()
     ensures end { (split : Bool) (macros : ℕ) (p : Point) → is_over split p.back ≡ true →
         events_at split macros p ≡ [] }
@@ -168,13 +168,13 @@ pub fn what_follows_emits_nothing()
         ≡ take (length xs) (note_events split macros (xs ++ zs)) }
 {}
 
-/// Law: of a text, each finding stands strictly before the next.
+/// Law: the place of each finding of a text is strictly before that of the next.
 pub fn findings_are_in_order()
     ensures { (at : Place) (split : Bool) (macros : ℕ) (t : List ℕ) →
         AreInOrder (findings_of (concat_of (note_events split macros (placed_characters_from at t)))) }
 {}
 
-/// Law: what is emitted of a text through the character after a prefix has its findings at the
+/// Law: the findings of a text that are emitted through the character after a prefix are at the
 /// text's place or later, and no later than that character.
 pub fn findings_lie_within()
     ensures { (at : Place) (split : Bool) (macros : ℕ) (prefix rest : List ℕ) →
@@ -183,8 +183,8 @@ pub fn findings_lie_within()
         LieBetween at (place_past at prefix) (findings_of events) }
 {}
 
-/// Law: of a character at most one end is emitted, after all else: at a `)`, or where notes are
-/// split at a `|`. Of the end of the characters nothing is emitted but that they were cut.
+/// Law: at most one end is emitted at a character, after all other events: at a `)`, or if notes
+/// are split at a `|`. At the end of the characters nothing is emitted but that they were cut.
 pub fn a_snippet_ends_at_its_mark()
     ensures mark { (split : Bool) (macros : ℕ) (p : Point) →
         EndAtMost split p.here.c (events_at split macros p) }
@@ -244,8 +244,7 @@ pub fn a_stage_takes_each_character()
     ensures cut { (s : NoteStage) → s.ended ≡ false → IsCutAtOpener s }
 {}
 
-/// Law: the bracket that is open in a stage may stand at any place, and the stage keeps the same
-/// text.
+/// Law: the open bracket of a stage may be at any place, and the stage keeps the same text.
 pub fn an_opener_may_be_anywhere()
     ensures { (split : Bool) (macros : ℕ) (s : NoteStage) (k : List ℕ) (at : Place) →
         Keeps split macros s k → is_some (opener_of s) ≡ true →

@@ -1,10 +1,10 @@
-//! What an open bracket holds, as far as the name of a macro goes.
+//! The name of a macro, as far as an open bracket has it.
 
 ghost use Rattle.std.specs.Prelude.{◌≡◌};
 ghost use Rattle.gabc_notes.specs.Events.{is_defined};
 ghost use Rattle.gabc_notes.specs.machine.ItemMachine.{digit_of_prefix, prefix_with};
 
-/// What an open bracket holds so far, as far as a macro's name is concerned.
+/// The beginning of a macro's name in the open bracket.
 #[derive(Clone, Copy)]
 pub(crate) enum MacroPrefix {
     /// No bracket is open.
@@ -19,7 +19,7 @@ pub(crate) enum MacroPrefix {
     Other,
 }
 
-/// Returns the digit of the macro that the open bracket names, if it names one.
+/// Returns the digit of the macro with the name in the open bracket, if it is one.
 pub(crate) fn digit_of_prefix(name: MacroPrefix) -> Option<u8>
     ensures { result ≡ digit_of_prefix name }
 {
@@ -29,7 +29,7 @@ pub(crate) fn digit_of_prefix(name: MacroPrefix) -> Option<u8>
     }
 }
 
-/// Returns what the bracket holds with a character more.
+/// Returns the name with the character `c` after it.
 pub(crate) fn prefix_with(name: MacroPrefix, c: char) -> MacroPrefix
     ensures { result ≡ prefix_with name c }
 {
@@ -42,7 +42,7 @@ pub(crate) fn prefix_with(name: MacroPrefix, c: char) -> MacroPrefix
     }
 }
 
-/// Returns whether the bit of the digit of a macro is set.
+/// Returns whether the macro of `digit` is defined: whether its bit in `macros` is set.
 pub(crate) fn defines(macros: u16, digit: u8) -> bool
     ensures { result ≡ is_defined macros digit }
 {

@@ -1,4 +1,4 @@
-//! What a note is.
+//! The notes of a snippet.
 
 ghost use Rattle.std.specs.Prelude.{◌≡◌, ◌≤◌, length, [], ◌∷◌, MatchOption, codes};
 ghost use Rattle.gabc_notes.specs.Notes.{is_digit, letters, shape_by, is_sign, digits_of, height_of, height_at, shape_at, is_debilis, from_pitch, note_in};
@@ -68,7 +68,7 @@ fn is_digit_byte(byte: u8) -> bool
     b'0' <= byte && byte <= b'9'
 }
 
-/// Returns whether `r` with `text` after it is a sign: its digits are neither none nor `0` alone.
+/// Returns whether `r` with `text` after it is a sign: it has digits, and not `0` alone.
 fn makes_sign(text: &[u8]) -> bool
     ensures { result ≡ is_sign (digits_of text.now) }
 {
@@ -90,7 +90,7 @@ fn is_shape_letter(byte: u8) -> bool
     }
 }
 
-/// Returns the first letter of `text` that names the shape, and what follows it.
+/// Returns the first letter of `text` that names a shape, and the text after it.
 fn next_letter(text: &[u8]) -> Option<(u8, &[u8])>
     ensures { MatchOption result
         (letters text.now ≡ []) (λ p. letters text.now ≡ p.0 ∷ letters p.1.now) }
@@ -104,8 +104,8 @@ fn next_letter(text: &[u8]) -> Option<(u8, &[u8])>
     None
 }
 
-/// Returns how many letters in a row are `letter`, of at most three: those of `text`, and one
-/// before it.
+/// Returns the number of letters in a row that are `letter`, at most three: those of `text`, and
+/// one before it.
 fn count_in_a_row(letter: u8, text: &[u8]) -> u8
     ensures { result ≡ run_of letter (letters text.now) }
 {
@@ -118,7 +118,7 @@ fn count_in_a_row(letter: u8, text: &[u8]) -> u8
     }
 }
 
-/// Returns the shape that `text`, which stands after a small pitch, names.
+/// Returns the shape of a note with `text` after its small pitch.
 fn shape_after(text: &[u8]) -> Shape
     ensures { result ≡ shape_by (letters text.now) }
 {
@@ -161,7 +161,7 @@ pub fn height_of(pitch: u8) -> u8
     }
 }
 
-/// Returns whether `text` begins with `-`, and what follows that.
+/// Returns whether `text` begins with `-`, and the text after it.
 fn split_debilis(text: &[u8]) -> (bool, &[u8])
     ensures debilis { result.0 ≡ is_debilis text.now }
     ensures rest { result.1.now ≡ from_pitch text.now }
@@ -197,8 +197,8 @@ fn height_and_shape_read(text: &[u8]) -> (u8, Shape)
     }
 }
 
-/// Returns the note that `item` is, with its height, its shape and whether it is an initio debilis,
-/// by its bytes in `kept`: `None` unless its kind is `ItemKind::Note` (GregorioRef, "One-Note
+/// Returns the note of `item`, with its height, its shape and whether it is an initio debilis, by
+/// its bytes in `kept`: `None` unless its kind is `ItemKind::Note` (GregorioRef, "One-Note
 /// Neumes"). The span of `item` has to lie within `kept`, as that of each item of `items_whole`
 /// does.
 pub fn note_of(kept: &str, item: Item) -> Option<Note>

@@ -1,4 +1,4 @@
-//! How far a text is a regular snippet: it is kept as it stands, and nothing is found in it.
+//! The length of a regular snippet: it is kept as it is written, and nothing is found in it.
 
 ghost use Rattle.std.specs.Prelude.{◌≡◌, ◌≤◌, ◌<◌, ◌==◌, ◌&&◌, ◌||◌, false, get_or, length, take, true};
 ghost use Rattle.std.specs.List.{list_all};
@@ -18,8 +18,8 @@ fn is_mark(byte: u8) -> bool
     byte == b')' || byte == b'|'
 }
 
-/// Where the reading of a snippet stands in which nothing was found yet: outside brackets, or where
-/// one was opened.
+/// The state of the reading of a snippet in which nothing was found yet: outside brackets, or at
+/// the place where one was opened.
 #[derive(Clone, Copy)]
 pub(crate) struct RegularPoint {
     item: ItemState,
@@ -28,8 +28,8 @@ pub(crate) struct RegularPoint {
 }
 
 impl RegularPoint {
-    /// Returns where the reading stands after `byte`, outside brackets; `None` where that is not
-    /// kept or something is found at it. Most notes have their short way.
+    /// Returns the state after `byte`, outside brackets; `None` if that is not kept or something is
+    /// found at it. Most notes take a short way.
     #[inline(always)]
     #[tactic(auto, using(crate::proofs::machine::RegularBrackets::at_mark))]
     fn after(self, byte: u8) -> Option<RegularPoint>
@@ -43,7 +43,7 @@ impl RegularPoint {
         }
     }
 
-    /// Returns what `after` returns, whatever `byte` is.
+    /// Returns the state that `after` returns, for any `byte`.
     #[tactic(auto, using(crate::proofs::machine::RegularBrackets::enters))]
     fn after_any(self, byte: u8) -> Option<RegularPoint>
         ensures { raw_state self.item ≡ false →
@@ -63,7 +63,7 @@ impl RegularPoint {
         Some(RegularPoint { item, fused })
     }
 
-    /// Returns where the reading stands after the `]` of the bracket that was opened.
+    /// Returns the state after the `]` of the bracket that was opened.
     fn closed(self) -> RegularPoint
         ensures { result ≡ closed_point self }
     {
@@ -77,16 +77,16 @@ impl RegularPoint {
         }
     }
 
-    /// Returns whether a warning comes with the `]` after `bytes`, which the bracket that was
-    /// opened holds, where no macro is defined.
+    /// Returns whether the `]` after `bytes`, the content of the bracket that was opened, has a
+    /// warning, if no macro is defined.
     fn warns_after(self, bytes: &[u8]) -> bool
         ensures { result ≡ (attribute_state (closed_point self).item && is_macro bytes.now) }
     {
         is_attribute(self.closed().item) && is_macro(bytes)
     }
 
-    /// Returns how many bytes the longest regular prefix of `read` bytes has, which were read up to
-    /// here: all where nothing is found if the snippet ends here, else `before`.
+    /// Returns the length in bytes of the longest regular prefix of the `read` bytes up to here:
+    /// `read`, if the snippet may end here with nothing found, else `before`.
     #[inline(always)]
     fn longest(self, read: usize, before: usize) -> usize
         ensures { result ≡ longest_at (reading_at self) read before }
@@ -99,7 +99,7 @@ impl RegularPoint {
     }
 }
 
-/// Returns whether an attribute that holds `bytes` names a macro.
+/// Returns whether an attribute with the content `bytes` names a macro.
 fn is_macro(bytes: &[u8]) -> bool
     ensures { result ≡ is_macro bytes.now }
 {
@@ -109,7 +109,7 @@ fn is_macro(bytes: &[u8]) -> bool
     }
 }
 
-/// Returns how many bytes stand before the first `]` of `bytes`, or all.
+/// Returns the number of bytes before the first `]` of `bytes`, or of all.
 #[inline(always)]
 fn inside_len(bytes: &[u8]) -> usize
     ensures within { result ≤ length bytes.now }
@@ -123,15 +123,15 @@ fn inside_len(bytes: &[u8]) -> usize
     len
 }
 
-/// Returns whether `byte` is a pitch but `b`.
+/// Returns whether `byte` is a pitch other than `b`.
 fn begins_front(byte: u8) -> bool
     ensures { result ≡ begins_front byte }
 {
     (byte >= b'c' && byte <= b'n') || byte == b'a' || byte == b'p'
 }
 
-/// Returns whether `byte` is a pitch but `b`, or a frequent suffix or sign. Most bytes of notes are
-/// known by one comparison, and most fronts end at a `)`.
+/// Returns whether `byte` is a pitch other than `b`, or a frequent suffix or sign. Most bytes of
+/// notes are known by one comparison, and most fronts end at a `)`.
 fn goes_on_front(byte: u8) -> bool
     ensures { result ≡ goes_on_front byte }
 {
@@ -147,7 +147,7 @@ fn goes_on_front(byte: u8) -> bool
     }
 }
 
-/// Returns where the item stands after the character `byte` of a front.
+/// Returns the state of the item after the character `byte` of a front.
 fn item_at(byte: u8) -> ItemState
     ensures { result ≡ item_at byte }
 {
@@ -158,8 +158,9 @@ fn item_at(byte: u8) -> ItemState
     }
 }
 
-/// Returns how many bytes the front has that `bytes` begin with: pitches but `b`, and after the
-/// first of them frequent suffixes and signs too. Each that it goes over ends a regular snippet.
+/// Returns the length in bytes of the front that `bytes` begin with: pitches other than `b`, and
+/// after the first of them frequent suffixes and signs too. After each of its bytes a regular
+/// snippet may end.
 #[inline(always)]
 fn front_len(bytes: &[u8]) -> usize
     ensures within { result ≤ length bytes.now }
@@ -185,8 +186,8 @@ fn begins_bar(byte: u8) -> bool
     }
 }
 
-/// Returns how many bytes the bar or the line break has that `bytes` begin with, if it is one that
-/// a snippet often is; else 0.
+/// Returns the length in bytes of the bar or the line break that `bytes` begin with, if it is one
+/// that a snippet often is; else 0.
 #[inline(always)]
 fn bar_len(bytes: &[u8]) -> usize
     ensures within { result ≤ length bytes.now }
@@ -201,7 +202,7 @@ fn bar_len(bytes: &[u8]) -> usize
     1
 }
 
-/// Returns where the reading stands after the front that the first `len` of `bytes` are.
+/// Returns the state after a front of `len` bytes at the beginning of `bytes`.
 fn front_point(bytes: &[u8], len: usize) -> RegularPoint
     requires { len ≤ length bytes.now }
     ensures { reading_at result ≡ front_state (take len bytes.now) }
@@ -216,8 +217,8 @@ fn front_point(bytes: &[u8], len: usize) -> RegularPoint
     }
 }
 
-/// Returns what `regular_notes` returns, where the first `front` bytes of `text` are a front, by
-/// reading what follows them. Of a bracket it looks for the end alone.
+/// Returns the length that `regular_notes` returns, if the first `front` bytes of `text` are a
+/// front, by reading the bytes after them. In a bracket it looks for the end alone.
 fn regular_by_bytes(text: &str, front: usize) -> usize
     requires within { front ≤ length text.now }
     requires is_front { is_front (take front text.now) ≡ true }
@@ -247,7 +248,8 @@ fn regular_by_bytes(text: &str, front: usize) -> usize
     regular
 }
 
-/// Returns what `regular_notes` returns, by a short way where `text` is a bar before its mark.
+/// Returns the length that `regular_notes` returns, by a short way if `text` is a bar before its
+/// mark.
 fn regular_from_bar(text: &str) -> usize
     ensures { IsLongestPrefix IsRegular text.now result }
 {
@@ -259,8 +261,8 @@ fn regular_from_bar(text: &str) -> usize
     regular_by_bytes(text, 0)
 }
 
-/// Returns what `regular_notes` returns, where the first `front` bytes of `text` are a front. It
-/// stays out of line: few snippets are more than a front.
+/// Returns the length that `regular_notes` returns, if the first `front` bytes of `text` are a
+/// front. It stays out of line: few snippets are more than a front.
 #[inline(never)]
 fn regular_after_front(text: &str, front: usize) -> usize
     requires within { front ≤ length text.now }
@@ -274,10 +276,10 @@ fn regular_after_front(text: &str, front: usize) -> usize
     }
 }
 
-/// Returns how many bytes of `text` its longest prefix has that is a regular snippet: before the
-/// `)` or `|` that ends it, each of its characters is kept and nothing is found, whatever macros
-/// are defined (GregorioRef, "Notation — Note Syntax"). The empty one is such a prefix. It asks for
-/// no memory.
+/// Returns the length in bytes of the longest prefix of `text` that is a regular snippet: before
+/// the `)` or `|` that ends it, each of its characters is kept and nothing is found, whatever
+/// macros are defined (GregorioRef, "Notation — Note Syntax"). The empty text is such a prefix. It
+/// does not allocate.
 #[inline(always)]
 pub fn regular_notes(text: &str) -> usize
     ensures { IsLongestPrefix IsRegular text.now result }

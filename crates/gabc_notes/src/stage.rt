@@ -20,7 +20,7 @@ use crate::macro_prefix::{MacroPrefix, defines, digit_of_prefix, prefix_with};
 use crate::state::{ItemState, is_attribute, is_raw, is_whole, next_state, short_step};
 use gabc_places::{Char, Code, Finding, Place, Room, Stage};
 
-/// How a snippet ends. A place is that of the open bracket; line 0 and column 0 if none is open.
+/// The end of a snippet. A place is that of the open bracket; line 0 and column 0 if none is open.
 #[derive(Clone, Copy, Debug, PartialEq, Eq)]
 pub enum NoteEnd {
     /// At a `|`.
@@ -32,7 +32,7 @@ pub enum NoteEnd {
 }
 
 impl NoteEnd {
-    /// Returns how `mark` ends a snippet: a `|` as `Next`, and any other as `Close`.
+    /// Returns the end of a snippet at `mark`: `Next` at a `|`, and `Close` at any other.
     pub fn of_mark(mark: char) -> NoteEnd
         ensures { result ≡ end_by_mark mark }
     {
@@ -44,15 +44,15 @@ impl NoteEnd {
     }
 }
 
-/// An event: what a stage emits of a snippet.
+/// An event of a snippet.
 #[derive(Clone, Copy, Debug, PartialEq, Eq)]
 pub enum NoteEvent {
-    /// A character that is kept.
+    /// A kept character.
     Kept(Char),
     /// A finding, with its place.
     Found(Finding),
-    /// The end, after which nothing more comes: how the snippet ended, and how many bytes its kept
-    /// text has, without an unfinished end; of a cut snippet the bytes kept so far.
+    /// The end, the last event: the end of the snippet, and the number of bytes of its kept text,
+    /// without an unfinished end; of a cut snippet the bytes kept so far.
     Ended { how: NoteEnd, kept: usize },
 }
 
@@ -139,7 +139,7 @@ fn role_of(split: bool, comment: bool, facts: CharFacts, c: char) -> CharRole
     }
 }
 
-/// Returns the warning of a character that is kept.
+/// Returns the warning of a kept character, if it has one.
 fn warning(macros: u16, before: Before, facts: CharFacts, x: Char) -> Option<NoteEvent>
     ensures { result ≡ warning_in macros before facts x }
 {
@@ -181,7 +181,7 @@ impl Before {
         self.comment = false;
     }
 
-    /// Updates the context for a character with this role.
+    /// Updates the context for a character with the role `role`.
     fn pass(&mut self, role: CharRole, facts: CharFacts, x: Char)
         ensures { self.new ≡ before_in role self.old facts x }
     {
@@ -194,7 +194,7 @@ impl Before {
     }
 }
 
-/// Returns the finding of this code at a character.
+/// Returns a finding with the code `code` at the character `x`.
 fn found(x: Char, code: Code) -> NoteEvent
     ensures { result ≡ finding_event x.place code }
 {
@@ -223,7 +223,7 @@ fn emit_end(before: Before, whole: bool, x: Char, out: &mut Room<NoteEvent>)
     });
 }
 
-/// Emits the events of a character with this role.
+/// Emits the events of a character with the role `role`.
 fn emit(
     role: CharRole,
     macros: u16,
@@ -277,9 +277,9 @@ impl NoteStage {
     /// Returns a stage before the first character of a snippet. With `split` a `|` ends the snippet
     /// too. The bit `d` of `macros`, from 0 to 9, says that the macro of the digit `d` is defined.
     /// It has kept the empty text, and no bracket and no comment is open. A call emits at most 3
-    /// events: of a character that it is kept, if it is, and what is found there; of the mark that
-    /// ends the snippet what is found, and the end; if the characters end before it, that they
-    /// were cut. After the end nothing is emitted, and the stage stays as it is.
+    /// events: of a character that it is kept, if it is, and its finding; of the mark that ends the
+    /// snippet the findings, and the end; if the characters end before it, that they were cut.
+    /// After the end nothing is emitted, and the stage stays as it is.
     pub fn new(split: bool, macros: u16) -> NoteStage
         ensures events { (xs : List Char) →
             AreNoteEvents split macros xs (events_left result xs) }
@@ -302,7 +302,7 @@ impl NoteStage {
         }
     }
 
-    /// Takes a character with this role.
+    /// Takes a character with the role `role`.
     fn advance(&mut self, role: CharRole, facts: CharFacts, next: Option<ItemState>, x: Char)
         ensures { self.new ≡ stage_after self.old role facts next x }
     {

@@ -11,17 +11,17 @@ use crate::stage::{NoteEnd, NoteEvent, NoteStage};
 use gabc_places::{Char, Findings, Place, Room, Stage};
 use std::alloc::{AllocError, Global};
 
-/// What was read so far.
+/// The reading so far.
 #[derive(Drop)]
 struct SnippetBuilder {
     kept: String,
     findings: Findings,
-    /// How the snippet ended, and the bytes of the kept text.
+    /// The end of the snippet, and the bytes of the kept text.
     end: Option<(NoteEnd, usize)>,
 }
 
 impl SnippetBuilder {
-    /// Returns a reading of nothing.
+    /// Returns an empty reading.
     fn new(alloc: Global) -> SnippetBuilder
         ensures { built_snippet_of result ≡ no_snippet }
     {
@@ -32,7 +32,7 @@ impl SnippetBuilder {
         }
     }
 
-    /// Adds what the machine emitted.
+    /// Adds an event of the machine.
     fn add(&mut self, event: NoteEvent) -> Result<(), AllocError>
         ensures { OnOk result (built_snippet_of self.new
             ≡ with_event (built_snippet_of self.old) event) }
@@ -45,7 +45,7 @@ impl SnippetBuilder {
         Ok(())
     }
 
-    /// Adds all that the machine emitted.
+    /// Adds all events of the machine.
     fn add_all(&mut self, events: &[NoteEvent]) -> Result<(), AllocError>
         ensures { OnOk result (built_snippet_of self.new
             ≡ with_events (built_snippet_of self.old) events.now) }
@@ -56,7 +56,7 @@ impl SnippetBuilder {
         Ok(())
     }
 
-    /// Passes a character to the machine, and adds what is emitted. Nothing stays in the room.
+    /// Passes a character to the machine, and adds its events. `room` is left empty.
     fn feed(
         &mut self,
         stage: &mut NoteStage,
@@ -74,7 +74,7 @@ impl SnippetBuilder {
         Ok(())
     }
 
-    /// Ends the machine, and adds what it emits.
+    /// Ends the machine, and adds its events.
     fn close(&mut self, stage: &mut NoteStage, room: &mut Room<NoteEvent>) -> Result<(), AllocError>
         requires { room.old ≡ record { items = []; limit = 3 } }
         ensures { OnOk result (EndIsAdded stage.old (built_snippet_of self.old)
@@ -84,8 +84,7 @@ impl SnippetBuilder {
         self.add_all(room.slice())
     }
 
-    /// Returns what was read of a snippet that ends as `how` says, with `bytes` bytes of the kept
-    /// text.
+    /// Returns the reading of a snippet with the end `how`, with `bytes` bytes of the kept text.
     fn into_read(self, how: SnippetEnding, bytes: usize) -> SnippetRead
         requires { IsSplitPoint (string_bytes self.kept) bytes }
         ensures kept { string_bytes result.kept ≡ take bytes (string_bytes self.kept) }
@@ -108,12 +107,12 @@ impl SnippetBuilder {
 
 /// Reads the snippet of notes with which `body` begins, up to the mark that ends it or the end of
 /// `body` (GregorioRef, "Notation — Note Syntax"). Returns the kept text, without an unfinished end
-/// unless the snippet is cut; the findings; and the end, with the byte of its mark, or the place of
-/// the `[` that is open where it is cut, if one is. Each number of `at` and the bytes of `body`
-/// together have to be below 2^64. The first character of `body` stands at `at`, a line and a
-/// column from 1, as `gabc_places` counts them in a `Text`. With `split` a `|` ends the snippet
-/// too. The bit `d` of `macros`, from 0 to 9, says that the macro of the digit `d` is defined. It
-/// fails only for want of memory.
+/// unless the snippet is cut; the findings; and the end, with the byte of its mark, or if it is cut
+/// with the place of the open `[`, if one is open. Each number of `at` and the bytes of `body`
+/// together have to be below 2^64. The first character of `body` is at `at`, a line and a column
+/// from 1, as `gabc_places` counts them in a `Text`. With `split` a `|` ends the snippet too. The
+/// bit `d` of `macros`, from 0 to 9, says that the macro of the digit `d` is defined. Fails only if
+/// memory cannot be allocated.
 pub fn snippet_whole(
     alloc: Global,
     body: &str,

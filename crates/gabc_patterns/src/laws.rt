@@ -52,8 +52,9 @@ pub fn items_read<K>()
         IsReading rows (items rows t) t }
 {}
 
-/// Law: a text has one list of items that reads it as far as an item begins, if no text is spelled
-/// by rows of two kinds, and the function `items` gives such a list. A snippet is read to its end.
+/// Law: a text has one list of items that reads it to the first place where no item begins, if no
+/// text is spelled by rows of two kinds, and the function `items` returns such a list. A snippet is
+/// read to its end.
 pub fn items_read_as_far_as_one_begins<K>()
     ensures items { (rows : Table K) → ¬ IsItem rows [] → (t : List ℕ) →
         (rest : List ℕ) × ReadsTo rows (items rows t) t rest }
@@ -64,8 +65,8 @@ pub fn items_read_as_far_as_one_begins<K>()
         IsReading rows is t ↔ ReadsTo rows is t [] }
 {}
 
-/// Law: the functions `keep`, `trim` and `kept_text` give what the relations say, and nothing else
-/// is so related.
+/// Law: the functions `keep`, `trim` and `kept_text` compute what the relations say, and no other
+/// value is so related.
 pub fn kept_is_computed<K>()
     ensures keeps { (rows : Table K) → ¬ IsItem rows [] → (t all : List ℕ) → Keeps rows [] t all →
         all ≡ keep rows t }
@@ -80,7 +81,7 @@ pub fn kept_is_computed<K>()
         IsKeptText rows t (kept_text rows t) }
 {}
 
-/// Law: what is kept of a prefix of a text stays kept, whatever follows; what is kept after it
+/// Law: the kept text of a prefix of a text stays kept, whatever follows; what is kept after it
 /// depends on what was kept of it.
 pub fn kept_prefix_stays<K>()
     ensures { (rows : Table K) (s t : List ℕ) →
@@ -131,7 +132,8 @@ pub fn reading_is_decided<K>()
         (ends : List (List ℕ)) (t : List ℕ) → goes_on rows ends t ≡ true → IsViable rows t }
 {}
 
-/// Law: the longest beginning of a text that such items make up is what the function `trim` leaves.
+/// Law: the longest beginning of a text that such items make up is what the function `trim` leaves
+/// of it.
 pub fn whole_front_is_trimmed_to<K>()
     ensures { (rows : Table K) → ¬ IsItem rows [] → OneKind rows → (t : List ℕ) →
         whole_front rows t ≡ trim rows t }

@@ -4,11 +4,11 @@ use Rattle.std.specs.Char.{len_utf8}
 use Rattle.gabc_places.specs.declared.place.Char.{Char}
 use Rattle.gabc_places.specs.declared.place.Place.{Place}
 
--- how many bytes these characters have in UTF-8
+-- the number of bytes of these characters in UTF-8
 abbrev pub bytes_in : List Char → ℕ
 bytes_in chars = sum_by (λ (x : Char). len_utf8 x.c) chars
 
--- the byte with this index, from 0, belongs to the character that stands at this place
+-- the byte with this index, from 0, belongs to the character at this place
 pub record IsByteAt (chars : List Char) (byte : ℕ) (place : Place) : Type 0 where
   pub before : List Char
   pub here : Char

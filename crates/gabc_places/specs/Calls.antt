@@ -1,8 +1,8 @@
--- How the calls of a source or a sink went.
+-- The calls of a source or a sink, and their answers.
 use Rattle.std.specs.Prelude.{◌≡◌, ℕ, ◌+◌, ◌==◌, Bool, true, false, not, ◌&&◌, ◌||◌, if◌then◌else◌, Result, MatchResult}
 
--- How many calls came; how many of them failed; whether one of them failed or reported the end, so
--- that this end is stopped; and how many were late: they came when it was stopped.
+-- The number of calls; the number of those that failed; whether one of them failed or reported the
+-- end, so that this end is stopped; and the number of late ones, which came when it was stopped.
 pub record Calls : Type 0 where
   pub made : ℕ
   pub failures : ℕ
@@ -30,7 +30,8 @@ after_failure c = record {
   late = if c.is_stopped then c.late + 1 else c.late;
 }
 
--- whether a read of n bytes reports the end: none, into a buffer of this length, which has some
+-- whether a read of n bytes reports the end: a read of 0 bytes into a buffer of this length that is
+-- not empty
 abbrev pub is_end : ℕ → ℕ → Bool
 is_end count length = (count == 0) && not (length == 0)
 
@@ -58,7 +59,7 @@ pub record FailsOnce (old new : Calls) : Type 0 where
   pub is_stopped : new.is_stopped ≡ true
   pub none_late : NoneLate old new
 
--- a reader or a writer, and how its calls went
+-- a reader or a writer, and its calls
 pub record WithCalls (T : Type 0) : Type 0 where
   pub inner : T
   pub calls : Calls

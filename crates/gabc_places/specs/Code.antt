@@ -1,4 +1,4 @@
--- What a code is: its rank among the codes of one place, and what the row of the table says of it.
+-- The rank of a code among the codes of one place, and its row of the table.
 use Rattle.std.specs.Prelude.{ℕ, ◌-◌, List, [], map, slice_index_or}
 use Rattle.gabc_places.specs.declared.code.Code.{Code}
 use Rattle.gabc_places.specs.declared.code.Code.TheVariants.{E1, E2, E3, E4, E5, E6, W1, W2, W3, W4, W5, W6, W7, W8, W9, W10, W11, W12, F1, F2, F3, F4, F5, F6, F7}
@@ -34,8 +34,8 @@ rank_of F5 = 23
 rank_of F6 = 24
 rank_of F7 = 25
 
--- of each row of the table, in the order of the ranks: how grave the code is, its name in messages,
--- what a message says of it
+-- of each row of the table, in the order of the ranks: the severity of the code, its name in
+-- messages, its text in messages
 abbrev pub severity_of : Code → Severity
 severity_of code = slice_index_or (map (λ row. row.0) CODES) (rank_of code - 1) Fatal
 
@@ -45,7 +45,7 @@ name_of code = slice_index_or (map (λ row. row.1.now) CODES) (rank_of code - 1)
 abbrev pub text_of : Code → List ℕ
 text_of code = slice_index_or (map (λ row. row.2.now) CODES) (rank_of code - 1) []
 
--- how grave a code is, by its letter
+-- the severity of a code, by its letter
 abbrev pub severity_by_kind : Code → Severity
 severity_by_kind E1 = Error
 severity_by_kind E2 = Error

@@ -1,5 +1,4 @@
--- The table of codes, spelled out: of each code its name in messages, and what a message says of
--- it.
+-- The table of codes, spelled out: of each code its name and its text in messages.
 use Rattle.std.specs.Prelude.{ℕ, List, [], ◌∷◌, codes}
 
 abbrev pub codes_spelled : List (List ℕ × List ℕ)

@@ -1,4 +1,4 @@
--- How a decoder reads bytes one at a time, and what it will still emit.
+-- A decoder, which reads bytes one at a time, and what it will still emit.
 use Rattle.std.specs.Prelude.{ℕ, ◌+◌, ◌≤◌, List, [], ◌∷◌, length, Bool, true, false, Some, None, Result, Ok, Err, ◌≡◌}
 use Rattle.std.specs.Str.Lossy.{utf8_valid_len, utf8_error_len}
 use Rattle.gabc_places.specs.declared.place.Place.{Place}
@@ -6,9 +6,9 @@ use Rattle.gabc_places.specs.declared.place.Char.{Char}
 use Rattle.gabc_places.specs.declared.code.Fault.{Fault}
 use Rattle.gabc_places.specs.Place.{place_after}
 
--- what a decoder holds: the limit and the bytes taken so far, the place of the next character, the
--- bytes of a character that is not whole yet, and the character before it (0 where there is none,
--- or where it is only known to be no CR)
+-- the state of a decoder: the limit and the bytes taken so far, the place of the next character,
+-- the bytes of a character that is not whole yet, and the character before it (0 if there is none,
+-- or if it is only known to be no CR)
 pub record DecoderState : Type 0 where
   pub limit : ℕ
   pub taken : ℕ
@@ -28,8 +28,8 @@ pub record IsWrong (bs : List ℕ) : Type 0 where
   pub size : ℕ
   pub fault : utf8_error_len bs ≡ Some size
 
--- Where the next character can be after n bytes, of which the last `pending` are a part of
--- it: each byte before brings it on by a line or a column, if at all.
+-- The places at which the next character can be after n bytes, of which the last `pending` are a
+-- part of it: each byte before moves it on by a line or a column, if at all.
 pub record IsReached (place : Place) (pending taken : ℕ) : Type 0 where
   pub line : 1 ≤ place.line
   pub column : 1 ≤ place.column

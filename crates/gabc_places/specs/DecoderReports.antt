@@ -1,4 +1,4 @@
--- What a decoder reports of where it stands, and what a decoder can be made from.
+-- The reports of a decoder, and those from which a decoder can be made.
 use Rattle.std.specs.Prelude.{◌≡◌, ℕ, ◌+◌, ◌≤◌, List, [], ◌∷◌, length, Bool, true, false, not, ◌==◌, ◌&&◌, if◌then◌else◌, Result, Ok, Err}
 use Rattle.gabc_places.specs.declared.code.Fault.{Fault}
 use Rattle.gabc_places.specs.declared.place.Char.{Char}
@@ -11,8 +11,8 @@ use Rattle.gabc_places.specs.TextOfAnInput.{IsTextCharacter}
 abbrev pub is_after_cr : DecoderState → Bool
 is_after_cr s = not (is_unfinished s.pending) && (s.previous == 13)
 
--- Two decoders report the same: how many bytes they took, where the next character stands, the
--- bytes of one that is not whole, and whether a CR stands directly before the next byte.
+-- Two decoders report the same: the number of bytes that they took, the place of the next
+-- character, the bytes of one that is not whole, and whether a CR is directly before the next byte.
 pub record ReportTheSame (one other : DecoderState) : Type 0 where
   pub taken : one.taken ≡ other.taken
   pub place : one.place ≡ other.place
@@ -33,19 +33,19 @@ resumed limit taken place pending cr = record { limit = limit; taken = taken; pl
 
 -- ---- a byte
 
--- the next character stands after the one that is whole
+-- the place of the next character is after the one that is whole
 abbrev pub moved_place : List (Result Char Fault) → Place → Place
 moved_place [] p = p
 moved_place (Ok x ∷ items) p = next_place x.place x.c
 moved_place (Err fault ∷ items) p = p
 
--- and that one where the next one stood
+-- and that one is at the place of the next one before
 abbrev pub AreHere : List (Result Char Fault) → Place → Type 0
 AreHere [] p = Unit {0}
 AreHere (Ok x ∷ items) p = x.place ≡ p
 AreHere (Err fault ∷ items) p = Unit {0}
 
--- one byte is taken, or none where nothing is read any more
+-- one byte is taken, or none if nothing is read any more
 abbrev pub AreCounted : List (Result Char Fault) → ℕ → ℕ → Type 0
 AreCounted [] old new = (old ≤ new) × (new ≤ old + 1)
 AreCounted (Ok x ∷ items) old new = new ≡ old + 1
@@ -69,8 +69,8 @@ EndALine [] = ⊥
 EndALine (Ok x ∷ items) = x.c ≡ 10
 EndALine (Err fault ∷ items) = ⊥
 
--- With a byte, at which these came, a decoder goes on under its limit. Where a CR stands directly
--- before the next byte then, this byte was the CR.
+-- With a byte, at which these came, a decoder goes on under its limit. If a CR is directly before
+-- the next byte then, this byte was the CR.
 pub record MovesOn (old : DecoderState) (items : List (Result Char Fault)) (new : DecoderState) : Type 0 where
   pub limit : new.limit ≡ old.limit
   pub taken : AreCounted items old.taken new.taken

@@ -1,4 +1,4 @@
--- What becomes of a character.
+-- The fates of a character.
 use Rattle.std.specs.Prelude.{Option}
 use Rattle.gabc_places.specs.declared.code.Code.{Code}
 

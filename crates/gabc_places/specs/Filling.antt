@@ -4,11 +4,11 @@ use Rattle.std.proofs.lemmas.Bool.{cases_lt}
 use Rattle.std.proofs.lemmas.List.{append-nil, take_at, drop_at, take_all, take-append-drop, length-take, length-drop, drop-drop}
 use Rattle.std.proofs.Math.ListN.{drop_of_length-le}
 
--- the buffer with these items from `at` on, as many as there is room for
+-- the buffer with these items from `at` on, as many as fit
 abbrev pub filled : {X : Type 0} → List X → ℕ → List X → List X
 filled buf at items = take at buf ++ (take (length buf - at) items ++ drop (at + length items) buf)
 
--- how many items it has taken then
+-- the number of items that it has taken then
 abbrev pub filled_len : {X : Type 0} → List X → ℕ → List X → ℕ
 filled_len buf at items = at + min (length items) (length buf - at)
 

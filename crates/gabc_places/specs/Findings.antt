@@ -15,11 +15,11 @@ pub record Known : Type 0 where
 abbrev pub findings_before : ℕ → List Known → List Finding
 findings_before stop knowns = map (λ (k : Known). k.finding) (filter (λ (k : Known). nat_lt k.point stop) knowns)
 
--- f stands before g: at an earlier place, or at the same place with a lower code
+-- f comes before g: at an earlier place, or at the same place with a lower code
 abbrev pub ComesBefore : Finding → Finding → Type 0
 ComesBefore f g = (f.place.line < g.place.line) ⊎ ((f.place.line ≡ g.place.line) × ((f.place.column < g.place.column) ⊎ ((f.place.column ≡ g.place.column) × (rank_of f.code < rank_of g.code))))
 
--- each finding stands before the next one: sorted, and none twice
+-- each finding comes before the next one: sorted, and none twice
 abbrev pub ComeAfter : Finding → List Finding → Type 0
 ComeAfter f [] = Unit {0}
 ComeAfter f (g ∷ gs) = ComesBefore f g × ComeAfter g gs
@@ -32,7 +32,7 @@ AreInOrder (f ∷ fs) = ComeAfter f fs
 abbrev pub IsUpTo : Place → Place → Type 0
 IsUpTo p q = (p.line < q.line) ⊎ ((p.line ≡ q.line) × (p.column ≤ q.column))
 
--- each of the findings stands at p or later, and no later than q
+-- each of the findings is at p or later, and no later than q
 abbrev pub LieBetween : Place → Place → List Finding → Type 0
 LieBetween p q [] = Unit {0}
 LieBetween p q (f ∷ fs) = (IsUpTo p f.place × IsUpTo f.place q) × LieBetween p q fs

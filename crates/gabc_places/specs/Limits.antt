@@ -9,7 +9,7 @@ pub record AreLimits (header syllable input : ℕ) : Type 0 where
   pub input_least : 64 ≤ input
   pub input_most : input ≤ 4294967295
 
--- the limits of a run that is given no others
+-- the default limits
 pub record AreUsual (header syllable input : ℕ) : Type 0 where
   pub header_is : header ≡ 65536
   pub syllable_is : syllable ≡ 16384

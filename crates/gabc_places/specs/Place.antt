@@ -12,11 +12,11 @@ is_line_feed c = c == 10
 abbrev pub place_after : List ℕ → Place
 place_after text = record { line = 1 + count_by is_line_feed text; column = 1 + length (after_last is_line_feed text) }
 
--- the place after a character that stands at p
+-- the place after a character that is at p
 abbrev pub next_place : Place → ℕ → Place
 next_place p c = if is_line_feed c then record { line = p.line + 1; column = 1 } else record { line = p.line; column = p.column + 1 }
 
--- the same, where a count that has reached its last value stays there
+-- the same, but a count that has reached its last value stays there
 abbrev pub saturating_next_place : Place → ℕ → Place
 saturating_next_place p c =
     if is_line_feed c then record { line = min (p.line + 1) (2 ^ 64 - 1); column = 1 } else record { line = p.line; column = min (p.column + 1) (2 ^ 64 - 1) }

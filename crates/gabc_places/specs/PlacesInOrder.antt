@@ -1,4 +1,4 @@
--- Which place stands before another.
+-- Places that come before others.
 use Rattle.std.specs.Prelude.{◌≡◌, ◌⊎◌, ◌^◌, ◌<◌, ◌≤◌, Option, Some}
 use Rattle.gabc_places.specs.declared.place.Place.{Place}
 
@@ -12,7 +12,7 @@ pub record LiesBefore (next p : Place) : Type 0 where
   pub in_64_bits : p.column < 2 ^ 64
   pub earlier : IsEarlier p next
 
--- of two places the second stands after the first, where both are there
+-- of two places the second comes after the first, if both are there
 abbrev pub AreInOrder : Option Place → Option Place → Type 0
 AreInOrder (Some p) (Some q) = IsEarlier p q
 AreInOrder _ _ = Unit {0}

@@ -1,8 +1,8 @@
--- What takes bytes: a room, as far as it goes, and a count of them.
+-- The takers of bytes: a room, which takes as many as fit, and a count of bytes.
 use Rattle.std.specs.Prelude.{ℕ, ◌+◌, ◌-◌, ◌^◌, min, List, length, take}
 use Rattle.gabc_places.specs.BoundedList.{BoundedList, room_left, extended_by}
 
--- r with these bytes at the end: all that it has room for, from the first on
+-- r with these bytes at the end: as many as fit, from the first on
 abbrev pub filled_with : BoundedList ℕ → List ℕ → BoundedList ℕ
 filled_with r bytes = extended_by r (take (room_left r) bytes)
 

@@ -1,5 +1,5 @@
--- What the calls of a stage do, where `before` and `after` are what it will still emit: a list for
--- each input to come, and one for the end.
+-- The laws of the calls of a stage, where `before` and `after` are its rest: a list for each input
+-- to come, and one for the end.
 use Rattle.std.specs.Prelude.{ℕ, List, [], ◌∷◌, ◌++◌, length, ◌≤◌, ◌≡◌, Bool, true}
 use Rattle.std.specs.List.{flat_map}
 use Rattle.gabc_places.specs.BoundedList.{BoundedList, extended_by}
@@ -8,15 +8,15 @@ use Rattle.gabc_places.specs.BoundedList.{BoundedList, extended_by}
 abbrev pub concat_of : {T : Type 0} → List (List T) → List T
 concat_of lists = flat_map (λ xs. xs) lists
 
--- What a push of x did: it added at most `most` outputs, those that were still to come for x, and
--- what the stage emits from then on follows them.
+-- A push of x added at most `most` outputs, the first list of the rest, and the rest from then on
+-- are the remaining lists.
 pub record Pushes {I O : Type 0} (before after : List I → List (List O)) (x : I) (most : ℕ) (old new : BoundedList O) : Type 0 where
   pub events : List O
   pub out : new ≡ extended_by old events
   pub few : length events ≤ most
   pub law : (xs : List I) → before (x ∷ xs) ≡ events ∷ after xs
 
--- What the end did: it added what was still to come.
+-- The end added the last list of the rest.
 pub record Finishes {I O : Type 0} (before : List I → List (List O)) (most : ℕ) (old new : BoundedList O) : Type 0 where
   pub events : List O
   pub out : new ≡ extended_by old events
@@ -32,8 +32,8 @@ silence (x ∷ xs) = [] ∷ silence xs
 abbrev pub EmitsNothing : {I O : Type 0} → (List I → List (List O)) → Type 0
 EmitsNothing after = (xs : _) → concat_of (after xs) ≡ []
 
--- What a call did with outputs that end the stage: after the first of them it added no other, and
--- from then on it emits nothing.
+-- A call with outputs that end the stage added no other after the first of them, and from then on
+-- the stage emits nothing.
 abbrev pub StopsAtEnd : {I O : Type 0} → (O → Bool) → (List I → List (List O)) → BoundedList O → BoundedList O → Type 0
 StopsAtEnd ends after old new =
     (before later : List _) (x : _) → new ≡ extended_by old (before ++ x ∷ later) → ends x ≡ true → (later ≡ []) × EmitsNothing after

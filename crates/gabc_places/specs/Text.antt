@@ -1,4 +1,4 @@
--- The text of the bytes of an input, and what stops it.
+-- The text of the bytes of an input, and its fault.
 use Rattle.std.specs.Prelude.{ℕ, List, [], ◌∷◌, map, filter, length, take, drop, Bool, not, Option, Some, None, ◌==◌, ◌&&◌, ◌||◌, nat_lt, if◌then◌else◌}
 use Rattle.std.specs.List.{zip}
 use Rattle.std.specs.Option.{option_map}
@@ -16,7 +16,7 @@ use Rattle.gabc_places.specs.Place.{place_after}
 unfoldable pub utf8_prefix_of : List ℕ → List ℕ
 utf8_prefix_of bytes = chars (take (utf8_valid_len bytes) bytes)
 
--- by the length of the bytes that are wrong: there is none where more bytes could make a character
+-- by the length of the bytes that are wrong: there is none if more bytes could make a character
 abbrev pub tail_by : Option ℕ → Tail
 tail_by None = Part
 tail_by (Some n) = Wrong
@@ -25,11 +25,11 @@ abbrev pub tail_at : List ℕ → Tail
 tail_at [] = Nothing
 tail_at (b ∷ bs) = tail_by (utf8_error_len (b ∷ bs))
 
--- what follows the longest prefix that is UTF-8
+-- the tail after the longest prefix that is UTF-8
 unfoldable pub tail_of : List ℕ → Tail
 tail_of bytes = tail_at (drop (utf8_valid_len bytes) bytes)
 
--- a U+FEFF is not shown, wherever it stands
+-- a U+FEFF is not shown, wherever it is
 abbrev pub is_shown : ℕ → Bool
 is_shown c = not (c == 0xFEFF)
 
@@ -37,7 +37,7 @@ is_shown c = not (c == 0xFEFF)
 abbrev pub with_previous : List ℕ → List (ℕ × ℕ)
 with_previous cs = zip (0 ∷ cs) cs
 
--- what is left out: an LF directly after a CR, and each U+FEFF
+-- the characters left out: an LF directly after a CR, and each U+FEFF
 abbrev pub is_left_out : ℕ × ℕ → Bool
 is_left_out p = ((p.0 == 13) && (p.1 == 10)) || not (is_shown p.1)
 
@@ -53,8 +53,8 @@ text_of_characters cs = map (λ (p : ℕ × ℕ). read_as p.1) (filter (λ (p : 
 abbrev pub text_of_bytes : ℕ → List ℕ → List ℕ
 text_of_bytes limit bytes = text_of_characters (utf8_prefix_of (take limit bytes))
 
--- What stops it: bytes that begin no character; else more bytes than the limit; else an unfinished
--- character, where the source ended.
+-- The code of its fault: bytes that begin no character; else more bytes than the limit; else an
+-- unfinished character, if the source ended.
 abbrev pub stop_code_of : Bool → Bool → Tail → Option Code
 stop_code_of over ended Wrong = Some F1
 stop_code_of over ended Nothing = if over then Some F7 else None

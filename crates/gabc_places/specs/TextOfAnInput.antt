@@ -1,4 +1,4 @@
--- Which characters a text of an input may have, and the bytes of such a text.
+-- The characters that a text of an input may have, and the bytes of such a text.
 use Rattle.std.specs.Prelude.{◌≢◌, ℕ, List}
 use Rattle.std.specs.Char.{IsScalar}
 use Rattle.std.specs.List.{All}

@@ -7,8 +7,8 @@ use crate::place::{Char, Place};
 
 /// Returns the place of the character to which the byte `byte`, from 0, of the UTF-8 text of
 /// `chars` belongs; `None` if the text has no such byte. With the characters of a kept text, as
-/// `kept_chars` of the crates above returns them, this finds where an item stands whose span begins
-/// at `byte`.
+/// `kept_chars` of the crates above returns them, it is the place of an item whose span begins at
+/// `byte`.
 pub fn place_of_byte(chars: &[Char], byte: usize) -> Option<Place>
     ensures { MatchOption result (bytes_in chars.now ≤ byte)
         (λ place. IsByteAt chars.now byte place) }

@@ -97,7 +97,7 @@ impl<A: Stage, B: Stage<Input = A::Output>> Stage for Chain<A, B> {
     }
 }
 
-/// Pushes each of the inputs.
+/// Pushes each of `inputs` to `stage`, which adds its events to `out`.
 pub(crate) fn push_all<S: Stage>(stage: &mut S, inputs: &[S::Input], out: &mut Room<S::Output>)
 where
     S::Input: Copy,

@@ -1,4 +1,4 @@
-//! What can be found in an input, and what stops a run.
+//! The codes of findings and faults.
 
 ghost use Rattle.std.specs.Prelude.{◌≡◌, ◌∷◌};
 
@@ -6,8 +6,8 @@ use crate::codes::CODES;
 use crate::place::Place;
 use crate::severity::Severity;
 
-/// What is found in an input, or what stops a run. An error reports a character, a part or a
-/// header left out, a warning of something else. A fatal fault stops the run.
+/// The code of a finding or a fault. An error reports a character, a part or a header left out, a
+/// warning reports something else. A fatal fault stops the run.
 #[derive(Clone, Copy, Debug, PartialEq, Eq)]
 pub enum Code {
     /// A character left out of the notes.
@@ -58,14 +58,14 @@ pub enum Code {
     F5,
     /// The input ends inside notes, a tag, a raw part or a translation.
     F6,
-    /// The input, or what is written of it, is longer than the input's limit.
+    /// The input, or its canonical form, is longer than the limit of the input.
     F7,
 }
 
 impl Code {
     ghost use Rattle.gabc_places.specs.Code.{severity_of, name_of, text_of};
 
-    /// Returns how grave it is.
+    /// Returns its severity.
     pub fn severity(self) -> Severity
         ensures { result ≡ severity_of self }
     {
@@ -80,7 +80,7 @@ impl Code {
         CODES[self as usize].1
     }
 
-    /// Returns what a message says of it.
+    /// Returns its text in messages.
     pub fn text(self) -> &'static str
         ensures { result.now ≡ text_of self }
     {
@@ -88,20 +88,20 @@ impl Code {
     }
 }
 
-/// An error or a warning, and where it stands.
+/// An error or a warning, with its place.
 #[derive(Clone, Copy, Debug, PartialEq, Eq)]
 pub struct Finding {
-    /// Where it stands.
+    /// Its place.
     pub place: Place,
-    /// What it is: an error or a warning.
+    /// Its code, of an error or a warning.
     pub code: Code,
 }
 
-/// What stopped a run, and where.
+/// The fault that stopped a run, with its place.
 #[derive(Clone, Copy, Debug, PartialEq, Eq)]
 pub struct Fault {
-    /// Where it stands.
+    /// Its place.
     pub place: Place,
-    /// What it is.
+    /// Its code.
     pub code: Code,
 }

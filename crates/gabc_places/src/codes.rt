@@ -2,8 +2,8 @@
 
 use crate::severity::Severity;
 
-/// How grave each code is, its name in messages, and what a message says of it; in the order in
-/// which the codes are declared.
+/// The severity of each code, its name in messages, and its text in messages; in the order in which
+/// the codes are declared.
 #[rattlefmt::skip]
 pub const CODES: [(Severity, &str, &str); 25] = [
     (Severity::Error, "E1", "character left out of the notes"),

@@ -1,4 +1,4 @@
-//! All that a stage emits of a text.
+//! The events that a stage emits of a whole text.
 
 ghost use Rattle.std.specs.Prelude.{◌≡◌, ◌+◌, ◌^◌, ◌<◌, ◌⊎◌, length, IfOk, OnErr, OnOk};
 ghost use Rattle.std.specs.Str.{chars};
@@ -9,9 +9,9 @@ ghost use Rattle.gabc_places.specs.Place.{placed_characters_from};
 use crate::{Char, Place, Room, Sequence, Stage};
 use std::alloc::{AllocError, Global};
 
-/// Pushes the characters of `text` to `stage`, ends them, and returns all that it emitted, in
-/// order. The first character stands at `at`. It fails only for want of memory: the stage then
-/// stands after some of the characters, or after their end.
+/// Pushes the characters of `text` to `stage`, ends them, and returns all events, in order. The
+/// first character is at `at`. Fails only if memory cannot be allocated: then the stage has taken
+/// some of the characters, or has come to its end.
 pub fn outputs_of<S: Stage<Input = Char>>(
     alloc: Global,
     stage: &mut S,

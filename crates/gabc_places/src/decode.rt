@@ -48,7 +48,7 @@ pub fn valid_front(bytes: &[u8]) -> &str
     text
 }
 
-/// The longest prefix that is UTF-8, and what follows it.
+/// Returns the longest prefix of `bytes` that is UTF-8, and its tail.
 pub(crate) fn prefix_and_tail(bytes: &[u8]) -> (&str, Tail)
     ensures text { chars result.0.now ≡ utf8_prefix bytes.now }
     ensures front { result.0.now ≡ take (length result.0.now) bytes.now }
@@ -69,7 +69,7 @@ pub(crate) fn prefix_and_tail(bytes: &[u8]) -> (&str, Tail)
     }
 }
 
-/// Returns whether `bytes` are none, or the beginning of one character.
+/// Returns whether `bytes` are empty, or the beginning of one character.
 pub(crate) fn is_partial(bytes: &[u8]) -> bool
     ensures { IsTrue result ↔ IsPartial bytes.now }
 {
@@ -79,7 +79,8 @@ pub(crate) fn is_partial(bytes: &[u8]) -> bool
     }
 }
 
-/// What stops an input with this tail.
+/// Returns the code of the fault of an input with the tail `tail`, if it has one. `over` says
+/// whether the input is longer than its limit, and `ended` whether the source ended.
 fn stop_code(over: bool, ended: bool, tail: Tail) -> Option<Code>
     ensures { result ≡ stop_code_of over ended tail }
 {
@@ -91,7 +92,8 @@ fn stop_code(over: bool, ended: bool, tail: Tail) -> Option<Code>
     }
 }
 
-/// The text of these characters: each CR LF and each other CR read as LF, without U+FEFF.
+/// Returns the text of the characters of `prefix`: each CR LF and each other CR as LF, without
+/// U+FEFF.
 fn text_of_prefix(alloc: Global, prefix: &str) -> Result<Text, AllocError>
     ensures { IfOk result (λ text. text ≡ text_of_characters (chars prefix.now)) }
 {
@@ -106,7 +108,7 @@ fn text_of_prefix(alloc: Global, prefix: &str) -> Result<Text, AllocError>
     Ok(text)
 }
 
-/// What follows an LF at the start, or all where no LF stands there.
+/// Returns `text` without the LF at its start, or all of it if it has none there.
 fn without_line_feed(text: &str) -> &str
     ensures text { chars result.now
         ≡ (if slice_index (chars text.now) 0 == 10 then drop 1 (chars text.now)

@@ -3,8 +3,8 @@
 use crate::code::Fault;
 use crate::text::Text;
 
-/// What follows the longest prefix of some bytes that is UTF-8: nothing, a part of a character, or
-/// bytes that begin none.
+/// The bytes after the longest prefix of some bytes that is UTF-8: none, a part of a character, or
+/// bytes that begin no character.
 #[derive(Clone, Copy)]
 pub(crate) enum Tail {
     Nothing,
@@ -12,11 +12,11 @@ pub(crate) enum Tail {
     Wrong,
 }
 
-/// The text of an input, and what stopped it.
+/// The text of an input, and its fault.
 #[derive(Debug, Drop)]
 pub struct Decoded {
     /// The text up to the fault, or to the end.
     pub text: Text,
-    /// What stopped it, if something did.
+    /// The fault that stopped it, if there is one.
     pub fault: Option<Fault>,
 }

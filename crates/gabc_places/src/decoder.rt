@@ -24,8 +24,8 @@ use crate::{Room, Stage};
 use arrayvec::ArrayVec;
 use std::marker::Model;
 
-/// Reads an input's bytes one at a time: emits each character of the text with its place, and what
-/// stops the text. It asks for no memory.
+/// Reads an input's bytes one at a time: emits each character of the text with its place, and the
+/// fault that stops the text. It does not allocate.
 ///
 /// Together these are the text and the fault of `text_of`. A character is emitted with its last
 /// byte, and F7 with the first byte past the limit. A source that fails is not ended: then an
@@ -78,7 +78,7 @@ fn read_as(c: char) -> char
     if c == '\r' { '\n' } else { c }
 }
 
-/// Returns whether the next character can stand at `place` after `taken` bytes, of which the last
+/// Returns whether the next character can be at `place` after `taken` bytes, of which the last
 /// `pending` are a part of it.
 fn is_reached(place: Place, pending: usize, taken: u32) -> bool
     requires { pending < 2 ^ 32 }
@@ -99,7 +99,7 @@ fn begins_line(place: Place) -> bool
     place.column == 1 && 2 <= place.line
 }
 
-/// Returns whether a decoder under `limit` may report this of where it stands.
+/// Returns whether a decoder under `limit` may report these numbers, bytes and flag.
 fn may_be_told(limit: u32, taken: u32, place: Place, pending: &[u8], after_cr: bool) -> bool
     ensures { IsTrue result ↔ MayBeReported limit taken place pending.now after_cr }
 {
@@ -131,11 +131,11 @@ impl Decoder {
         }
     }
 
-    /// Returns a decoder that has taken `taken` bytes under `limits`. The next character stands at
-    /// `place`, `pending` are the bytes of it that have come, and `after_cr` says whether a CR
-    /// stands directly before the next byte. Returns `None` where that cannot be: more bytes than
-    /// the limit, a place that these bytes do not reach, bytes that are not the beginning of one
-    /// character, a CR with bytes pending or not at the end of a line.
+    /// Returns a decoder that has taken `taken` bytes under `limits`. The next character is at
+    /// `place`, `pending` are the bytes of it that have come, and `after_cr` says whether a CR is
+    /// directly before the next byte. Returns `None` if that cannot be: more bytes than the limit,
+    /// a place that these bytes do not reach, bytes that are not the beginning of one character, a
+    /// CR with bytes pending or not at the end of a line.
     pub fn resume(
         limits: Limits,
         taken: u32,
@@ -193,8 +193,8 @@ impl Decoder {
         self.take_part(byte)
     }
 
-    /// Ends the input, and returns the fault of a character that is not whole. From then on it
-    /// returns nothing; else the decoder stays as it is.
+    /// Ends the input, and returns the fault of a character that is not whole, if there is one.
+    /// From then on the decoder returns nothing; else it stays as it is.
     pub fn end(&mut self) -> Option<Result<Char, Fault>>
         ensures item { events_left self.old [] ≡ option_to_list result ∷ [] }
         ensures over { EmitsNothing (events_left self.new) }
@@ -215,7 +215,7 @@ impl Decoder {
         self.place
     }
 
-    /// Returns how many bytes it has taken.
+    /// Returns the number of bytes that it has taken.
     pub fn taken(&self) -> u32
         ensures taken { result ≡ self.now.taken }
         ensures within { result ≤ self.now.limit }
@@ -240,9 +240,9 @@ impl Decoder {
         self.pending.is_empty() && self.previous == '\r'
     }
 
-    /// Returns how many bytes `skip_text` may take now: as many as are left to the limit, or 0
-    /// where the decoder has stopped or a character is not whole. A column that is counted on for
-    /// as many characters fits a `u64`.
+    /// Returns the number of bytes that `skip_text` may take: as many as are left to the limit, or
+    /// 0 if the decoder has stopped or a character is not whole. A column counted on for as many
+    /// characters fits a `u64`.
     pub fn most_skipped(&self) -> usize
         ensures most { result ≡ most_skipped_by self.now }
         ensures column { self.now.place.column + result < 2 ^ 64 }
@@ -255,10 +255,10 @@ impl Decoder {
         }
     }
 
-    /// Takes `text` at once, as `take` takes its bytes one by one. What it emits for them is known
+    /// Takes `text` at once, as `take` takes its bytes one by one. The events for them are known
     /// without it: each character with its last byte, and nothing with each other byte. `text` must
-    /// have at most `most_skipped` bytes, no CR and no U+FEFF, and no CR may stand directly before
-    /// it. `next` is the place after it, which the caller has counted.
+    /// have at most `most_skipped` bytes, no CR and no U+FEFF, and no CR may be directly before it.
+    /// `next` is the place after it, which the caller has counted.
     pub fn skip_text(&mut self, text: &str, next: Place)
         requires few { length text.now ≤ most_skipped_by self.old }
         requires plain { All IsPlain (chars text.now) }
@@ -286,7 +286,7 @@ impl Decoder {
         }
     }
 
-    /// Stops, and returns a fault here.
+    /// Stops, and returns the fault `code` at the place of the next character.
     fn stop(&mut self, code: Code) -> Option<Result<Char, Fault>>
         ensures state { self.new ≡ (stop_with code self.old).state }
         ensures events { option_to_list result ≡ (stop_with code self.old).events }
@@ -298,7 +298,7 @@ impl Decoder {
         }))
     }
 
-    /// Takes a character that is whole, and returns it unless it is left out.
+    /// Takes the whole character `c`, and returns it unless it is left out.
     fn take_character(&mut self, c: char) -> Option<Result<Char, Fault>>
         requires counted { self.old.place.line + self.old.place.column
             + length self.old.pending ≤ self.old.taken + 1 }

@@ -5,16 +5,16 @@ ghost use Rattle.gabc_places.specs.Filling.{filled, filled_len};
 
 use crate::Put;
 
-/// Fills a buffer from its first byte on, with as many bytes as there is room for.
+/// Fills a buffer from its first byte on, with as many bytes as fit.
 #[derive(Drop)]
 pub struct BufferFiller<'a> {
     /// The buffer.
     pub buf: &'a mut [u8],
-    /// How many bytes of it are filled.
+    /// The number of bytes filled.
     pub len: usize,
 }
 
-/// Writes `bytes` into `buf` from `at` on, as many as there is room for, and returns how many.
+/// Writes `bytes` into `buf` from the byte `at` on, as many as fit, and returns their number.
 fn fill(buf: &mut [u8], at: usize, bytes: &[u8]) -> usize
     ensures buf { buf.new ≡ filled buf.old at bytes.now }
     ensures len { at + result ≡ filled_len buf.old at bytes.now }

@@ -1,4 +1,4 @@
-//! How the calls of a source or a sink went, for contracts.
+//! The calls of a source or a sink and their answers, for contracts.
 
 ghost use Rattle.std.specs.Prelude.{◌≡◌};
 ghost use Rattle.gabc_places.specs.Calls.{after_answer, after_failure, no_calls};
@@ -14,8 +14,8 @@ enum Link {
     Failure(Snapshot<GhostCalls>),
 }
 
-/// How calls went, which contracts alone see: it has no bytes, costs nothing when the program runs,
-/// and its counts have no last value.
+/// The calls and their answers, which contracts alone see: it has no bytes, costs nothing when the
+/// program runs, and its counts have no last value.
 #[derive(Drop)]
 #[cycle(calls)]
 pub struct GhostCalls {
@@ -39,7 +39,7 @@ impl Model for GhostCalls {
 }
 
 impl GhostCalls {
-    /// Returns that no call came. For contracts alone.
+    /// Returns the state before any call. For contracts alone.
     pub fn none() -> GhostCalls
         ensures { result ≡ no_calls }
     {

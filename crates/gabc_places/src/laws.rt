@@ -1,5 +1,6 @@
-//! Laws of the definitions that contracts speak of. Each function is there for its clauses: all but
-//! two do nothing, and those run a fresh decoder.
+//! Laws of the definitions that contracts use. Each function is there for its clauses: two run a
+//! fresh decoder, one asks a decoder for its reports, one returns the default limits, and all
+//! others do nothing.
 
 ghost use Rattle.std.specs.Prelude.{◌≡◌, ◌≢◌, ℕ, ◌<◌, List, [], ◌∷◌, ◌++◌, map, length, take, Bool, false, ◌≤◌, Some, None, IsSome, slice_index, encode_utf8_all};
 ghost use Rattle.std.specs.Char.{IsScalar};
@@ -61,12 +62,12 @@ pub fn a_prefix_of_a_text_is_read_of_a_prefix_of_its_bytes()
         ≡ record { text = take n (decoded_of limits ended bytes).text; fault = None }) }
 {}
 
-/// Law: the first character of a text stands at line 1 and column 1.
+/// Law: the first character of a text is at line 1 and column 1.
 pub fn first_place()
     ensures { Place.START ≡ place_after [] }
 {}
 
-/// Law: each character stands at the place that follows from the text before it.
+/// Law: the place of each character follows from the text before it.
 pub fn characters_come_after_the_text_before()
     ensures len { (text : List ℕ) → length (placed_characters text) ≡ length text }
     ensures at { (text : List ℕ) (i : ℕ) → i < length text →
@@ -89,8 +90,8 @@ pub fn earliest_is_least()
         All (IsNoLater s) stops }
 {}
 
-/// Law: what two stages in a row emit in all is what the second emits for all that the first emits;
-/// there is a list for each input and one for the end.
+/// Law: two stages in a row emit in all what the second emits for all that the first emits; there
+/// is a list of events for each input and one for the end.
 pub fn a_chain_emits_what_its_second_emits<I, M, O>()
     ensures all { (first : List I → List (List M)) (second : List M → List (List O)) (xs : List I) →
         concat_of (chain_events first second xs) ≡ concat_of (second (concat_of (first xs))) }
@@ -134,7 +135,7 @@ pub fn decoders_that_report_the_same_agree()
         (bytes : List ℕ) → events_left one bytes ≡ events_left other bytes }
 {}
 
-/// Law: what a decoder reports may be reported: a decoder can be made from it.
+/// Law: the reports of a decoder are possible ones: a decoder can be made from them.
 pub fn what_a_decoder_reports_may_be_reported(decoder: &Decoder)
     ensures { MayBeReported decoder.now.limit decoder.now.taken decoder.now.place
         decoder.now.pending (is_after_cr decoder.now) }
@@ -145,7 +146,8 @@ pub fn what_a_decoder_reports_may_be_reported(decoder: &Decoder)
     decoder.after_cr();
 }
 
-/// Law: each code is as grave as its letter says: E an error, W a warning, F a fatal fault.
+/// Law: the severity of each code is the one of its letter: E an error, W a warning, F a fatal
+/// fault.
 pub fn codes_are_graded_by_their_letters()
     ensures { (code : Code) → severity_of code ≡ severity_by_kind code }
 {}
@@ -155,8 +157,8 @@ pub fn codes_are_these()
     ensures { map (λ row. (row.1.now, row.2.now)) CODES ≡ codes_spelled }
 {}
 
-/// Law: the limits of a run that is given no others are 65,536 bytes of headers, 16,384 of a
-/// syllable and 4,294,967,295 of input.
+/// Law: the default limits are 65,536 bytes of headers, 16,384 bytes of a syllable and
+/// 4,294,967,295 bytes of input.
 pub fn usual_limits() -> Limits
     ensures { AreUsual result.header result.syllable result.input }
 {

@@ -1,31 +1,31 @@
-//! How much a run reads and keeps.
+//! The limits of a run, in bytes.
 
 ghost use Rattle.std.specs.Prelude.{◌≡◌, ◌↔◌, IsSome, IfSome};
 ghost use Rattle.gabc_places.specs.Limits.{AreLimits, AreUsual};
 
-/// How many bytes the headers, a syllable and the whole input may have.
+/// The most bytes of the headers, of a syllable and of the whole input.
 #[derive(Clone, Copy, Debug, PartialEq, Eq)]
 pub struct Limits {
-    /// How many bytes the headers may have.
+    /// The most bytes of the headers.
     pub header: u32,
-    /// How many bytes a syllable may have.
+    /// The most bytes of a syllable.
     pub syllable: u32,
-    /// How many bytes the input may have.
+    /// The most bytes of the input.
     pub input: u32,
     pub ghost in_range: { AreLimits header syllable input },
 }
 
 impl Limits {
-    /// The limits of a run that is given no others: 65,536 bytes of headers, 16,384 of a syllable,
-    /// 4,294,967,295 of input.
+    /// The default limits: 65,536 bytes of headers, 16,384 bytes of a syllable, 4,294,967,295 bytes
+    /// of input.
     pub const DEFAULT: Limits = Limits {
         header: 65_536,
         syllable: 16_384,
         input: u32::MAX,
     };
 
-    /// Returns limits in bytes. `header` and `syllable` are 64 to 16,777,216, and `input` is at
-    /// least 64; other numbers give `None`.
+    /// Returns limits in bytes. `header` and `syllable` have to be 64 to 16,777,216, and `input` at
+    /// least 64; for other numbers it returns `None`.
     pub fn new(header: u32, syllable: u32, input: u32) -> Option<Limits>
         ensures in_range { IsSome result ↔ AreLimits header syllable input }
         ensures header { IfSome result (λ limits. limits.header ≡ header) }

@@ -8,7 +8,7 @@ use std::marker::Model;
 use std::rc::Rc;
 
 /// An allocator with several owners. Each list that lies in its memory is one of them; the memory
-/// goes with the last.
+/// is freed with the last.
 #[derive(Drop)]
 pub struct Shared<B> {
     inner: Rc<B>,
@@ -26,7 +26,7 @@ impl<B> Model for Shared<B> {
 }
 
 impl<B: Allocator> Shared<B> {
-    /// Returns the first owner of `inner`. It fails only for want of memory.
+    /// Returns the first owner of `inner`. Fails only if memory cannot be allocated.
     pub fn new(alloc: Global, inner: B) -> Result<Shared<B>, AllocError>
         ensures { IfOk result (λ s. s ≡ inner) }
     {
@@ -34,8 +34,8 @@ impl<B: Allocator> Shared<B> {
         Ok(Shared { inner, alloc })
     }
 
-    /// Returns one more owner of the same memory. It fails only where the owners cannot be counted
-    /// any more.
+    /// Returns one more owner of the same memory. Fails only if the owners cannot be counted any
+    /// more.
     pub fn share(&self) -> Result<Shared<B>, AllocError>
         ensures { IfOk result (λ s. s ≡ self.now) }
     {
@@ -53,8 +53,8 @@ impl<B: Allocator> Shared<B> {
 }
 
 impl Shared<Bump> {
-    /// Returns the first owner of an arena that has reserved `capacity` bytes at once. Where its
-    /// lists need more, it asks again. It fails only for want of memory.
+    /// Returns the first owner of an arena that has reserved `capacity` bytes at once. If its lists
+    /// need more, it allocates again. Fails only if memory cannot be allocated.
     pub fn with_capacity(alloc: Global, capacity: usize) -> Result<Memory, AllocError> {
         Shared::new(alloc, Bump::try_with_capacity(alloc, capacity)?)
     }

@@ -1,4 +1,4 @@
-//! How places, codes, findings and faults are printed.
+//! The texts of places, codes, findings and faults.
 
 ghost use Rattle.std.specs.Prelude.{◌≡◌, ◌≤◌, Some, length};
 ghost use Rattle.gabc_places.specs.Code.{name_of};
@@ -61,8 +61,8 @@ impl fmt::Display for Finding {
     }
 }
 
-/// Prints what a message has after the file's name: `LINE:COLUMN: KIND: CODE: TEXT`, where KIND is
-/// `fatal` for each code of a fault.
+/// Prints the words of a message after the file's name: `LINE:COLUMN: KIND: CODE: TEXT`, where KIND
+/// is `fatal` for each code of a fault.
 impl fmt::Display for Fault {
     ghost output = { λ x. Some (message_text x.place x.code) };
 

@@ -17,8 +17,8 @@ impl Place {
     /// The place of the first character of a text.
     pub const START: Place = Place { line: 1, column: 1 };
 
-    /// Returns the place after `c`, which stands here. If here is the place after some text, it is
-    /// the place after that text with the character.
+    /// Returns the place after `c`, which is at this place. If this is the place after some text,
+    /// it is the place after that text with the character.
     pub fn after(self, c: char) -> Place
         requires line { self.line + 1 < 2 ^ 64 }
         requires column { self.column + 1 < 2 ^ 64 }
@@ -39,8 +39,8 @@ impl Place {
         }
     }
 
-    /// Returns the place after `c`, which stands here. A count that has reached the last value of a
-    /// `u64` stays there.
+    /// Returns the place after `c`, which is at this place. A count that has reached the last value
+    /// of a `u64` stays there.
     #[inline(always)]
     pub fn saturating_after(self, c: char) -> Place
         ensures { result ≡ saturating_next_place self c }
@@ -64,12 +64,12 @@ impl Place {
 pub struct Char {
     /// The character.
     pub c: char,
-    /// Where it stands.
+    /// Its place.
     pub place: Place,
 }
 
-/// A part of a text: its bytes from `from` up to before `to`, counted from 0; of elements and
-/// segments, a part of the items.
+/// A part of a text: its bytes from `from` up to before `to`, counted from 0; of a centre, a part
+/// of the pieces; of elements and segments, a part of the items.
 #[derive(Clone, Copy, Debug, PartialEq, Eq)]
 pub struct Span {
     /// The first byte, from 0.

@@ -1,5 +1,5 @@
-//! What takes bytes: a room, or a count of them. A writer that is generic over it writes a text,
-//! and returns how long the text is.
+//! The takers of bytes: a room, a buffer, or a count of bytes. A writer is generic over them: it
+//! puts a text, whose length in bytes is what a count has taken of it.
 
 ghost use Rattle.std.specs.Prelude.{◌≡◌, [], ◌++◌, ℕ, List};
 ghost use Rattle.gabc_places.specs.Put.{filled_with, counted_with};
@@ -7,7 +7,7 @@ ghost use Rattle.gabc_places.specs.Put.{filled_with, counted_with};
 use crate::Room;
 use std::marker::Model;
 
-/// Takes bytes, and asks for no memory.
+/// Takes bytes, and does not allocate.
 pub trait Put {
     // what it is once it has taken these bytes
     ghost taken: { Self → List ℕ → Self };
@@ -24,7 +24,7 @@ pub trait Put {
     ghost taken_both: { (s : Self) (a b : List ℕ) → taken (taken s a) b ≡ taken s (a ++ b) };
 }
 
-/// Adds the bytes at the end, as many as there is room for.
+/// Adds the bytes at the end, as many as fit.
 impl Put for Room<u8> {
     ghost use Rattle.std.proofs.Common.{rules};
     ghost use Rattle.std.proofs.lemmas.Grind.{common_steps};
@@ -46,8 +46,8 @@ impl Put for Room<u8> {
     }
 }
 
-/// Adds as many of `bytes` at the end of `room` as there is room for. Where all have room it is not
-/// called, so it stays out of line.
+/// Adds as many of `bytes` at the end of `room` as fit. If all fit it is not called, so it stays
+/// out of line.
 #[inline(never)]
 fn fill(room: &mut Room<u8>, bytes: &[u8])
     ensures { room.new ≡ filled_with room.old bytes.now }

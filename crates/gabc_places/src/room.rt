@@ -7,7 +7,7 @@ use crate::memory::Memory;
 use std::alloc::{AllocError, Global};
 use std::marker::Model;
 
-/// A list of at most a stated number of items. Adding to it asks for no memory.
+/// A list with a largest number of items. Adding to it does not allocate.
 #[derive(Debug, Drop)]
 pub struct Room<T: Copy> {
     items: Vec<T, Memory>,
@@ -26,16 +26,16 @@ impl<T: Copy> Model for Room<T> {
 }
 
 impl<T: Copy> Room<T> {
-    /// Returns an empty room for `limit` items, and reserves their memory. It fails only for want
-    /// of memory.
+    /// Returns an empty room for `limit` items, and reserves their memory. Fails only if memory
+    /// cannot be allocated.
     pub fn with_limit(alloc: Global, limit: usize) -> Result<Room<T>, AllocError>
         ensures { IfOk result (λ r. r ≡ record { items = []; limit = limit }) }
     {
         Room::in_memory(&Memory::with_capacity(alloc, 0)?, limit)
     }
 
-    /// Returns an empty room for `limit` items, which are reserved in `memory`. It fails only for
-    /// want of memory.
+    /// Returns an empty room for `limit` items, which are reserved in `memory`. Fails only if
+    /// memory cannot be allocated.
     pub fn in_memory(memory: &Memory, limit: usize) -> Result<Room<T>, AllocError>
         ensures { IfOk result (λ r. r ≡ record { items = []; limit = limit }) }
     {
@@ -43,7 +43,7 @@ impl<T: Copy> Room<T> {
         Ok(Room { items, limit })
     }
 
-    /// Returns how many more items it takes.
+    /// Returns the number of items that it can still take.
     pub fn left(&self) -> usize
         ensures left { result ≡ room_left self.now }
         ensures within { length self.now.items ≤ self.now.limit }

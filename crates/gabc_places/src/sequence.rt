@@ -9,7 +9,7 @@ use std::alloc::{AllocError, Global};
 use std::marker::Model;
 use std::slice::Iter;
 
-/// Holds items in order, and asks for memory as it grows. Contracts see the list of its items.
+/// A list of items in order, which allocates as it grows. In contracts it is the list of its items.
 #[derive(Debug, Drop)]
 pub struct Sequence<T: Copy> {
     items: Vec<T>,
@@ -24,7 +24,7 @@ impl<T: Copy> Model for Sequence<T> {
 }
 
 impl<T: Copy> Sequence<T> {
-    /// Returns a list of no items.
+    /// Returns an empty list.
     pub fn new(alloc: Global) -> Sequence<T>
         ensures { result ≡ [] }
     {
@@ -33,7 +33,7 @@ impl<T: Copy> Sequence<T> {
         }
     }
 
-    /// Adds `item` at the end. Where there is no memory for it, the list is as it was.
+    /// Adds `item` at the end. If memory for it cannot be allocated, the list is unchanged.
     pub fn push(&mut self, item: T) -> Result<(), AllocError>
         ensures added { OnOk result (self.new ≡ self.old ++ item ∷ []) }
         ensures unchanged { OnErr result (self.new ≡ self.old) }
@@ -42,7 +42,7 @@ impl<T: Copy> Sequence<T> {
         Ok(())
     }
 
-    /// Adds `items` at the end. Where there is no memory for them, the list is as it was.
+    /// Adds `items` at the end. If memory for them cannot be allocated, the list is unchanged.
     pub fn append(&mut self, items: &[T]) -> Result<(), AllocError>
         ensures added { OnOk result (self.new ≡ self.old ++ items.now) }
         ensures unchanged { OnErr result (self.new ≡ self.old) }
@@ -71,7 +71,7 @@ impl<T: Copy> Sequence<T> {
         self.items.as_slice()
     }
 
-    /// Goes over the items in order.
+    /// Returns an iterator over the items in order.
     pub fn iter(&self) -> Iter<'_, T>
         ensures { iter_rest result ≡ self.now }
     {

@@ -1,6 +1,6 @@
-//! How grave a code is.
+//! The severity of a code.
 
-/// How grave a code is.
+/// The severity of a code.
 #[derive(Clone, Copy, Debug, PartialEq, Eq)]
 pub enum Severity {
     /// It reports anything else that an editor may want to look at.

@@ -1,4 +1,4 @@
-//! Where bytes go.
+//! The sinks of bytes.
 
 ghost use Rattle.std.specs.Prelude.{◌≡◌, ℕ, ◌<◌, length, take, List, IfOk, OnOk, OnErr, IfErr, Option};
 ghost use Rattle.gabc_places.specs.Calls.{Calls, FailsOnce, GoesOn, IsWrite, no_calls};
@@ -23,8 +23,8 @@ pub trait Sink {
     // how its writes went
     ghost calls: { Self → Calls };
 
-    /// Takes a prefix of `bytes`, and returns how many bytes it has: at least 1, if there is one.
-    /// Where it fails, it took none, and is stopped.
+    /// Takes a prefix of `bytes`, and returns its number of bytes: at least 1, if `bytes` are not
+    /// empty. If it fails, it took none, and is stopped.
     fn write(&mut self, bytes: &[u8]) -> Result<usize, SinkFault>
         ensures bound { WritesAtMost result bytes.now }
         ensures bytes { WriteAppends (written self.old) (written self.new) result bytes.now }
@@ -36,12 +36,12 @@ pub trait Sink {
 #[derive(Clone, Copy, Debug, PartialEq, Eq, Error)]
 #[error("the sink failed after {sent} bytes")]
 pub struct Unsent {
-    /// How many bytes the sink took, from the first on.
+    /// The number of bytes that the sink took, from the first on.
     pub sent: usize,
 }
 
-/// Writes all `bytes` to `sink`. Where the sink fails, it took the first `sent` of them, fewer than
-/// all. It does not call the sink again after a failure.
+/// Writes all `bytes` to `sink`. If the sink fails, it took the first `sent` of them, fewer than
+/// all. The sink is not called again after a failure.
 pub fn send_all<S: Sink>(sink: &mut S, bytes: &[u8]) -> Result<(), Unsent>
     ensures all { OnOk result (Appends (S.written sink.old) (S.written sink.new) bytes.now) }
     ensures prefix { IfErr result (λ u. Appends (S.written sink.old) (S.written sink.new)

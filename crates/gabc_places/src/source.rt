@@ -1,4 +1,4 @@
-//! Where bytes come from.
+//! The sources of bytes.
 
 ghost use Rattle.std.specs.Prelude.{◌≡◌, ℕ, List, Option, length};
 ghost use Rattle.gabc_places.specs.Calls.{Calls, IsRead, no_calls};
@@ -15,7 +15,7 @@ use thiserror::Error;
 #[error("the source failed")]
 pub struct SourceFault;
 
-/// Gives bytes.
+/// Supplies bytes.
 pub trait Source {
     // the bytes still to come, where they are known
     ghost remaining: { Self → Option (List ℕ) };
@@ -23,8 +23,9 @@ pub trait Source {
     // how its reads went
     ghost calls: { Self → Calls };
 
-    /// Reads at most as many bytes as `buf` has, into its start, and returns how many. A read of 0
-    /// bytes into a `buf` that has some is the end, and stops the source, as a failure does.
+    /// Reads bytes into the start of `buf`, at most as many as it has, and returns their number. A
+    /// read of 0 bytes into a `buf` that is not empty is the end, and stops the source, as a
+    /// failure does.
     fn read(&mut self, buf: &mut [u8]) -> Result<usize, SourceFault>
         ensures bound { ReadsAtMost result buf.new }
         ensures bytes { ReadConsumes (remaining self.old) (remaining self.new) result buf.new }
@@ -47,7 +48,7 @@ impl<R: Read + Drop> Model for FromReader<R> {
 }
 
 impl<R: Read + Drop> FromReader<R> {
-    /// Returns a source that gives what `inner` gives.
+    /// Returns a source of the bytes of `inner`.
     pub fn new(inner: R) -> FromReader<R>
         ensures { result ≡ record { inner = inner; calls = no_calls } }
     {

@@ -6,13 +6,13 @@ ghost use Rattle.gabc_places.specs.StageLaw.{concat_of, Pushes, Finishes, EmitsN
 
 use crate::Room;
 
-/// A machine that takes inputs one at a time, and emits at most a stated number of events for each
+/// A machine that takes inputs one at a time, and emits at most a fixed number of events for each
 /// and for the end.
 pub trait Stage {
-    /// What it takes.
+    /// The type of its inputs.
     type Input;
 
-    /// What it emits.
+    /// The type of its events.
     type Output: Copy;
 
     // what it will still emit for these inputs and then the end: a list for each of them, and one
@@ -25,13 +25,12 @@ pub trait Stage {
     // the events that end it: after one of them it emits nothing more
     ghost is_end: { Self.Output → Bool };
 
-    /// Returns how many events one call emits at most.
+    /// Returns the largest number of events that one call emits.
     fn most(&self) -> usize
         ensures { result ≡ most_of self.now };
 
-    /// Takes `input`, and adds to `out` the events that it emits for it. `out` has to take `most()`
-    /// events more. They are the first list of what it will still emit. After an event that ends
-    /// it, it emits nothing.
+    /// Takes `input`, and adds its events to `out`. `out` has to take `most()` events more. They
+    /// are the first list of the stage's rest. After an event that ends it, it emits nothing.
     fn push(&mut self, input: Self::Input, out: &mut Room<Self::Output>)
         requires { Fits out.old (most_of self.old) }
         ensures most { most_of self.new ≡ most_of self.old }
@@ -39,8 +38,8 @@ pub trait Stage {
             (rest self.new) input (most_of self.old) out.old out.new }
         ensures end { StopsAtEnd is_end (rest self.new) out.old out.new };
 
-    /// Ends the inputs, and adds to `out` the events still to come. `out` has to take `most()`
-    /// events more. From then on it emits nothing.
+    /// Ends the inputs, and adds the last events to `out`. `out` has to take `most()` events more.
+    /// From then on it emits nothing.
     fn finish(&mut self, out: &mut Room<Self::Output>)
         requires { Fits out.old (most_of self.old) }
         ensures most { most_of self.new ≡ most_of self.old }

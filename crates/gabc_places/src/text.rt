@@ -9,7 +9,7 @@ use crate::place::Place;
 use std::alloc::{AllocError, Global};
 use std::marker::Model;
 
-/// The text of an input. Contracts see the list of its characters.
+/// The text of an input. In contracts it is the list of its characters.
 #[derive(Debug, Drop)]
 pub struct Text {
     string: String,
@@ -52,7 +52,7 @@ impl Text {
         self.string.as_str()
     }
 
-    /// Adds a character at the end.
+    /// Adds the character `c` at the end.
     pub(crate) fn push(&mut self, c: char) -> Result<(), AllocError>
         ensures added { OnOk result (self.new ≡ self.old ++ c ∷ []) }
         ensures unchanged { OnErr result (self.new ≡ self.old) }
@@ -60,14 +60,14 @@ impl Text {
         self.string.push(c)
     }
 
-    /// Adds a text at the end.
+    /// Adds `text` at the end.
     fn push_str(&mut self, text: &str) -> Result<(), AllocError>
         ensures { OnOk result (self.new ≡ self.old ++ chars text.now) }
     {
         self.string.push_str(text)
     }
 
-    /// Adds the characters of a line at the end, but for each U+FEFF.
+    /// Adds the characters of `line` at the end, but for each U+FEFF.
     pub(crate) fn push_shown(&mut self, line: &str) -> Result<(), AllocError>
         ensures { OnOk result (self.new ≡ self.old ++ filter is_shown (chars line.now)) }
     {

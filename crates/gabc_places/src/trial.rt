@@ -1,5 +1,5 @@
-//! A source and a sink for trials: they give and take as much as they are asked to, and fail
-//! where they are asked to.
+//! A source and a sink for trials: they move as many bytes as they are told to, and fail at a given
+//! number of bytes.
 
 ghost use Rattle.std.specs.Prelude.{◌≡◌, ◌<◌, ◌↔◌, [], length, IfOk, IsErr, OnErr, Some};
 ghost use Rattle.std.specs.Io.{ReadsAtMost, WritesAtMost};
@@ -16,8 +16,8 @@ use crate::source::{Source, SourceFault};
 use std::alloc::{AllocError, Global};
 use std::marker::Model;
 
-/// A source that gives bytes, at most `n` a read. After a number of bytes all its reads fail, if
-/// that was asked for.
+/// A source that supplies bytes, at most `most` a read. After `fails_after` bytes all its reads
+/// fail, if that was asked for.
 #[derive(Drop)]
 pub struct TrialSource<'a> {
     rest: &'a [u8],
@@ -43,7 +43,7 @@ impl<'a> Model for TrialSource<'a> {
 }
 
 impl<'a> TrialSource<'a> {
-    /// Returns a source of `bytes`, at most `most` a read, whose reads fail once it gave
+    /// Returns a source of `bytes`, at most `most` a read, whose reads fail once it has supplied
     /// `fails_after` bytes, and go on failing; with `None` none fails. `most` is at least 1.
     pub fn new(bytes: &'a [u8], most: usize, fails_after: Option<usize>) -> TrialSource<'a>
         requires { 0 < most }
@@ -96,7 +96,7 @@ impl Source for TrialSource<'_> {
     }
 }
 
-/// A sink that takes at most `n` bytes a write. Once it holds a number of bytes, all its writes
+/// A sink that takes at most `most` bytes a write. Once it holds `fails_at` bytes, all its writes
 /// of more fail.
 #[derive(Drop)]
 pub struct TrialSink {
@@ -122,7 +122,7 @@ impl Model for TrialSink {
 }
 
 impl TrialSink {
-    /// Returns a sink that takes at most `most` bytes a write, and fails where it holds `fails_at`
+    /// Returns a sink that takes at most `most` bytes a write, and fails once it holds `fails_at`
     /// bytes and is given more.
     pub fn new(alloc: Global, most: usize, fails_at: usize) -> Result<TrialSink, AllocError>
         requires { 0 < most }

@@ -1,5 +1,5 @@
--- What stands before a syllable in its score: how many syllables, how many canonical bytes, which
--- spans are open, and whether a note or a clef has come in GABC.
+-- The totals of the syllables before a syllable of a score: their number, the canonical bytes, the
+-- open spans, and whether a note or a clef has come in GABC.
 use Rattle.std.specs.Prelude.{ℕ, ◌+◌, ◌-◌, ◌^◌, ◌==◌, ◌||◌, ◌&&◌, min, List, [], ◌∷◌, map, Bool, false, length, is_some}
 use Rattle.std.specs.List.{list_any}
 use Rattle.gabc_notes.specs.FirstNoteOrClef.{first_note_or_clef}
@@ -10,7 +10,7 @@ use Rattle.gabc_body.specs.declared.snippets.Snippet.{Snippet}
 use Rattle.gabc_body.specs.Canonical.{canonical}
 use Rattle.gabc_body.specs.Syllable.{UnplacedSyllable, PlacedSyllable, text_at}
 
--- what is reported of them beside what the headers gave
+-- the totals that are reported, without the numbers of the headers
 abbrev pub preceding_of : Before → Preceding
 preceding_of b = record { syllables = b.syllables; canonical = b.canonical; spans = b.spans; sounded = b.sounded }
 
@@ -33,7 +33,7 @@ sounds m = sounds_in m.kept m.snippets
 abbrev pub most : ℕ
 most = 2 ^ 64 - 1
 
--- what stands before the syllable after this one
+-- the totals before the syllable after this one
 abbrev pub with_one : Preceding → UnplacedSyllable → Preceding
 with_one p m = record {
   syllables = min (p.syllables + 1) most;
@@ -42,7 +42,7 @@ with_one p m = record {
   sounded = p.sounded || sounds m;
 }
 
--- what stands before the syllable after these
+-- the totals before the syllable after these
 abbrev pub with_each : Preceding → List UnplacedSyllable → Preceding
 with_each p [] = p
 with_each p (m ∷ ms) = with_each (with_one p m) ms

@@ -1,4 +1,4 @@
--- Characters at which a stage over a score gives syllables and nothing else.
+-- Characters at which a stage over a score emits syllables and nothing else.
 use Rattle.std.specs.Prelude.{◌≡◌, ℕ, ◌+◌, ◌≤◌, List, [], ◌∷◌, ◌++◌, Bool, cond, length, map}
 use Rattle.std.specs.List.{All}
 use Rattle.gabc_places.specs.declared.place.Char.{Char}
@@ -16,18 +16,18 @@ use Rattle.gabc_body.specs.Syllable.{PlacedSyllable}
 use Rattle.gabc_score.specs.ReportedWithin.{HoldsIfAny, ReportsText, whole_syllables}
 use Rattle.gabc_score.specs.witness.ScoreStage.{ScoreStageState, left_of}
 
--- these characters as inputs of the body: the first stands at this place
+-- these characters as inputs of the body: the first is at this place
 abbrev pub text_inputs : Place → List ℕ → List HeadEvent
 text_inputs at t = map (λ (x : Char). head_event.Body x) (placed_characters_from at t)
 
--- the place of the next character after these, the first of which stands at `at`; after none, the
--- place where the next one stood before
+-- the place of the next character after these, the first of which is at `at`; after none, the place
+-- of the next one before
 abbrev pub next_after : Place → List ℕ → Place → Place
 next_after at [] before = before
 next_after at (c ∷ cs) before = place_past at (c ∷ cs)
 
--- At these characters it gave these syllables and nothing else, none in the headers, and it goes on
--- in its part with what follows under the same limits.
+-- At these characters it emitted these syllables and nothing else, none in the headers, and it goes
+-- on in its part under the same limits.
 pub record GivesSyllables (before : ScoreStageState) (at : Place) (t : List ℕ) (given : List PlacedSyllable) (after : ScoreStageState) : Type 0 where
   pub limits : after.limits ≡ before.limits
   pub part : after.part ≡ before.part

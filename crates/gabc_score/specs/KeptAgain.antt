@@ -9,7 +9,7 @@ use Rattle.gabc_body.specs.ReadAlone.{no_spans, read_first}
 use Rattle.gabc_body.specs.Reading.{BodyRead, Part, InText, InNotes, fate_by}
 use Rattle.gabc_score.specs.declared.body_tells.Openers.{Openers}
 
--- what is read of a text by itself
+-- the reading of a text by itself
 abbrev pub read_alone : ℕ → ℕ → List ℕ → BodyRead
 read_alone lines macros t = read_first lines macros no_spans t (length t)
 
@@ -24,7 +24,7 @@ is_inside InText kept = is_cut (reverse (tokens kept))
 is_inside (InNotes line) kept = (line == 0) && in_raw kept
 
 -- Read by itself all of the text is kept, and no syllable is whole. A comment is open after it only
--- if a `%` begins one. The openers say what else is open, wherever they stand.
+-- if a `%` begins one. The openers say what else is open, whatever their places.
 pub record IsKeptAgain (lines macros : ℕ) (t : List ℕ) (openers : Openers) (comment : Bool) : Type 0 where
   pub kept : (let r = (read_alone lines macros t).reading in r.before ++ r.kept) ≡ t
   pub none : (read_alone lines macros t).made ≡ []

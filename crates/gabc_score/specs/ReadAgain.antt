@@ -1,4 +1,4 @@
--- A kept text that is read again: what a stage reports before it, and after it.
+-- A kept text that is read again: the reports of a stage before it, and after it.
 use Rattle.std.specs.Prelude.{◌≡◌, ℕ, List, [], Bool, true, false, Some, None, is_some, encode_utf8_all}
 use Rattle.gabc_places.specs.declared.place.Place.{Place}
 use Rattle.gabc_places.specs.declared.limits.Limits.{Limits}
@@ -7,7 +7,7 @@ use Rattle.gabc_score.specs.ScoreReports.{IsAt, before_of, held_of, is_in_commen
 use Rattle.gabc_score.specs.witness.ReadAgain.{CanBeReadAgain}
 use Rattle.gabc_score.specs.witness.ScoreStage.{ScoreStageState}
 
--- A stage stands in the body before a syllable, in no comment.
+-- A stage is in the body before a syllable, in no comment.
 pub record ComesBefore (s : ScoreStageState) : Type 0 where
   pub runs : is_some (before_of s) ≡ true
   pub nothing_read : reading_of s ≡ []
@@ -20,20 +20,20 @@ pub record ReportsReading (s : ScoreStageState) (kept : List ℕ) (openers : Ope
   pub openers_are : openers_of s.body.part ≡ openers
   pub comment_is : is_in_comment s.body.part ≡ comment
 
--- But for the syllable that is read it reports what it reported, and the next character stands
--- there.
+-- But for the syllable that is read it reports the same as before, and this is the place of the
+-- next character.
 pub record ReportsTheSameBut (before after : ScoreStageState) (next : Place) : Type 0 where
   pub before_same : before_of after ≡ before_of before
   pub held_same : held_of after ≡ held_of before
   pub next_is : next_of after ≡ Some next
   pub stands : IsAt next after.body.part
 
--- nothing is open
+-- no bracket is open
 abbrev pub no_openers : Openers
 no_openers = record { notes = None; inner = None }
 
--- What can be read again is reported in a comment of a text of which nothing is kept, after the
--- same and under the same limits.
+-- The comment in front of the first text is one that some stage, after the same and under the same
+-- limits, reports in a text of which nothing is kept.
 pub record CanBeReadInText (s : ScoreStageState) : Type 0 where
   pub told : ScoreStageState
   pub again : CanBeReadAgain told

@@ -1,4 +1,4 @@
--- Regular syllables: those that are read as they stand, and in which nothing is found.
+-- Regular syllables: those that are read as they are written, and in which nothing is found.
 use Rattle.std.specs.Prelude.{◌≡◌, ℕ, zero, suc, ◌+◌, List, [], ◌∷◌, ◌++◌, length, map, Bool, true, false, cond, encode_utf8_all}
 use Rattle.gabc_places.specs.StageLaw.{concat_of}
 use Rattle.gabc_places.specs.declared.place.Place.{Place}
@@ -34,13 +34,13 @@ notes_spelled (s ∷ nexts) final = s ++ 124 ∷ notes_spelled nexts final
 abbrev pub spelled : SyllableParts → List ℕ
 spelled r = (r.gap ++ r.text) ++ 40 ∷ notes_spelled r.nexts r.final
 
--- a regular snippet of that line: of GABC on line 0, of NABC on each other line
+-- a regular snippet of the line: of GABC on line 0, of NABC on each other line
 abbrev pub IsRegularOn : ℕ → List ℕ → Type 0
 IsRegularOn zero t = notes.IsRegular t
 IsRegularOn (suc line) t = nabc.IsRegular t
 
 module _ (lines : ℕ) where
-  -- regular snippets, the first of them on that line
+  -- regular snippets, the first of them on the line
   abbrev pub AreRegularFrom : ℕ → List (List ℕ) → List ℕ → Type 0
   AreRegularFrom line [] final = IsRegularOn line final
   AreRegularFrom line (s ∷ nexts) final = IsRegularOn line s × AreRegularFrom (next_line lines line) nexts final
@@ -71,7 +71,7 @@ abbrev pub final_at : Place → List (List ℕ) → List ℕ → EndedPart
 final_at at [] final = ended_at at final 41
 final_at at (s ∷ nexts) final = final_at (after_part at s 124) nexts final
 
--- the unit of a syllable whose first character stands at a place
+-- the unit of a syllable whose first character is at a place
 abbrev pub unit_at : Place → SyllableParts → BodyUnit
 unit_at at r = let begun = after_part at (r.gap ++ r.text) 40 in record {
   text = ended_at at (r.gap ++ r.text) 40;
@@ -79,11 +79,11 @@ unit_at at r = let begun = after_part at (r.gap ++ r.text) 40 in record {
   final = final_at begun r.nexts r.final;
 }
 
--- ---- what is emitted
+-- ---- its events
 
--- If a text begins with the syllable at a place, and other characters follow it, a list is emitted
--- for each of its characters, and then what a text emits that begins with the others, after the
--- `)`. Nothing is found in the syllable.
+-- If a text begins with the syllable at a place, and other characters follow it, it has a list of
+-- events for each of its characters, and then the lists of a text that begins with the others,
+-- after the `)`. Nothing is found in the syllable.
 pub record IsReadAsItStands (lines macros : ℕ) (at : Place) (r : SyllableParts) (xs : List Char) : Type 0 where
   pub emitted : List (List BodyEvent)
   pub events_are : let all = placed_characters_from at (spelled r) ++ xs in
@@ -92,7 +92,7 @@ pub record IsReadAsItStands (lines macros : ℕ) (at : Place) (r : SyllableParts
   pub one_each : length emitted ≡ length (spelled r)
   pub nothing : findings_of (events_onto (concat_of emitted) []) ≡ []
 
--- ---- what is made
+-- ---- the syllable that it makes
 
 -- blanks before a text begin a word, and one of them is kept; comments are not
 abbrev pub has_gap : List ℕ → Bool
@@ -102,11 +102,11 @@ has_gap (c ∷ gap) = true
 abbrev pub gap_kept : List ℕ → List ℕ
 gap_kept gap = cond (has_gap gap) (32 ∷ []) []
 
--- what is kept of a syllable
+-- the kept text of a syllable
 abbrev pub kept_spelled : SyllableParts → List ℕ
 kept_spelled r = (gap_kept r.gap ++ r.text) ++ 40 ∷ notes_spelled r.nexts r.final
 
--- its canonical text: an LF if it begins a word, and its text and notes as they stand
+-- its canonical text: an LF if it begins a word, and its text and notes as they are written
 abbrev pub canonical_spelled : Bool → SyllableParts → List ℕ
 canonical_spelled starts r = cond starts (10 ∷ []) [] ++ (r.text ++ 40 ∷ notes_spelled r.nexts r.final)
 
@@ -123,7 +123,7 @@ abbrev pub spans_from : ℕ → List (ℕ × List ℕ) → List Snippet
 spans_from at [] = []
 spans_from at (t ∷ texts) = snippet_at t.0 at t.1 ∷ spans_from (at + length t.1 + 1) texts
 
--- those of a syllable: the first stands after what is kept of its text and a `(`
+-- those of a syllable: the first begins after the kept text of its text and a `(`
 abbrev pub snippets_spelled : ℕ → SyllableParts → List Snippet
 snippets_spelled lines r = spans_from (length (encode_utf8_all (gap_kept r.gap ++ r.text)) + 1) (with_lines lines 0 r.nexts r.final)
 
@@ -136,12 +136,12 @@ snippet_texts m = map (line_and_text m.kept) m.snippets
 
 -- ---- all of it
 
--- What is printed of a syllable's text and of its translation is what stands in this regular text.
+-- The printed texts of a syllable's text and of its translation are those of this regular text.
 pub record SaysText (m : UnplacedSyllable) (t : List ℕ) : Type 0 where
   pub text : canonical_text m.text m.kept ≡ encode_utf8_all (text_part t)
   pub translation : translation_text m.kept m.text.translation ≡ encode_utf8_all (translation_part t)
 
--- The syllable gives one syllable with its last character, after whatever was emitted before, and
+-- The syllable makes one syllable with its last character, after whatever was emitted before, and
 -- nothing is found in it. It keeps its spelling, with one blank if there are some before its text,
 -- and its spelling is its canonical text: text and translation, and each snippet on its line and in
 -- its place.

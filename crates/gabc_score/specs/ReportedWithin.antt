@@ -1,4 +1,4 @@
--- What a stage over a score reports in the body is within bounds.
+-- The bounds of the reports of a stage over a score in the body.
 use Rattle.std.specs.Prelude.{◌≡◌, ℕ, ◌+◌, ◌^◌, ◌<◌, ◌≤◌, ◌==◌, ◌||◌, List, length, true, None, IfSome}
 use Rattle.std.specs.List.{All}
 use Rattle.gabc_places.specs.declared.limits.Limits.{Limits}
@@ -26,7 +26,7 @@ pub record IsHeldWithin (limits : Limits) (p : Preceding) (m : UnplacedSyllable)
   pub short : length (written_after p m) ≤ limits.syllable
   pub file : p.canonical + length (written_after p m) < limits.input
 
--- before the first syllable no span is open and nothing has sounded
+-- before the first syllable no span is open, and no note or clef has come
 abbrev pub IsAtOutset : Preceding → Type 0
 IsAtOutset p = p.syllables ≡ 0 → p ≡ no_syllable p.canonical
 
@@ -41,27 +41,26 @@ pub record ReportsWithin (s : ScoreStageState) : Type 0 where
   pub outset : IsAtOutset s.before
   pub comment : HasNoCommentInside s.body.part
 
--- how many syllables were whole: those that were given and those that were not
+-- the number of whole syllables: those that were emitted and those that were not
 abbrev pub whole_syllables : ScoreStageState → ℕ
 whole_syllables s = s.before.syllables + length s.held.gathered.made
 
--- ---- as long as what comes in is what a text gives
+-- ---- as long as the inputs come of a text
 
--- the numbers that the headers give are those of headers within the limit of the input, with their
--- `%%`
+-- the numbers of the headers are those of headers within the limit of the input, with their `%%`
 pub record AreCountsWithin (limits : Limits) (lines macros canonical : ℕ) : Type 0 where
   pub few_lines : lines ≤ 4
   pub ten_macros : macros < 1024
   pub headers : 2 ≤ canonical
   pub below : canonical < limits.input
 
--- a place of a text, whose column 64 bits hold
+-- a place of a text, with a column of 64 bits
 pub record IsPlace (p : Place) : Type 0 where
   pub line : 1 ≤ p.line
   pub column : 1 ≤ p.column
   pub in_64_bits : p.column < 2 ^ 64
 
--- what is open stands in its order before the next character
+-- the openers are in their order before the next character
 pub record AreOpenersBefore (next : Place) (o : Openers) : Type 0 where
   pub notes : IfSome o.notes (LiesBefore next)
   pub inner : IfSome o.inner (LiesBefore next)
@@ -81,6 +80,6 @@ ReportsText s = s.part ≡ score_part.Body → IsReportOfText s
 
 -- ---- whatever comes in
 
--- in the body none is held only if no syllable was given
+-- in the body none is held only if no syllable was emitted
 abbrev pub HoldsIfAny : ScoreStageState → Type 0
 HoldsIfAny s = s.part ≡ score_part.Body → held_of s ≡ None → s.before.syllables ≡ 0

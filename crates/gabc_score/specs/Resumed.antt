@@ -1,4 +1,4 @@
--- A stage over a score that goes on after syllables which another one has read.
+-- A stage over a score that resumes after syllables which another one has read.
 use Rattle.std.specs.Prelude.{◌≡◌, ℕ, List, [], Some, None}
 use Rattle.gabc_places.specs.declared.limits.Limits.{Limits}
 use Rattle.gabc_text.specs.TextStage.{fresh_stage}
@@ -11,22 +11,21 @@ use Rattle.gabc_score.specs.ScoreReports.{before_of, before_with, held_of, readi
 use Rattle.gabc_body.specs.Syllable.{UnplacedSyllable}
 use Rattle.gabc_score.specs.witness.ScoreStage.{ScoreStageState}
 
--- in the body it begins to read a text, which stands at the first place
+-- in the body it begins to read a text, which is at the first place
 pub record BeginsText (s : ScoreStageState) : Type 0 where
   pub body : s.part ≡ Body
   pub nothing_read : reading_of s ≡ []
   pub begins : s.body.part ≡ Text (fresh_stage first_place)
   pub next : s.held.next ≡ first_place
 
--- It stands after the syllables that `before` reports, holds none and begins to read a text.
+-- It is after the syllables that `before` reports, holds none and begins to read a text.
 pub record IsAfterSyllables (limits : Limits) (before : Before) (s : ScoreStageState) : Type 0 where
   pub limits_are : s.limits ≡ limits
   pub before_is : before_of s ≡ Some before
   pub none_held : held_of s ≡ None
   pub begins : BeginsText s
 
--- With a text it holds the syllable that the text is, stands after the same as before, and begins
--- to read the next one.
+-- It holds the syllable of a text, is after the same as before, and begins to read the next text.
 pub record HoldsAgain (text : List ℕ) (old new : ScoreStageState) : Type 0 where
   pub m : UnplacedSyllable
   pub may : MayBeHeld old.limits (before_with old.body old.before) text m

@@ -1,5 +1,5 @@
--- What a stage over a score reports of where it stands in the body. Before the body and after the
--- last event it reports nothing.
+-- The reports of a stage over a score in the body. Before the body and after the last event it
+-- reports nothing.
 use Rattle.std.specs.Prelude.{◌≡◌, ℕ, List, [], ◌∷◌, Bool, true, false, Option, Some, None}
 use Rattle.gabc_places.specs.declared.place.Place.{Place}
 use Rattle.gabc_text.specs.StageReports as text
@@ -17,12 +17,12 @@ use Rattle.gabc_body.specs.Syllable.{UnplacedSyllable}
 use Rattle.gabc_score.specs.witness.BodyStage.{BodyStageState}
 use Rattle.gabc_score.specs.witness.ScoreStage.{ScoreStageState}
 
--- what it reports in the body
+-- a report, in the body alone
 abbrev pub in_body : {A : Type 0} → ScorePart → A → Option A
 in_body score_part.Body told = Some told
 in_body part told = None
 
--- what stands before the held syllable, or, if none is held, before the one that is read
+-- the context of the held syllable, or, if none is held, of the one that is read
 abbrev pub before_with : BodyStageState → Preceding → Before
 before_with body p = record {
   nabc_lines = body.nabc_lines;
@@ -52,7 +52,7 @@ reading_in_body part kept = []
 abbrev pub reading_of : ScoreStageState → List ℕ
 reading_of s = reading_in_body s.part s.held.gathered.builder.kept
 
--- what is open in a part of the body
+-- the openers in a part of the body
 abbrev pub openers_of : BodyPart → Openers
 openers_of part.Comment = record { notes = None; inner = None }
 openers_of (part.Text stage) = record { notes = None; inner = text.opener_of stage }
@@ -71,7 +71,7 @@ abbrev pub is_in_front : BodyPart → Bool
 is_in_front part.Comment = true
 is_in_front part = false
 
--- It stands in front of the first text: no syllable is whole, and nothing is read of one.
+-- It is in front of the first text: no syllable is whole, and nothing is read of one.
 pub record IsInFront (s : ScoreStageState) : Type 0 where
   pub front : is_in_front s.body.part ≡ true
   pub none_before : s.before.syllables ≡ 0
@@ -87,12 +87,12 @@ abbrev pub IsAt : Place → BodyPart → Type 0
 IsAt place (part.Text stage) = text_reports.next_of stage ≡ place
 IsAt place part = Unit {0}
 
--- ---- the next character stands elsewhere
+-- ---- the next character is elsewhere
 
 abbrev pub moved_part : Place → BodyPart → BodyPart
 moved_part place (part.Text stage) = part.Text (text_reports.moved_to place stage)
 moved_part place part = part
 
--- The next character stands at this place. What is open keeps the place where it began.
+-- The next character is at this place. The openers keep their own places.
 abbrev pub moved_to : Place → ScoreStageState → ScoreStageState
 moved_to place s = record s { held = record s.held { next = place }; body = record s.body { part = moved_part place s.body.part } }

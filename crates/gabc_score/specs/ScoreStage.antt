@@ -1,4 +1,4 @@
--- What a stage over a score gives: each syllable in a slot that it lends.
+-- The outputs of a stage over a score: each syllable in a slot that it lends.
 use Rattle.std.specs.Prelude.{◌≡◌, ℕ, ◌+◌, ◌<◌, ◌≤◌, ◌^◌, List, [], ◌∷◌, Bool, true, false, length, map, take, if◌then◌else◌}
 use Rattle.gabc_places.specs.BoundedList.{BoundedList, extended_by}
 use Rattle.gabc_places.specs.declared.limits.Limits.{Limits}
@@ -37,7 +37,7 @@ events_borrowed lent (End ∷ outputs) = event.End ∷ events_borrowed lent outp
 abbrev pub events_of : List ScoreOutput → List ScoreEvent
 events_of outputs = events_borrowed First outputs
 
--- a call gave these outputs as events, and lends their syllables
+-- a call emitted these outputs as events, and lends their syllables
 pub record GivesOutputs (outputs : List ScoreOutput) (old new : BoundedList ScoreEvent) (first second : PlacedSyllable) : Type 0 where
   pub events : new ≡ extended_by old (events_of outputs)
   pub few : length (events_of outputs) ≤ 16
@@ -49,7 +49,7 @@ pub record IsWithin (limits : Limits) (s : PlacedSyllable) : Type 0 where
   pub kept : length s.made.kept ≤ limits.syllable
   pub canonical : length (canonical_in_place s) ≤ limits.syllable + 1
 
--- so is a syllable wherever it stands in its word
+-- so is a syllable, whatever its position in its word
 abbrev pub IsWithinAnywhere : Limits → UnplacedSyllable → Type 0
 IsWithinAnywhere limits m = (position : Position) → IsWithin limits (record { made = m; position = position })
 
@@ -60,7 +60,7 @@ pub record Lends (limits : Limits) (most : ℕ) (outputs : List ScoreOutput) : T
   pub later : OnlyFirstHasNotes (syllables_in outputs)
   pub within : All (IsWithin limits) (syllables_in outputs)
 
--- how many syllables an input may bring
+-- the largest number of syllables that an input may bring
 abbrev pub most_borrowed : HeadEvent → ℕ
 most_borrowed (head_event.Body x) = 1
 most_borrowed (head_event.Stop fault) = 1
@@ -68,8 +68,8 @@ most_borrowed head_event.End = 2
 most_borrowed (head_event.Found f) = 0
 most_borrowed (head_event.Heads lines macros canonical) = 0
 
--- What stands before the first syllable that was not given, after an input at which these were
--- given: after the headers no syllable was.
+-- The totals before the first syllable that was not emitted, after an input at which these outputs
+-- were: after the headers no syllable was.
 abbrev pub preceding_past : ScorePart → HeadEvent → List ScoreOutput → Preceding → Preceding
 preceding_past score_part.Heads (head_event.Heads lines macros canonical) outputs p = no_syllable canonical
 preceding_past part x outputs p = with_placed p (syllables_in outputs)
@@ -80,21 +80,21 @@ next_past score_part.Heads (head_event.Heads lines macros canonical) next = firs
 next_past score_part.Body (head_event.Body x) next = saturating_next_place x.place x.c
 next_past part x next = next
 
--- How many syllables may be whole after an input, if n were before: none after the headers, one
--- more after a character.
+-- The largest number of syllables that may be whole after an input, if n were before: none after
+-- the headers, one more after a character.
 abbrev pub most_whole : ScorePart → HeadEvent → ℕ → ℕ
 most_whole score_part.Heads (head_event.Heads lines macros canonical) n = 0
 most_whole score_part.Body (head_event.Body x) n = n + 1
 most_whole part x n = n
 
--- The part in which it stands after an input at which these were given. A stop or the end is the
--- last of all.
+-- The part in which it is after an input at which these outputs were emitted. A stop or the end is
+-- the last of all.
 abbrev pub part_past : ScorePart → HeadEvent → List ScoreOutput → ScorePart
 part_past score_part.Over x outputs = score_part.Over
 part_past score_part.Heads (head_event.Heads lines macros canonical) outputs = score_part.Body
 part_past part x outputs = if list_any is_last outputs then score_part.Over else part
 
--- an input that is a character stands at this place
+-- an input that is a character is at this place
 abbrev pub IsHere : HeadEvent → Place → Type 0
 IsHere (head_event.Body x) next = x.place ≡ next
 IsHere x next = Unit {0}
@@ -103,8 +103,8 @@ IsHere x next = Unit {0}
 abbrev pub IsPlaceBelow : Char → Type 0
 IsPlaceBelow x = (x.place.line + 1 < 2 ^ 64) × (x.place.column + 1 < 2 ^ 64)
 
--- An input may come of a text whose next character stands at this place: the numbers of its
--- headers, or this character.
+-- An input may come of a text whose next character is at this place: the numbers of its headers, or
+-- this character.
 abbrev pub MayCome : Limits → Place → HeadEvent → Type 0
 MayCome limits next (head_event.Heads lines macros canonical) = AreCountsWithin limits lines macros canonical
 MayCome limits next (head_event.Body x) = (x.place ≡ next) × (IsPlaceBelow x × IsTextCharacter x.c)
@@ -127,7 +127,7 @@ abbrev pub EndsLine : HeadEvent → Type 0
 EndsLine (head_event.Body x) = x.c ≡ 10
 EndsLine x = ⊥
 
--- what is found in the headers is passed on
+-- the findings of the headers are passed on
 abbrev pub PassesOn : HeadEvent → List ScoreOutput → Type 0
 PassesOn (head_event.Found f) outputs = outputs ≡ Found f ∷ []
 PassesOn x outputs = Unit {0}
@@ -141,12 +141,13 @@ abbrev pub place_after_input : HeadEvent → Place → Place
 place_after_input (head_event.Body x) place = saturating_next_place x.place x.c
 place_after_input x place = place
 
--- the characters among these inputs stand one after the other, the first of them at this place
+-- the characters among these inputs come one after the other, the first of them at this place
 abbrev pub AreInLine : Place → List HeadEvent → Type 0
 AreInLine place [] = Unit {0}
 AreInLine place (x ∷ xs) = IsHere x place × AreInLine (place_after_input x place) xs
 
--- At an input it gave what was to come for it, and goes on with what follows under the same limits.
+-- At an input it emitted the next list of its outputs, and goes on with those that follow under the
+-- same limits.
 pub record GivesAt (before : ScoreStageState) (x : HeadEvent) (after : ScoreStageState) (old new : BoundedList ScoreEvent) : Type 0 where
   pub outputs : List ScoreOutput
   pub lends : Lends before.limits (most_borrowed x) outputs
@@ -166,7 +167,7 @@ pub record GivesAt (before : ScoreStageState) (x : HeadEvent) (after : ScoreStag
   pub emitted : GivesOutputs outputs old new after.first after.second
   pub front : before.part ≡ score_part.Heads → (lines macros canonical : ℕ) → x ≡ head_event.Heads lines macros canonical → IsInFront after
 
--- At the end of the inputs it gave what was still to come.
+-- At the end of the inputs it emitted its last outputs.
 pub record GivesLast (before after : ScoreStageState) (old new : BoundedList ScoreEvent) : Type 0 where
   pub outputs : List ScoreOutput
   pub lends : Lends before.limits 1 outputs
@@ -176,7 +177,7 @@ pub record GivesLast (before after : ScoreStageState) (old new : BoundedList Sco
 
 -- ---- counts that have not reached their last value
 
--- neither the characters of the body among these nor what was counted of the headers
+-- neither the characters of the body among these nor the counts of the headers
 abbrev pub AreCountsBelow : List HeadEvent → Type 0
 AreCountsBelow [] = Unit {0}
 AreCountsBelow (head_event.Body x ∷ xs) = IsPlaceBelow x × AreCountsBelow xs
@@ -187,7 +188,7 @@ AreCountsBelow (head_event.Heads lines macros canonical ∷ xs) = (canonical + 1
 
 -- ---- as a stage
 
--- what it will still give
+-- the lists of events that it will still emit
 abbrev pub events_left : ScoreStageState → List HeadEvent → List (List ScoreEvent)
 events_left s xs = map (λ outputs. events_of outputs) (left_of s xs)
 

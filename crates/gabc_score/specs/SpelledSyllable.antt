@@ -10,7 +10,7 @@ use Rattle.gabc_score.specs.GivesSyllables.{spelled_canonical}
 use Rattle.gabc_score.specs.RegularSyllable.{SaysText, SyllableParts, AreRegularFrom, IsRegularSyllable, canonical_spelled, has_gap, kept_spelled, notes_spelled, snippet_texts, snippets_spelled, with_lines}
 use Rattle.gabc_body.specs.Syllable.{PlacedSyllable}
 
--- The slices are the bytes of a regular syllable, and its text ends where they say.
+-- The slices are the bytes of a regular syllable, and its text has as many bytes as they say.
 pub record IsSpelling (r : SpelledSyllable) : Type 0 where
   pub parts : SyllableParts
   pub regular : IsRegularSyllable r.lines parts
@@ -25,7 +25,7 @@ abbrev pub first_of : List (List ℕ) → List ℕ → List ℕ
 first_of [] final = final
 first_of (s ∷ nexts) final = s
 
--- These regular snippets are still to come, each with its line.
+-- These regular snippets are the remaining ones, each with its line.
 pub record AreToCome (it : SpelledSnippets) (nexts : List (List ℕ)) (final : List ℕ) : Type 0 where
   pub regular : AreRegularFrom it.lines it.line nexts final
   pub single : it.lines ≡ 0 → nexts ≡ []
@@ -33,12 +33,12 @@ pub record AreToCome (it : SpelledSnippets) (nexts : List (List ℕ)) (final : L
   pub utf8 : IsUtf8 it.rest.now
   pub goes_on : it.over ≡ false
 
--- These are still to come, or none.
+-- These are the remaining ones, or none.
 abbrev pub ToCome : SpelledSnippets → List (ℕ × List ℕ) → Type 0
 ToCome it [] = it.over ≡ true
 ToCome it (t ∷ texts) = (nexts : List (List ℕ)) × ((final : List ℕ) × (AreToCome it nexts final × (t ∷ texts ≡ with_lines it.lines it.line nexts final)))
 
--- what comes first of them, if one is left, and what is to come then
+-- the first of these, if one is left, and the remaining ones then
 abbrev pub GivesNext : Option SpelledSnippet → List (ℕ × List ℕ) → SpelledSnippets → Type 0
 GivesNext None texts after = texts ≡ []
 GivesNext (Some s) texts after = (more : List (ℕ × List ℕ)) × ((texts ≡ (s.line, s.text.now) ∷ more) × ToCome after more)
@@ -50,9 +50,9 @@ abbrev pub AreTextsOf : SpelledSyllable → List ℕ → List ℕ → Type 0
 AreTextsOf r text translation =
     (is : IsSpelling r) → (text ≡ encode_utf8_all (text_part is.parts.text)) × (translation ≡ encode_utf8_all (translation_part is.parts.text))
 
--- Slices spell a syllable: its place in its word, its open spans, whether it begins after blanks,
--- what is kept of it, its canonical text, its text and its translation, and its snippets, each in
--- its place.
+-- Slices spell a syllable: its position in its word, its open spans, whether it begins after
+-- blanks, its kept text, its canonical text, its text and its translation, and its snippets, each
+-- in its place.
 pub record Spells (r : SpelledSyllable) (s : PlacedSyllable) : Type 0 where
   pub spelling : IsSpelling r
   pub position : s.position ≡ r.position

@@ -28,7 +28,7 @@ use gabc_text::{TextEnd, TextEvent, TextStage};
 use std::alloc::AllocError;
 use std::marker::Model;
 
-/// The part of a body that the next character stands in. The notes know the place of their `(`.
+/// The part of a body in which the next character is. The notes have the place of their `(`.
 #[derive(Drop)]
 pub(crate) enum BodyPart {
     /// The comment after the `%%`, up to the first LF.
@@ -46,17 +46,17 @@ pub(crate) enum BodyPart {
     },
 }
 
-/// The part that emitted the events of the last point. They stand in its room.
+/// The part that emitted the events of the last point, which are in its room.
 #[derive(Clone, Copy)]
 pub(crate) enum Emitter {
     Nothing,
     Text,
-    /// A snippet of that line, whose `(` stands there.
+    /// A snippet of `line`, whose `(` is at `opened`.
     Notes { line: u8, opened: Place },
 }
 
-/// Reads the body of a score a character at a time, and emits what its texts and notes emit. It
-/// asks for no memory once made.
+/// Reads the body of a score a character at a time, and emits the events of its texts and notes.
+/// Once made, it does not allocate.
 #[derive(Drop)]
 pub struct BodyStage {
     pub(crate) nabc_lines: u8,
@@ -93,7 +93,7 @@ pub(crate) fn next_line(lines: u8, line: u8) -> u8
     if line < lines { line + 1 } else { 0 }
 }
 
-/// Returns the text after the `)` that stands at `mark`.
+/// Returns the text after the `)` at `mark`.
 fn text_after(mark: Place) -> BodyPart
     ensures { result ≡ BodyPart.Text (fresh_stage (after_mark mark)) }
 {
@@ -104,9 +104,9 @@ impl BodyStage {
     /// Returns a stage before the first character of a body, after the `%%` of the headers.
     /// `nabc_lines` is the number of NABC lines under each GABC snippet, and the bit `d` of
     /// `macros` says that the macro of the digit `d` is defined. It emits what the definition says
-    /// of each body in which no count reaches its last value: what its texts, notes and NABC emit,
-    /// one part after the other, each read from where it begins. A call emits at most 8 events. Its
-    /// rooms lie in `memory`; once made it asks for none.
+    /// of each body in which no count reaches its last value: the events of its texts, notes and
+    /// NABC, one part after the other, each read from its own beginning. A call emits at most 8
+    /// events. Its rooms lie in `memory`; once made, it does not allocate.
     pub fn new(memory: &Memory, nabc_lines: u8, macros: u16) -> Result<BodyStage, AllocError>
         ensures run { IfOk result (λ stage. (xs : List Char) →
             events_left stage xs ≡ events_from texts_by_stage nabc_lines macros InComment xs) }
@@ -148,7 +148,7 @@ impl BodyStage {
         self.emitter = Emitter::Nothing;
     }
 
-    /// Returns the snippet of that line, whose `(` stands at `opened`.
+    /// Returns the snippet of `line` (0 for GABC, from 1 for NABC), whose `(` is at `opened`.
     fn snippet(&self, line: u8, opened: Place) -> BodyPart
         ensures { Begins self.now.nabc_lines self.now.macros line opened result }
     {
@@ -168,7 +168,7 @@ impl BodyStage {
         }
     }
 
-    /// Returns the snippet after one of that line that ended at a `|`.
+    /// Returns the snippet after one of `line` that ended at a `|`; the `(` of both is at `opened`.
     fn next_snippet(&self, line: u8, opened: Place) -> BodyPart
         ensures { Begins self.now.nabc_lines self.now.macros
             (line_after self.now.nabc_lines line) opened result }
@@ -176,7 +176,7 @@ impl BodyStage {
         self.snippet(next_line(self.nabc_lines, line), opened)
     }
 
-    /// Pushes a character to the part that it stands in, which is no comment.
+    /// Pushes the character `x` to its part, which is not the comment after the `%%`.
     fn push_part(&mut self, x: Char)
         requires { self.old.part ≢ BodyPart.Comment }
         ensures steps { TakesChar self.old.nabc_lines self.old.macros x
@@ -225,7 +225,7 @@ impl BodyStage {
         }
     }
 
-    /// Takes a character. What it emits stands in the part's room until the next call.
+    /// Takes the character `x`. Its events are in the part's room until the next call.
     pub(crate) fn take(&mut self, x: Char)
         ensures steps { TakesChar self.old.nabc_lines self.old.macros x
             self.old.part self.new.events self.new.part }
@@ -242,7 +242,7 @@ impl BodyStage {
         self.push_part(x);
     }
 
-    /// Ends the input. What that emits stands in the part's room.
+    /// Ends the input. Its events are in the part's room.
     pub(crate) fn close(&mut self)
         ensures events { EmitsLast (running_events_left self.old) 8 self.new.events }
         ensures once { ClosesLast self.new.events }

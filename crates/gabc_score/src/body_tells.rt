@@ -1,4 +1,4 @@
-//! What a stage over a body reports of the part in which it stands.
+//! What a stage over a body reports of its current part.
 
 ghost use Rattle.std.specs.Prelude.{◌≡◌, ◌↔◌, ℕ, IsTrue};
 ghost use Rattle.gabc_text.specs.TextStage.{fresh_stage};
@@ -8,18 +8,18 @@ ghost use Rattle.gabc_score.specs.machine.PartKeeps.{KeptParts, PartKeeps};
 use crate::body_stage::{BodyPart, BodyStage};
 use gabc_places::Place;
 
-/// The places at which what is open begins.
+/// The places of the open brackets.
 #[derive(Clone, Copy, Debug, PartialEq, Eq)]
 pub struct Openers {
-    /// The place of the `(` of the notes that are read.
+    /// The place of the `(` of the current notes.
     pub notes: Option<Place>,
-    /// The place of the `<` or `[` of a tag, a raw part, a translation or a raw bracket of GABC
-    /// that is read.
+    /// The place of the `<` or `[` of the current tag, raw part, translation or raw bracket of
+    /// GABC.
     pub inner: Option<Place>,
 }
 
 impl BodyStage {
-    /// Returns the places of what is open.
+    /// Returns the places of the open brackets.
     pub(crate) fn openers(&self) -> Openers
         ensures { result ≡ openers_of self.now.part }
     {
@@ -35,7 +35,7 @@ impl BodyStage {
         Openers { notes, inner }
     }
 
-    /// Returns whether a text begins at `at`, of which nothing was read yet.
+    /// Returns whether the part is a text that begins at `at` and of which nothing was read yet.
     pub(crate) fn begins_text(&self, at: Place) -> bool
         ensures { IsTrue result ↔ (self.now.part ≡ BodyPart.Text (fresh_stage at)) }
     {

@@ -21,9 +21,9 @@ use gabc_headers::HeadEvent;
 use gabc_places::{Char, Limits, Memory, Place, Room};
 use std::alloc::AllocError;
 
-/// Lets `taker` take a run of regular syllables from the front of `text`, whose first character
-/// stands at `place`, if it takes runs. Returns the text that is left; `place` is that of its first
-/// character then.
+/// Lets `taker` take a run of regular syllables from the front of `text`, whose first character is
+/// at `place`, if it takes runs. Returns the text that is left, and sets `place` to the place of
+/// its first character.
 fn pass_run<'a, C: Collect>(
     machine: &mut ScoreMachine,
     place: &mut Place,
@@ -47,8 +47,8 @@ fn pass_run<'a, C: Collect>(
     rest
 }
 
-/// Reads a body to its end or the first fault, by a new stage, and gives its syllables to `taker`.
-/// The machine lies in `memory`.
+/// Reads `body` to its end or the first fault, by the new stage `stage`, and passes its syllables
+/// to `taker`. Returns the findings and the fault. The machine lies in `memory`.
 pub(crate) fn build_body<C: Collect>(
     memory: &Memory,
     stage: BodyStage,
@@ -86,7 +86,7 @@ pub(crate) fn build_body<C: Collect>(
     Ok(said)
 }
 
-/// Tells a machine how the input ended.
+/// Ends the inputs of a machine as `ending` says, and adds its last events to `out`.
 fn end_machine(machine: &mut ScoreMachine, ending: InputEnding, out: &mut Room<ScoreEvent>)
     requires rests { IsScore machine.old }
     requires fits { Fits out.old 16 }

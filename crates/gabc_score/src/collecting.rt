@@ -1,4 +1,4 @@
-//! What is given of a body becomes what it says.
+//! The events of a score stage, gathered into findings, a fault and the syllables of a taker.
 
 ghost use Rattle.std.specs.Prelude.{◌≡◌, List, [], take, length, ◌∷◌, OnOk};
 ghost use Rattle.gabc_body.specs.ScoreEvents.{ScoreOutput, syllables_in};
@@ -12,16 +12,16 @@ use crate::slot_pair::SlotPair;
 use gabc_places::{Fault, Findings, Room};
 use std::alloc::AllocError;
 
-/// What a body says beside its syllables, which a taker took.
+/// The findings and the fault of a body, whose syllables a taker took.
 #[derive(Drop)]
 pub(crate) struct Said {
-    /// What was found before the stop, in the order of places.
+    /// The findings before the stop, in the order of places.
     pub(crate) findings: Findings,
-    /// What stopped the reading, if something did.
+    /// The fault that stopped the reading, if there is one.
     pub(crate) fault: Option<Fault>,
 }
 
-/// Adds what is given to `said`, and to what `taker` has taken.
+/// Adds a finding or a fault to `said`, or passes a syllable to `taker`.
 fn add<C: Collect>(
     said: &mut Said,
     taker: &mut C,
@@ -47,8 +47,8 @@ fn add<C: Collect>(
     Ok(())
 }
 
-/// Adds all that was given with an input to `said`, and to what `taker` has taken. Nothing stays in
-/// the room.
+/// Adds the findings and the fault in `out` to `said`, passes its syllables to `taker`, and empties
+/// `out`.
 pub(crate) fn add_all<C: Collect>(
     said: &mut Said,
     taker: &mut C,

@@ -2,8 +2,8 @@
 
 use gabc_places::{Findings, Place};
 
-/// What stands before a body: the place of its first character, the bytes of its canonical headers
-/// with `%%`, and what was found in them.
+/// The context of a body: the place of its first character, the bytes of the canonical headers with
+/// `%%`, and the findings of the headers.
 #[derive(Drop)]
 pub(crate) struct BodyContext {
     pub(crate) at: Place,

@@ -1,4 +1,4 @@
-//! What a stage over a score gives at a point.
+//! What a stage over a score emits at a point.
 
 ghost use Rattle.std.specs.Prelude.{◌≡◌, ◌≢◌, ◌≤◌, ◌||◌, [], ◌∷◌, ◌++◌, map, length, cond, None};
 ghost use Rattle.gabc_places.specs.BoundedList.{Fits, extended_by};
@@ -15,8 +15,8 @@ use crate::score_event::{BorrowedSyllable, ScoreEvent};
 use crate::slot_pair::{SlotPair, SlotUse};
 use gabc_places::{Code, Fault, Finding, Place, Room};
 
-/// Finds a note before any clef at `place`, if by `was` neither a note nor a clef had come in GABC,
-/// and by `now` a note came first.
+/// Adds the warning of a note before any clef at `place` to `found`, if by `was` neither a note nor
+/// a clef had come in GABC, and by `now` a note came first.
 #[inline(always)]
 pub(crate) fn find_first(
     was: Option<FirstSound>,
@@ -35,7 +35,8 @@ pub(crate) fn find_first(
     }
 }
 
-/// Finds a note before any clef at `place`, if `now` says that a note came first in GABC.
+/// Adds the warning of a note before any clef at `place` to `found`, if `now` says that a note came
+/// first in GABC.
 #[inline(never)]
 fn find_note(now: Option<FirstSound>, place: Place, found: &mut Room<Finding>)
     requires { Fits found.old 1 }
@@ -49,7 +50,7 @@ fn find_note(now: Option<FirstSound>, place: Place, found: &mut Room<Finding>)
     }
 }
 
-/// Gives the findings `found`.
+/// Emits the findings `found`.
 fn give_found(found: &[Finding], out: &mut Room<ScoreEvent>)
     requires { Fits out.old (length found.now) }
     ensures { out.new ≡ extended_by out.old (map (λ f. ScoreEvent.Found f) found.now) }
@@ -59,7 +60,7 @@ fn give_found(found: &[Finding], out: &mut Room<ScoreEvent>)
     }
 }
 
-/// Gives the finding of this code, if it is found.
+/// Emits a finding with `code` at `place`, if `is_found`.
 fn give_code(is_found: bool, place: Place, code: Code, out: &mut Room<ScoreEvent>)
     requires { Fits out.old 1 }
     ensures { out.new ≡ extended_by out.old
@@ -71,7 +72,7 @@ fn give_code(is_found: bool, place: Place, code: Code, out: &mut Room<ScoreEvent
     }
 }
 
-/// Gives the first `count` of the syllables that are borrowed.
+/// Emits the first `count` of the borrowed syllables.
 fn give_lent(count: usize, out: &mut Room<ScoreEvent>)
     requires most { count ≤ 2 }
     requires fits { Fits out.old count }
@@ -85,8 +86,9 @@ fn give_lent(count: usize, out: &mut Room<ScoreEvent>)
     }
 }
 
-/// Gives the findings of a point, and the held syllable if another has become whole, which is held
-/// then. `has_lent` says whether one was borrowed before. Returns whether it gave one.
+/// Emits the findings of a point, and the held syllable if another has become whole, which is held
+/// from then on. `has_lent` says whether there is a syllable before it. Returns whether a syllable
+/// was emitted.
 pub(crate) fn give_point(
     pair: &mut SlotPair,
     has_lent: bool,
@@ -104,7 +106,7 @@ pub(crate) fn give_point(
     count > 0
 }
 
-/// Gives the held syllable as the last one, and the fault that stops the score.
+/// Emits the held syllable as the last one, and the fault that stops the score.
 pub(crate) fn give_stop(
     pair: &mut SlotPair,
     has_lent: bool,
@@ -122,7 +124,7 @@ pub(crate) fn give_stop(
     out.push(ScoreEvent::Stop(fault));
 }
 
-/// Gives the held syllable as the last one, when the source has failed.
+/// Emits the held syllable as the last one, after the source has failed.
 pub(crate) fn give_broken(pair: &mut SlotPair, has_lent: bool, out: &mut Room<ScoreEvent>)
     requires used { pair.old.used ≢ SlotUse.Lent }
     requires fits { Fits out.old 16 }
@@ -133,8 +135,8 @@ pub(crate) fn give_broken(pair: &mut SlotPair, has_lent: bool, out: &mut Room<Sc
     give_lent(count, out);
 }
 
-/// Gives what was found at the end, which is at this place, the syllables that are left, and the
-/// end. `has_last` says whether a last text is a syllable.
+/// Emits the findings of the end, which is at `at`, the syllables that are left, and the end.
+/// `has_last` says whether a last text is a syllable.
 pub(crate) fn give_end(
     pair: &mut SlotPair,
     has_lent: bool,

@@ -1,4 +1,4 @@
-//! What takes the syllables of a run.
+//! The takers of the syllables of a run.
 
 ghost use Rattle.std.specs.Prelude.{◌≡◌, ◌+◌, ◌<◌, ◌≤◌, ℕ, List, [], ◌∷◌, ◌++◌, length, true, false, OnErr, OnOk};
 ghost use Rattle.gabc_body.specs.Canonical.{canonical_in_place, StandsFrom};
@@ -20,7 +20,7 @@ pub trait Give {
     ghost TakesJoined: { Self → ℕ → Type 0 };
 
     /// Takes the syllable `lent`, whose canonical text has at most `most` bytes, or leaves it.
-    /// Returns whether it takes it.
+    /// Returns whether it was taken.
     fn give(&mut self, lent: LentSyllable<'_>, most: usize) -> bool
         requires short { length (canonical_in_place (placed_of lent.syllable.now)) ≤ most }
         requires stands { StandsFrom lent.kept_from (unplaced_of lent.syllable.now) }
@@ -28,20 +28,20 @@ pub trait Give {
             self.new ≡ given self.old (placed_of lent.entry.syllable.now ∷ []) }
         ensures same { result ≡ false → self.new ≡ self.old };
 
-    /// Takes the syllable that these slices spell, or leaves it. Returns whether it takes it.
+    /// Takes the syllable spelled by these slices, or leaves it. Returns whether it was taken.
     fn give_spelled(&mut self, syllable: SpelledSyllable<'_>) -> bool
         requires { IsSpelling syllable }
         ensures given { result ≡ true → (s : PlacedSyllable) → Spells syllable.entry s →
             self.new ≡ given self.old (s ∷ []) }
         ensures same { result ≡ false → self.new ≡ self.old };
 
-    /// Returns how many bytes the canonical texts of joined syllables may have together that it
-    /// takes now; 0, if it wants each syllable by itself.
+    /// Returns the number of bytes that the canonical texts of syllables given by `give_joined` may
+    /// have together; 0, if each syllable has to be given by itself.
     fn joins(&self) -> usize
         ensures { (n : ℕ) → 0 < n → n ≤ result → TakesJoined self.now n };
 
     /// Takes `count` syllables whose canonical texts are one after another in `text`, but for the
-    /// LF before the first, if that `starts` a word.
+    /// LF before the first, if that begins a word, as `starts` says.
     fn give_joined(&mut self, starts: bool, text: &str, count: u64)
         requires { TakesJoined self.old (length text.now + 1) }
         ensures { (joined : List PlacedSyllable) → AreJoined starts text.now count joined →
@@ -54,10 +54,9 @@ pub trait Give {
     ghost given_both: { (s : Self) (a b : List PlacedSyllable) → given (given s a) b ≡ given s (a ++ b) };
 }
 
-/// Takes what a score says, and asks for memory as it does.
+/// Takes the findings, the fault and the syllables of a score, and may allocate.
 pub trait Collect: Give {
-    /// Takes `syllable`. If there is no memory for it, that is the only refusal, and it stays as it
-    /// was.
+    /// Takes `syllable`. Fails only if memory for it cannot be allocated, and then changes nothing.
     fn collect(&mut self, syllable: &Syllable) -> Result<(), AllocError>
         ensures given { OnOk result
             (self.new ≡ Self.given self.old (placed_of syllable.now ∷ [])) }
@@ -67,7 +66,7 @@ pub trait Collect: Give {
     fn takes_runs(&self) -> bool;
 }
 
-/// How far a run of syllables was taken.
+/// The part of a text that was taken as a run of syllables.
 #[derive(Clone, Copy)]
 pub struct Run {
     /// Its length in bytes.

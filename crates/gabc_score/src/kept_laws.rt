@@ -1,5 +1,5 @@
 //! Laws of kept texts that are read by themselves. Each function is there for its clauses, and
-//! calls the laws on which it stands.
+//! calls the laws on which it rests.
 
 ghost use Rattle.std.specs.Prelude.{◌≡◌, ◌↔◌, ◌≤◌, ◌<◌, ◌^◌, ℕ, List, Bool, length, encode_utf8_all};
 ghost use Rattle.std.specs.Char.{IsScalar};
@@ -21,7 +21,7 @@ ghost use Rattle.gabc_score.specs.witness.ScoreStage.{ScoreStageState};
 
 use crate::stage_laws;
 
-/// Law: the laws of the stages of texts and snippets on which the reading of a kept text stands.
+/// Law: the laws of the stages of texts and snippets on which the reading of a kept text rests.
 pub(crate) fn laws_of_stages()
     ensures { StageLaws }
 {
@@ -51,7 +51,8 @@ pub fn a_text_is_kept_again_by_kept()
 }
 
 /// Law: what a stage reports of the syllable that it reads is kept again if it is read by itself,
-/// and what is open after it is what the stage reports. It is no longer than a syllable may be.
+/// and what is open after it is what the stage reports. It is no longer than the limit of a
+/// syllable.
 pub fn what_is_reported_is_kept_again()
     ensures again { (s : ScoreStageState) (t : List ℕ) (openers : Openers) (comment : Bool) →
         All IsScalar t → CanBeReadAgain s → ReportsReading s (encode_utf8_all t) openers comment →
@@ -65,11 +66,11 @@ pub fn what_is_reported_is_kept_again()
     a_text_is_kept_again_by_kept();
 }
 
-/// Law: a text that is kept again if it is read by itself, and no longer than a syllable may be, is
-/// what some stage reports of the syllable that it reads, wherever its openers are said to stand.
-/// It is kept again if each of its characters is kept, no syllable is whole, and what is open after
-/// it is reported: the `(` of notes, an inner opener, and a comment only if a `%` after it begins
-/// one.
+/// Law: a text that is kept again if it is read by itself, and no longer than the limit of a
+/// syllable, is what some stage reports of the syllable that it reads, whatever the places of its
+/// openers. It is kept again if each of its characters is kept, no syllable is whole, and what is
+/// open after it is reported: the `(` of notes, an inner opener, and a comment only if a `%` after
+/// it begins one.
 pub fn what_is_kept_again_is_reported()
     ensures { (limits : Limits) (lines macros : ℕ) (t : List ℕ) (openers : Openers)
         (comment : Bool) → All IsScalar t → IsKeptAgain lines macros t openers comment →

@@ -39,7 +39,7 @@ pub(crate) fn at_most_one_is_given(machine: &ScoreMachine)
     }
 }
 
-/// Law: a stage may stand wherever a machine stands between two calls.
+/// Law: a machine between two calls is in a state that a stage may reach.
 pub(crate) fn a_stage_may_stand_so(machine: &ScoreMachine)
     requires { IsScore machine.now }
     ensures { IsReachable (shown machine.now) }
@@ -59,8 +59,8 @@ pub(crate) fn whole_ones_are_given_or_held(machine: &ScoreMachine)
     at_most_one_is_held(&machine.pair);
 }
 
-/// Law: in front of the first text a machine gives the same, wherever the next character is said to
-/// stand.
+/// Law: in front of the first text a machine emits the same, whatever the place of the next
+/// character.
 pub(crate) fn a_body_begins_anywhere(machine: &ScoreMachine)
     requires rests { IsScore machine.now }
     requires front { IsInFront (shown machine.now) }

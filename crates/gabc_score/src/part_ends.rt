@@ -1,4 +1,4 @@
-//! How the events of a part end it.
+//! Whether a part ends with its last events.
 
 ghost use Rattle.std.specs.Prelude.{◌≡◌};
 ghost use Rattle.std.specs.List.{list_any};

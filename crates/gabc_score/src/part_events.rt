@@ -12,7 +12,7 @@ use gabc_notes::{NoteEnd, NoteEvent};
 use gabc_places::{Finding, Place, Room};
 use gabc_text::TextEvent;
 
-/// Returns how a snippet ended whose `(` stands at `opened`: where it is cut, with the place of its
+/// Returns the end of a snippet whose `(` is at `opened`: if it is cut, with the place of its
 /// innermost open bracket.
 fn innermost(opened: Place, how: NoteEnd) -> NoteEnd
     ensures { result ≡ with_innermost opened how }
@@ -23,7 +23,8 @@ fn innermost(opened: Place, how: NoteEnd) -> NoteEnd
     }
 }
 
-/// Returns what a snippet of that line emitted, with the place of its innermost open bracket.
+/// Returns the event `out` of a snippet of `line` as one of a body, with the place of its innermost
+/// open bracket if it is cut; the `(` is at `opened`.
 pub(crate) fn note_event(line: u8, opened: Place, out: NoteEvent) -> BodyEvent
     ensures { result ≡ event_of_notes line opened out }
 {
@@ -47,7 +48,7 @@ pub(crate) fn emit_text(events: &[TextEvent], out: &mut Room<BodyEvent>)
     }
 }
 
-/// Emits the events of a snippet of that line as those of a body.
+/// Emits the events of a snippet of `line`, whose `(` is at `opened`, as those of a body.
 pub(crate) fn emit_notes(line: u8, opened: Place, events: &[NoteEvent], out: &mut Room<BodyEvent>)
     requires { Fits out.old (length events.now) }
     ensures { out.new ≡ extended_by out.old (map (event_of_notes line opened) events.now) }
@@ -69,7 +70,8 @@ fn hold_in_text(event: TextEvent, pair: &mut SlotPair, found: &mut Room<Finding>
     }
 }
 
-/// Adds an event of a snippet of that line to what was gathered, and its finding to `found`.
+/// Adds an event of a snippet of `line`, whose `(` is at `opened`, to what was gathered, and its
+/// finding to `found`.
 #[inline(always)]
 fn hold_in_notes(
     line: u8,
@@ -103,7 +105,8 @@ pub(crate) fn hold_text(events: &[TextEvent], pair: &mut SlotPair, found: &mut R
     }
 }
 
-/// Adds the events of a snippet of that line to what was gathered, and their findings to `found`.
+/// Adds the events of a snippet of `line`, whose `(` is at `opened`, to what was gathered, and
+/// their findings to `found`.
 #[inline(always)]
 pub(crate) fn hold_notes(
     line: u8,

@@ -13,7 +13,7 @@ use gabc_notes::{NoteEvent, NoteStage};
 use gabc_places::{Char, Room, Stage};
 use gabc_text::{TextEvent, TextStage};
 
-/// Pushes a character to a text. Its events are then in `events`.
+/// Pushes the character `x` to a text, and leaves in `events` what the text emits at it.
 pub(crate) fn push_text(stage: &mut TextStage, x: Char, events: &mut Room<TextEvent>)
     requires events { 8 ≤ events.old.limit }
     ensures once { EndsLast text_end events.new.items }
@@ -25,7 +25,8 @@ pub(crate) fn push_text(stage: &mut TextStage, x: Char, events: &mut Room<TextEv
     stage.push(x, events);
 }
 
-/// Pushes a character to a snippet of GABC. Its events are then in `events`.
+/// Pushes the character `x` to a snippet of GABC, and leaves in `events` what the snippet emits at
+/// it.
 pub(crate) fn push_gabc(stage: &mut NoteStage, x: Char, events: &mut Room<NoteEvent>)
     requires events { 3 ≤ events.old.limit }
     ensures next_once { EndsLast note_next events.new.items }
@@ -37,7 +38,8 @@ pub(crate) fn push_gabc(stage: &mut NoteStage, x: Char, events: &mut Room<NoteEv
     stage.push(x, events);
 }
 
-/// Pushes a character to a snippet of NABC. Its events are then in `events`.
+/// Pushes the character `x` to a snippet of NABC, and leaves in `events` what the snippet emits at
+/// it.
 pub(crate) fn push_nabc(stage: &mut NabcStage, x: Char, events: &mut Room<NoteEvent>)
     requires events { 3 ≤ events.old.limit }
     ensures next_once { EndsLast note_next events.new.items }
@@ -49,7 +51,7 @@ pub(crate) fn push_nabc(stage: &mut NabcStage, x: Char, events: &mut Room<NoteEv
     stage.push(x, events);
 }
 
-/// Ends a text or a snippet. Its last events are then in `events`.
+/// Ends a text or a snippet, and leaves its last events in `events`.
 pub(crate) fn finish_part<S: Stage<Input = Char>>(stage: &mut S, events: &mut Room<S::Output>)
     requires { S.most_of stage.old ≤ events.old.limit }
     ensures events { events.new.limit ≡ events.old.limit }

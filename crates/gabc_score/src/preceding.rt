@@ -1,11 +1,11 @@
-//! What stands before a syllable of a score.
+//! The totals of the syllables before a syllable of a score.
 
 ghost use Rattle.std.specs.Prelude.{◌≡◌};
 ghost use Rattle.gabc_score.specs.Before.{preceding_of};
 
 use gabc_body::{Before, Spans};
 
-/// What is open if no span is.
+/// The spans that are open before the first syllable: none.
 pub(crate) const NO_SPANS: Spans = Spans {
     eu: false,
     nlba: false,

@@ -1,4 +1,4 @@
-//! A kept text that is read again.
+//! The second reading of a kept text.
 
 ghost use Rattle.std.specs.Prelude.{◌≡◌, [], ◌∷◌, ◌++◌, true, false, cond, None, is_some};
 ghost use Rattle.std.specs.Str.{chars};
@@ -20,8 +20,8 @@ use crate::score_stage::ScoreStage;
 use gabc_places::{Char, Place};
 
 impl BodyStage {
-    /// Returns the place of the next character of a kept text that is read again: what is open
-    /// after this text at `openers` begins there.
+    /// Returns the place at which the next character of a kept text is read again, so that the
+    /// brackets that are open after this text begin at `openers`.
     pub(crate) fn place_again(&self, openers: Openers) -> Place
         ensures { result ≡ place_in (outer_of openers) (inner_of openers) self.now.part }
     {
@@ -34,8 +34,8 @@ impl BodyStage {
 }
 
 impl ScoreMachine {
-    /// Reads a character of the body, and gives nothing. If a syllable becomes whole or a limit is
-    /// passed, the reading is over.
+    /// Reads the character `x` of the body, and emits nothing. If a syllable becomes whole or a
+    /// limit is passed, the reading is over.
     fn pass_again(&mut self, x: Char)
         requires { StandsInBody self.old }
         ensures rests { IsScore self.new }
@@ -48,8 +48,8 @@ impl ScoreMachine {
         }
     }
 
-    /// Reads `c` again, a character of a kept text after which this is open at `openers`, or a `%`
-    /// after it. If a syllable becomes whole or a limit is passed, the reading is over.
+    /// Reads `c`, a character of a kept text, or a `%` after it. After this text the brackets at
+    /// `openers` are open. If a syllable becomes whole or a limit is passed, the reading is over.
     fn take_again(&mut self, c: char, openers: Openers)
         requires rests { IsScore self.old }
         ensures rests { IsScore self.new }
@@ -64,8 +64,8 @@ impl ScoreMachine {
         self.pass_again(Char { c, place });
     }
 
-    /// Reads each character of `kept` again, a kept text after which this is open at `openers`, and
-    /// the `%` of a comment after it if `in_comment`.
+    /// Reads each character of the kept text `kept`, and the `%` of a comment after it if
+    /// `in_comment`. After this text the brackets at `openers` are open.
     fn read_reported(&mut self, kept: &str, openers: Openers, in_comment: bool)
         requires rests { IsScore self.old }
         ensures rests { IsScore self.new }
@@ -80,10 +80,10 @@ impl ScoreMachine {
         }
     }
 
-    /// Reads `kept` again, the kept text of a syllable of which nothing is read yet: after it this
-    /// is open at `openers`, a comment is open if `in_comment`, and the next character stands at
-    /// `next`. Returns whether no syllable became whole, and no limit was passed. Otherwise the
-    /// reading is over.
+    /// Reads `kept` again, the kept text of a syllable of which nothing is read yet. After it the
+    /// brackets at `openers` are open, a comment is open if `in_comment`, and the next character is
+    /// at `next`. Returns whether no syllable became whole, and no limit was passed; if not, the
+    /// reading is over. Outside the body it changes nothing and returns `false`.
     pub(crate) fn read_again(
         &mut self,
         kept: &str,
@@ -111,16 +111,16 @@ impl ScoreMachine {
 }
 
 impl ScoreStage {
-    /// Reads `kept` again, the kept text of a syllable that is not whole. The stage stands before
-    /// this syllable, of which nothing is read, and in no comment. After the text this is open at
-    /// `openers`, a comment is open if `in_comment`, and the next character stands at `next`.
-    /// Nothing is given, and findings are left out. Returns whether no syllable became whole and no
-    /// limit was passed. If so, what stands before and what is held are what they were; else the
-    /// stage has come to its end. If some stage past the comment in front, after the same and under
-    /// the same limits, reports this of the syllable that it reads, then the answer is `true`, and
-    /// this stage reports the same. What it reports stays that of a text, if `kept` is one of an
-    /// input and what is open stands in its order before `next`. Outside the body it changes
-    /// nothing and returns `false`.
+    /// Reads `kept` again, the kept text of a syllable that is not whole. The stage is before this
+    /// syllable, of which nothing is read, and in no comment. After the text the brackets at
+    /// `openers` are open, a comment is open if `in_comment`, and the next character is at `next`.
+    /// Nothing is emitted, and findings are left out. Returns whether no syllable became whole and
+    /// no limit was passed. If so, what comes before and what is held are unchanged; else the stage
+    /// is over. If some stage past the comment in front, after the same and under the same limits,
+    /// reports this of the syllable that it reads, then the answer is `true`, and this stage
+    /// reports the same. What it reports stays that of a text, if `kept` is one of an input and the
+    /// places of `openers` are in order and before `next`. Outside the body it changes nothing and
+    /// returns `false`.
     pub fn read_again(
         &mut self,
         kept: &str,

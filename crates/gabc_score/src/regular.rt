@@ -1,4 +1,4 @@
-//! The length of the regular syllable that a text begins with.
+//! The lengths of the regular syllable that a text begins with.
 
 ghost use Rattle.std.specs.Prelude.{◌≡◌, ◌≤◌, ◌<◌, length, take, drop, slice_index, true, false, IfSome, IsTrue};
 ghost use Rattle.std.specs.List.{All};
@@ -16,7 +16,7 @@ use gabc_notes::regular_notes;
 use gabc_text::{SpanMark, regular_text};
 use memchr::memchr2;
 
-/// Returns which spans are open after `mark`, if `spans` are open before it.
+/// Returns the spans that are open after `mark`, if `spans` are open before it.
 #[inline(always)]
 pub(crate) fn spans_past(mark: Option<SpanMark>, spans: Spans) -> Spans
     ensures { result ≡ past_mark mark spans }
@@ -61,8 +61,8 @@ fn is_printable(byte: u8) -> bool
     byte > 0x1F && byte < 0x7F
 }
 
-/// Returns how many bytes the comment has that `bytes` begin with, with the LF that ends it, if it
-/// is of printable ASCII; else 0 (GregorioRef, "Comments").
+/// Returns the length in bytes of the comment that `bytes` begin with, with the LF that ends it, if
+/// it is of printable ASCII; else 0 (GregorioRef, "Comments").
 fn comment_len(bytes: &[u8]) -> usize
     ensures within { result ≤ length bytes.now }
     ensures gap { IsPlainGap (take result bytes.now) }
@@ -80,8 +80,8 @@ fn comment_len(bytes: &[u8]) -> usize
     }
 }
 
-/// Returns how many bytes the blank or the comment has that `bytes` begin with; 0, if none is known
-/// to be there.
+/// Returns the length in bytes of the blank or the comment that `bytes` begin with; 0, if none is
+/// known to be there.
 fn gap_part_len(bytes: &[u8]) -> usize
     requires { 0 < length bytes.now }
     ensures within { result ≤ length bytes.now }
@@ -94,7 +94,7 @@ fn gap_part_len(bytes: &[u8]) -> usize
     }
 }
 
-/// Returns how many of the first of `bytes` are blanks and comments that have ended.
+/// Returns the length in bytes of the blanks and ended comments that `bytes` begin with.
 fn gap_len(bytes: &[u8]) -> usize
     ensures within { result ≤ length bytes.now }
     ensures gap { IsPlainGap (take result bytes.now) }
@@ -110,7 +110,8 @@ fn gap_len(bytes: &[u8]) -> usize
     end
 }
 
-/// Returns how many of the first of `bytes` are plain: neither a CR nor the first byte of U+FEFF.
+/// Returns the number of first bytes of `bytes` that are plain: neither a CR nor the first byte of
+/// U+FEFF.
 #[inline(never)]
 pub(crate) fn plain_len(bytes: &[u8]) -> usize
     ensures within { result ≤ length bytes.now }
@@ -119,7 +120,7 @@ pub(crate) fn plain_len(bytes: &[u8]) -> usize
     memchr2(b'\r', 0xEF, bytes).unwrap_or(bytes.len())
 }
 
-/// Returns whether `bytes` are plain, as the first `plain` of them are.
+/// Returns whether all of `bytes` are plain, if the first `plain` of them are.
 #[inline(always)]
 fn are_plain(bytes: &[u8], plain: usize) -> bool
     requires { All IsPlainByte (take plain bytes.now) }
@@ -128,7 +129,7 @@ fn are_plain(bytes: &[u8], plain: usize) -> bool
     bytes.len() <= plain || plain_len(&bytes[plain..]) == bytes.len() - plain
 }
 
-/// Returns how many bytes of `text` its longest prefix has that is a regular snippet of line
+/// Returns the length in bytes of the longest prefix of `text` that is a regular snippet of line
 /// `line`: of GABC on line 0, of NABC on each other.
 #[inline(always)]
 pub(crate) fn snippet_len(line: u8, text: &str) -> usize
@@ -164,11 +165,11 @@ fn snippets_len(lines: u8, text: &str) -> usize
     0
 }
 
-/// Returns how long the regular syllable is that `text` begins with under `lines` NABC lines, if it
-/// begins with one that has no span mark but one at the beginning of its text. Nothing is found in
-/// it, and but for the blanks before its text it is its own canonical text
-/// (`regular_laws::a_regular_syllable_makes_its_spelling`). There may be one though it returns
-/// `None`. The first `plain` bytes of `text` are known to be plain.
+/// Returns the lengths of the regular syllable that `text` begins with under `lines` NABC lines, if
+/// it begins with one that has no span mark but one at the beginning of its text. Nothing is found
+/// in it, and but for the blanks before its text it is its own canonical text
+/// (`regular_laws::a_regular_syllable_makes_its_spelling`). If it returns `None`, there may be one
+/// nevertheless. The first `plain` bytes of `text` are known to be plain.
 #[inline(always)]
 pub(crate) fn regular_syllable(lines: u8, text: &str, plain: usize) -> Option<RegularLen>
     requires { All IsPlainByte (take plain text.now) }

@@ -1,5 +1,5 @@
-//! Laws of a regular syllable: what is emitted of it, and what it makes. Each function's contract
-//! is a law; its body calls the laws below that it stands on.
+//! Laws of a regular syllable: its events, and the syllable that it makes. Each function's contract
+//! is a law; its body calls the laws below that it rests on.
 
 ghost use Rattle.std.specs.Prelude.{◌≡◌, ◌<◌, ◌^◌, ℕ, List, [], ◌++◌, length, take, encode_utf8_all};
 ghost use Rattle.gabc_places.specs.declared.place.Char.{Char};
@@ -15,10 +15,10 @@ ghost use Rattle.gabc_body.specs.declared.events.BodyEvent.{BodyEvent};
 ghost use Rattle.gabc_score.specs.machine.Between.{Makes};
 ghost use Rattle.gabc_body.specs.SyllablesOfUnits.{characters_in};
 
-/// Law: a regular syllable is read as it stands, wherever it begins, whatever macros are defined
-/// and whatever follows: each of its characters has its list of events, nothing is found in it, and
-/// the next text begins after its `)`. It is blanks and comments or none, a regular text, and
-/// regular snippets, each of the line whose turn it is; if there are no NABC lines, it has one
+/// Law: a regular syllable is read as it is written, wherever it begins, whatever macros are
+/// defined and whatever follows: each of its characters has its list of events, nothing is found in
+/// it, and the next text begins after its `)`. It has blanks and comments or none, a regular text,
+/// and regular snippets, each of the line whose turn it is; if there are no NABC lines, it has one
 /// snippet. Its characters are those of its unit.
 pub fn a_regular_syllable_is_read_as_it_stands()
     ensures characters { (at : Place) (r : SyllableParts) →
@@ -35,9 +35,9 @@ pub fn a_regular_syllable_is_read_as_it_stands()
     gabc_nabc::laws::what_follows_emits_nothing();
 }
 
-/// Law: of a regular syllable a stage over a body emits what the syllable emits by itself, whatever
-/// follows. Then it emits what it emits of a text that begins with what follows, after the `)`. No
-/// count of the syllable may reach its last value.
+/// Law: over a regular syllable a stage over a body emits what the syllable emits by itself,
+/// whatever follows. Then it emits the events of a text that begins after the `)`, with what
+/// follows. No count of the syllable may reach its last value.
 pub fn a_stage_reads_a_regular_syllable_as_it_stands()
     ensures { (lines macros : ℕ) (at : Place) (r : SyllableParts) (xs : List Char) →
         IsRegularSyllable lines r → CountsFit at (spelled r) →
@@ -59,9 +59,9 @@ pub fn a_stage_reads_a_regular_syllable_as_it_stands()
 }
 
 /// Law: a regular syllable makes its own spelling, wherever it begins and whatever was emitted
-/// before: with its `)` it gives one syllable, in which nothing is found. The blanks before its
-/// text begin a word and are kept as one; the rest is kept as it stands, each snippet in its place,
-/// and is its canonical text.
+/// before: with its `)` it makes one syllable, in which nothing is found. The blanks before its
+/// text begin a word and are kept as one; the rest is kept as it is written, each snippet in its
+/// place, and is its canonical text.
 pub fn a_regular_syllable_makes_its_spelling()
     ensures { (lines macros : ℕ) (at : Place) (r : SyllableParts) (before : List BodyEvent) →
         IsRegularSyllable lines r → length (encode_utf8_all (spelled r)) < 2 ^ 63 →
@@ -81,9 +81,9 @@ pub fn a_regular_syllable_makes_its_spelling()
     gabc_nabc::laws::kept_again();
 }
 
-/// Law: a regular syllable that begins where a text begins makes one syllable, which depends on the
+/// Law: a regular syllable at the beginning of a text makes one syllable, which depends on the
 /// place, the characters and the open spans alone, whatever was gathered before: it is read to its
-/// end, and with it the held syllable is given, if there was one.
+/// end, and with it the held syllable is emitted, if there was one.
 pub(crate) fn a_regular_syllable_goes_through()
     ensures { (lines macros : ℕ) (at : Place) (r : SyllableParts) (spans : Spans) →
         IsRegularSyllable lines r → CountsFit at (spelled r) →

@@ -1,4 +1,4 @@
-//! A stage over a score that goes on after syllables which another one has read.
+//! A stage over a score that resumes after syllables which another one has read.
 
 ghost use Rattle.std.specs.Prelude.{◌≡◌, ◌<◌, ◌≤◌, ◌^◌, not, ℕ, None, IfOk, [], length, true, false};
 ghost use Rattle.std.specs.List.{list_any};
@@ -33,7 +33,7 @@ use gabc_text::TextStage;
 use std::alloc::AllocError;
 
 impl SlotPair {
-    /// Sets what stands before the syllable that is read.
+    /// Sets the totals before the syllable that is read to those that `before` reports.
     fn follow(&mut self, before: Before)
         ensures { self.new ≡ record self.old {
           gathered = gathered_after before self.old.gathered;
@@ -51,7 +51,7 @@ impl SlotPair {
 }
 
 impl BodyStage {
-    /// Begins to read a text, whose first character stands at `at`.
+    /// Begins to read a text, whose first character is at `at`.
     pub(crate) fn begin_text(&mut self, at: Place)
         ensures text { self.new ≡ record self.old { part = BodyPart.Text (fresh_stage at) } }
         ensures counts { CountsHold self.new.part nothing_open }
@@ -63,7 +63,7 @@ impl BodyStage {
 
 impl ScoreMachine {
     /// Returns a machine in the body, after the syllables that `before` reports, and reserves in
-    /// `memory` what it ever takes.
+    /// `memory` all the memory that it needs.
     fn resume(memory: &Memory, limits: Limits, before: Before) -> Result<ScoreMachine, AllocError>
         requires { IsAtOutset (preceding_of before) }
         ensures stands { IfOk result (λ m. IsAfterSyllables limits before (shown m)) }
@@ -112,7 +112,7 @@ fn has_error(events: &[ScoreEvent]) -> bool
 }
 
 impl ScoreMachine {
-    /// Returns whether it goes on in the body, and `events` report no error.
+    /// Returns whether the machine is still in the body, and `events` have no error.
     fn is_fine(&self, events: &[ScoreEvent]) -> bool
         ensures body { self.now.part ≡ ScorePart.Body →
             result ≡ not (list_any is_error_event events.now) }
@@ -124,8 +124,8 @@ impl ScoreMachine {
         }
     }
 
-    /// Reads a character, while no syllable is held. Returns whether no limit is passed with it,
-    /// and no error is found.
+    /// Reads the character `x`, while no syllable is held. Returns whether no limit is passed with
+    /// it, and no error is found. `room` is empty, and is left empty.
     fn read_alone(&mut self, x: Char, room: &mut Room<ScoreEvent>) -> bool
         requires alone { StandsAlone self.old }
         requires room { IsFree room.old }
@@ -139,9 +139,9 @@ impl ScoreMachine {
         is_fine
     }
 
-    /// Reads the characters of `text`, the first of which stands at `at`, while no syllable is
-    /// held. Returns whether one is whole with the last of them and none before, no limit is passed
-    /// and no error is found.
+    /// Reads the characters of `text`, the first of which is at `at`, while no syllable is held.
+    /// Returns whether a syllable is whole with the last of them and none before, no limit is
+    /// passed and no error is found. `room` is empty, and is left empty.
     pub(crate) fn read_all(&mut self, at: Place, text: &str, room: &mut Room<ScoreEvent>) -> bool
         requires alone { StandsAlone self.old }
         requires place { HasRoomFor at (length text.now) }
@@ -163,9 +163,9 @@ impl ScoreMachine {
         self.pair.has_held()
     }
 
-    /// Reads `text` as one syllable, which is held then, and begins to read the next text. Returns
-    /// whether it is one, with which no limit is passed and in which no error is found. If it is
-    /// none, nothing is read any more.
+    /// Reads `text` as one syllable, which is held from then on, and begins to read the next text.
+    /// Returns whether `text` is one syllable, with which no limit is passed and in which no error
+    /// is found. If not, the reading is over. `room` is empty, and is left empty.
     fn hold_again(&mut self, text: &str, room: &mut Room<ScoreEvent>) -> bool
         requires alone { BeginsAlone self.old }
         requires short { length text.now < 2 ^ 63 }
@@ -188,12 +188,12 @@ impl ScoreMachine {
 }
 
 impl ScoreStage {
-    /// Returns a stage in the body that stands after the syllables that `before` reports, and
-    /// reserves the memory that it ever takes, as `in_memory` does. It holds no syllable, and the
-    /// next character is the first of a text, at 1:1 until `go_to` says otherwise. `before` is what
-    /// another stage under the same limits reported of what stands before the syllable that it
-    /// held: if no syllable does, no span is open and nothing has sounded. It fails only for want
-    /// of memory.
+    /// Returns a stage in the body after the syllables that `before` reports, and reserves all the
+    /// memory that it needs, as `in_memory` does. It holds no syllable, and the next character is
+    /// the first of a text, at 1:1 unless `go_to` sets another place. `before` is what another
+    /// stage under the same limits reported as the context of the syllable that it held: if there
+    /// is no syllable before that one, no span is open and no note or clef has come. Fails only if
+    /// memory cannot be allocated.
     pub fn resume(memory: &Memory, limits: Limits, before: Before) -> Result<ScoreStage, AllocError>
         requires { IsAtOutset (preceding_of before) }
         ensures { IfOk result (λ stage. IsAfterSyllables limits before stage) }
@@ -207,9 +207,9 @@ impl ScoreStage {
     /// to read the next text. The stage has to begin a text at 1:1 and to hold no syllable. Returns
     /// whether `text` is one syllable: whole with its last character and not before, with which no
     /// limit is passed and in which no error is found. The spans that are open before it count, and
-    /// the stage stands after the same as before. If `text` is no syllable, the stage has come to
-    /// its end. If it is one of an input, what the stage reports stays that of a text. `room` is
-    /// empty, has room for 16 events, and is left empty.
+    /// the context of the stage is unchanged. If `text` is no syllable, the stage is over. If it is
+    /// one of an input, what the stage reports stays that of a text. `room` is empty, has room for
+    /// 16 events, and is left empty.
     pub fn hold_again(&mut self, text: &str, room: &mut Room<ScoreEvent>) -> bool
         requires begins { BeginsText self.old }
         requires none { held_of self.old ≡ None }

@@ -27,15 +27,15 @@ use gabc_body::{Spans, position_by};
 use gabc_places::{Limits, Place, Room};
 use gabc_text::{SpanMark, mark_at};
 
-/// The number of bytes that are looked at together for whether they are plain.
+/// The number of bytes that are tested for plain bytes at once.
 const MOST_LOOKED_AT: usize = 256;
 
-/// A regular syllable of a run, which is not given yet.
+/// A regular syllable of a run, not yet emitted.
 #[derive(Clone, Copy)]
 pub(crate) struct Found<'a> {
     /// Its characters.
     spelled: &'a str,
-    /// What follows them.
+    /// The text after it.
     rest: &'a str,
     /// The bytes of the blanks and comments before its text.
     gap: usize,
@@ -45,8 +45,8 @@ pub(crate) struct Found<'a> {
     plain: usize,
 }
 
-/// Returns how many of the first bytes of `rest` are known to be plain, if the first `left` are:
-/// looks further if `left` is 0.
+/// Returns the number of first bytes of `rest` that are known to be plain, if the first `left` are.
+/// If `left` is 0, tests further bytes.
 #[inline(always)]
 fn plain_after(rest: &str, left: usize) -> usize
     requires { All IsPlainByte (take left rest.now) }
@@ -91,8 +91,8 @@ fn find<'a>(
     })
 }
 
-/// Returns whether the lines and columns of `text`, whose first character stands at `at`, are far
-/// below the last value of a `u64`.
+/// Returns whether the lines and columns of `text`, whose first character is at `at`, are far below
+/// the last value of a `u64`.
 fn is_low(at: Place, text: &str) -> bool
     ensures line { result ≡ true → at.line + length text.now < 2 ^ 63 }
     ensures column { result ≡ true → at.column + length text.now < 2 ^ 63 }
@@ -118,8 +118,8 @@ impl<'a> Found<'a> {
         mark_at(&self.spelled.as_bytes()[self.gap..])
     }
 
-    /// Returns how many canonical bytes stand before the syllable after it, if `before` stand
-    /// before it.
+    /// Returns the number of canonical bytes before the next syllable, if there are `before` before
+    /// this one.
     #[inline(always)]
     fn canonical_after(self, before: usize) -> usize
         requires gap { self.gap ≤ length self.spelled.now }
@@ -130,8 +130,8 @@ impl<'a> Found<'a> {
         before + (self.spelled.len() - self.gap) + start
     }
 
-    /// Returns its slices, under `lines` NABC lines and with `spans` open. `next_starts` says
-    /// whether the next syllable begins a word.
+    /// Returns its slices, under `lines` NABC lines and with `spans` open after it. `next_starts`
+    /// says whether the next syllable begins a word.
     fn slices(self, lines: u8, spans: Spans, next_starts: bool) -> SpelledSyllable<'a>
         requires { BeginsRegularly lines (self.spelled.now ++ self.rest.now) (len_of self) }
         ensures is { IsSpelling result }
@@ -151,7 +151,7 @@ impl<'a> Found<'a> {
         }
     }
 
-    /// Returns whether a note or a clef comes with it in GABC, under `lines` NABC lines.
+    /// Returns whether its GABC has a note or a clef, under `lines` NABC lines.
     #[inline(never)]
     fn sounds(self, lines: u8) -> bool
         requires { BeginsRegularly lines (self.spelled.now ++ self.rest.now) (len_of self) }
@@ -162,8 +162,8 @@ impl<'a> Found<'a> {
         self.slices(lines, NO_SPANS, true).sounds()
     }
 
-    /// Gives it to `out`, under `lines` NABC lines and with `spans` open. `next_starts` says
-    /// whether the next syllable begins a word. Returns whether `out` takes it.
+    /// Passes it to `out`, under `lines` NABC lines and with `spans` open after it. `next_starts`
+    /// says whether the next syllable begins a word. Returns whether `out` took it.
     fn give<G: Give>(self, lines: u8, spans: Spans, next_starts: bool, out: &mut G) -> bool
         requires { BeginsRegularly lines (self.spelled.now ++ self.rest.now) (len_of self) }
         ensures given { result ≡ true → (is : BeginsRegularly lines
@@ -176,7 +176,7 @@ impl<'a> Found<'a> {
     }
 }
 
-/// The state of a run: before a syllable that was found and is not given yet.
+/// The state of a run: before a syllable that was found and is not yet emitted.
 #[derive(Clone, Copy)]
 pub(crate) struct Reached<'a> {
     /// That syllable.
@@ -190,7 +190,7 @@ pub(crate) struct Reached<'a> {
 }
 
 impl<'a> Reached<'a> {
-    /// Returns what stands before its syllable, if `begun` stands before the run.
+    /// Returns the totals before its syllable, if `begun` are those before the run.
     fn preceding(self, begun: Preceding) -> Preceding
         ensures { result ≡ before_by begun self.entry }
     {
@@ -204,8 +204,8 @@ impl<'a> Reached<'a> {
 }
 
 impl SlotPair {
-    /// Gives the held syllable its place in its word. `has_lent` says whether a syllable stands
-    /// before it, and `next_starts` whether the next one begins a word.
+    /// Gives the held syllable its position in its word. `has_lent` says whether there is a
+    /// syllable before it, and `next_starts` whether the next one begins a word.
     fn place_held(&mut self, has_lent: bool, next_starts: bool)
         requires used { self.old.used ≡ SlotUse.Filling }
         ensures gathered { self.new.gathered ≡ self.old.gathered }
@@ -219,8 +219,8 @@ impl SlotPair {
         self.holder.place(has_lent, next_starts);
     }
 
-    /// Drops the held syllable. Before the next one there are `total` canonical bytes, and `spans`
-    /// are open.
+    /// Drops the held syllable. `total` is the number of canonical bytes before the next one, and
+    /// `spans` are open there.
     fn forget_held(&mut self, total: usize, spans: Spans)
         requires used { self.old.used ≡ SlotUse.Filling }
         ensures gathered { self.new.gathered ≡ record self.old.gathered {
@@ -238,7 +238,7 @@ impl SlotPair {
 }
 
 impl ScoreMachine {
-    /// Returns whether it stands between two syllables, of which the first is held, and a text
+    /// Returns whether the machine is between two syllables, of which the first is held, and a text
     /// begins at `at`.
     fn is_between(&self, at: Place) -> bool
         requires rests { IsScore self.now }
@@ -256,7 +256,7 @@ impl ScoreMachine {
         self.body.begins_text(at)
     }
 
-    /// Returns whether the first note or clef comes with `found`, under `lines` NABC lines.
+    /// Returns whether the first note or clef of the score is in `found`, under `lines` NABC lines.
     #[inline(always)]
     fn is_first_with(&self, lines: u8, found: &Found<'_>) -> bool
         requires { BeginsRegularly lines (found.now.spelled.now ++ found.now.rest.now)
@@ -271,8 +271,8 @@ impl ScoreMachine {
         found.sounds(lines)
     }
 
-    /// Gives the held syllable to `out`. `next_starts` says whether the next one begins a word.
-    /// Returns whether `out` takes it.
+    /// Passes the held syllable to `out`. `next_starts` says whether the next one begins a word.
+    /// Returns whether `out` took it.
     fn give_held<G: Give>(&mut self, next_starts: bool, out: &mut G) -> bool
         requires used { self.old.pair.used ≡ SlotUse.Filling }
         requires short { All (IsShort self.old.limits.syllable) self.old.pair.gathered.made }
@@ -289,9 +289,8 @@ impl ScoreMachine {
         out.give(self.pair.first(), self.limits.syllable as usize + 1)
     }
 
-    /// Gives the syllables of a run to `out`, from the one that `begun` has found on, with which
-    /// `text` begins, as long as one follows and `out` takes them. Returns the state of the run
-    /// then.
+    /// Passes the syllables of a run to `out`, beginning with the one of `begun`, with which `text`
+    /// begins, as long as one follows and `out` takes them. Returns the state of the run then.
     #[inline(never)]
     fn give_on<'a, G: Give>(&self, begun: Reached<'a>, text: &'a str, out: &mut G) -> Reached<'a>
         requires found { IsFound self.now.body.nabc_lines self.now.limits begun.canonical
@@ -339,8 +338,8 @@ impl ScoreMachine {
         reached
     }
 
-    /// Goes on before a syllable whose first character stands at `at`, after `before`: those before
-    /// it are given, none is held.
+    /// Resumes before a syllable whose first character is at `at`, after `before`: those before it
+    /// are emitted, none is held.
     fn go_before(&mut self, before: Preceding, at: Place)
         requires { self.old.pair.used ≡ SlotUse.Filling }
         ensures { GoesBefore self.old before at self.new }
@@ -354,8 +353,8 @@ impl ScoreMachine {
         self.next = at;
     }
 
-    /// Ends a run in `text`, whose first character stands at `at`: reads the syllable that
-    /// `reached` has found by its characters, and holds it.
+    /// Ends a run in `text`, whose first character is at `at`: reads the syllable of `reached` by
+    /// its characters, and holds it. Returns the length of the run and the place after it.
     fn end_run(
         &mut self,
         at: Place,

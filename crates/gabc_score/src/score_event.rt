@@ -1,8 +1,8 @@
-//! What a stage over a score gives.
+//! The events of a stage over a score.
 
 use gabc_places::{Fault, Finding};
 
-/// Which of the syllables that a stage gave with one call.
+/// One of the syllables that a stage emitted with one call.
 #[derive(Clone, Copy, Debug, PartialEq, Eq)]
 pub enum BorrowedSyllable {
     /// The first of them.
@@ -11,15 +11,15 @@ pub enum BorrowedSyllable {
     Second,
 }
 
-/// What is given of a score.
+/// An event of a score.
 #[derive(Clone, Copy, Debug, PartialEq, Eq)]
 pub enum ScoreEvent {
     /// An error or a warning.
     Found(Finding),
-    /// The score is stopped here. Nothing follows.
+    /// The score is stopped here. No event follows.
     Stop(Fault),
     /// A whole syllable with its position, which the stage lends until its next call.
     Syllable(BorrowedSyllable),
-    /// The score has ended. Nothing follows.
+    /// The score has ended. No event follows.
     End,
 }

@@ -23,7 +23,7 @@ use gabc_headers::HeadEvent;
 use gabc_places::{Char, Fault, Finding, Limits, Memory, Place, Room};
 use std::alloc::AllocError;
 
-/// The part of a score in which a machine stands: before the body, in it, or after its last event.
+/// The part of a score in which a machine is: before the body, in it, or after its last event.
 #[derive(Clone, Copy)]
 pub(crate) enum ScorePart {
     Heads,
@@ -31,7 +31,7 @@ pub(crate) enum ScorePart {
     Over,
 }
 
-/// Takes the events of a stage of headers, and gives the score.
+/// Takes the events of a stage of headers, and emits the score.
 #[derive(Drop)]
 pub(crate) struct ScoreMachine {
     pub(crate) limits: Limits,
@@ -40,16 +40,16 @@ pub(crate) struct ScoreMachine {
     pub(crate) pair: SlotPair,
     /// The findings of the current input.
     pub(crate) found: Room<Finding>,
-    /// The place after the last character of the body.
+    /// The place of the next character of the body.
     pub(crate) next: Place,
-    /// What stands before and after the held syllable.
+    /// The totals before and after the held syllable.
     pub(crate) bounds: Bounds,
 }
 
 impl ScoreMachine {
-    /// Returns a machine in the body, whose first character stands at `at`, and reserves in
-    /// `memory` all that the reading takes. The canonical headers have `head` bytes, and `body` is
-    /// a new stage.
+    /// Returns a machine in the body, whose first character is at `at`, and reserves in `memory`
+    /// all the memory that it needs. The canonical headers have `head` bytes, and `body` is a new
+    /// stage.
     pub(crate) fn in_body(
         memory: &Memory,
         limits: Limits,
@@ -79,7 +79,7 @@ impl ScoreMachine {
         })
     }
 
-    /// Begins before the headers, as a new machine does. The memory stays reserved.
+    /// Goes back to before the headers, and drops what was gathered. The memory stays reserved.
     pub(crate) fn restart(&mut self)
         requires rests { IsScore self.old }
         ensures rests { IsScore self.new }
@@ -93,7 +93,7 @@ impl ScoreMachine {
         self.next = Place::START;
     }
 
-    /// Gives the last whole syllable and the fault. Nothing follows.
+    /// Emits the last whole syllable and the fault. No event follows.
     fn stop(&mut self, fault: Fault, out: &mut Room<ScoreEvent>)
         requires used { self.old.pair.used ≢ SlotUse.Lent }
         requires fits { Fits out.old 16 }
@@ -103,7 +103,8 @@ impl ScoreMachine {
         self.part = ScorePart::Over;
     }
 
-    /// Reads a character of the body, and adds what the body emits to what was gathered.
+    /// Reads the character `x` of the body, and adds its events to what was gathered, and their
+    /// findings to `found`.
     #[inline(always)]
     pub(crate) fn gather(&mut self, x: Char)
         requires { IsInBody self.old }
@@ -119,7 +120,7 @@ impl ScoreMachine {
         self.body.hold(&mut self.pair, &mut self.found);
     }
 
-    /// Reads a character of the body.
+    /// Reads the character `x` of the body.
     pub(crate) fn read(&mut self, x: Char, out: &mut Room<ScoreEvent>)
         requires stands { StandsInBody self.old }
         requires fits { Fits out.old 16 }
@@ -192,7 +193,7 @@ impl ScoreMachine {
         }
     }
 
-    /// Reads an input before the body.
+    /// Reads an input in the headers.
     #[inline(never)]
     fn push_in_heads(&mut self, input: HeadEvent, out: &mut Room<ScoreEvent>)
         requires part { self.old.part ≡ ScorePart.Heads }
@@ -239,8 +240,7 @@ impl ScoreMachine {
         }
     }
 
-    /// Returns what stands before the held syllable, or, if none is held, before the one that is
-    /// read.
+    /// Returns the context of the held syllable, or, if none is held, of the one that is read.
     pub(crate) fn before(&self) -> Before
         ensures { result ≡ before_with self.now.body self.now.bounds.before }
     {
@@ -277,7 +277,7 @@ impl ScoreMachine {
         }
     }
 
-    /// Breaks off in the body: the source has failed.
+    /// Breaks off in the body, as the source has failed.
     fn break_off(&mut self, out: &mut Room<ScoreEvent>)
         requires stands { StandsInBody self.old }
         requires fits { Fits out.old 16 }

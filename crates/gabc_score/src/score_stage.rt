@@ -29,9 +29,9 @@ use gabc_places::{Limits, Memory, Place, Room, Stage};
 use std::alloc::{AllocError, Global};
 use std::marker::Model;
 
-/// Takes the events of a stage of headers, and gives the score: what is found, each whole syllable
-/// with its position, and what stops the reading (GregorioRef, "Syllable Text Syntax"). A call
-/// gives at most 16 events. It asks for no memory once made.
+/// Takes the events of a stage of headers, and emits the score: the findings, each whole syllable
+/// with its position, and the fault that stops the reading (GregorioRef, "Syllable Text Syntax"). A
+/// call emits at most 16 events. Once made, it does not allocate.
 #[derive(Drop)]
 pub struct ScoreStage {
     pub(crate) machine: ScoreMachine,
@@ -49,14 +49,14 @@ impl Model for ScoreStage {
 }
 
 impl ScoreStage {
-    /// Returns a stage before the first event of the headers, and reserves the memory that it ever
-    /// takes: for two syllables of `limits.syllable` bytes. It gives what the definition says of
-    /// all events of which no count reaches its last value. A call gives at most 16 events, and
-    /// lends at most two syllables, at a character or a stop one; those after the first have no
-    /// notes, but one empty snippet. Their kept texts are within the limits, and so are their
-    /// canonical texts, but for the LF before them. A finding of the headers is passed on by
-    /// itself, until a stop or the end has come. After an LF of the body no comment is open. It
-    /// fails only for want of memory.
+    /// Returns a stage before the first event of the headers, and reserves all the memory that it
+    /// needs, for two syllables of `limits.syllable` bytes. It emits what the definition says of
+    /// all events of which no count reaches its last value. A call emits at most 16 events, of
+    /// which at most two are syllables, at a character or a stop at most one; those after the first
+    /// have no notes, but one empty snippet. Their kept texts are within the limits, and so are
+    /// their canonical texts, but for the LF before them. A finding of the headers is passed on by
+    /// itself, until a stop or the end has come. After an LF of the body no comment is open. Fails
+    /// only if memory cannot be allocated.
     pub fn with_limits(alloc: Global, limits: Limits) -> Result<ScoreStage, AllocError>
         ensures outputs { IfOk result (λ stage. (xs : List HeadEvent) → AreCountsBelow xs →
             left_of stage xs ≡ score_outputs texts_by_stage limits xs) }
@@ -90,8 +90,8 @@ impl ScoreStage {
         })
     }
 
-    /// Begins a score, as a new stage does, wherever the stage stands. What was borrowed is taken
-    /// back. It keeps its limits and its memory, and asks for none.
+    /// Begins a new score, as a new stage does, whatever the stage has read. Syllables borrowed
+    /// from it are taken back. It keeps its limits and its memory, and does not allocate.
     pub fn restart(&mut self)
         ensures outputs { (xs : List HeadEvent) → AreCountsBelow xs →
             left_of self.new xs ≡ score_outputs texts_by_stage self.old.limits xs }
@@ -101,11 +101,11 @@ impl ScoreStage {
         self.machine.restart();
     }
 
-    /// Takes whole syllables from the front of `text`, of which the first character stands at `at`,
-    /// and returns how far it went. At their characters it gives syllables and nothing else, to
-    /// `out`. From then on it gives what it would give had each of the characters been pushed. It
-    /// may stop early, and `push` takes the rest. `room` is empty, has room for 16 events, and is
-    /// left empty.
+    /// Takes whole syllables from the front of `text`, of which the first character is at `at`, and
+    /// returns how far it went. At their characters it passes syllables and nothing else to `out`.
+    /// From then on it emits what it would emit had each of the characters been pushed. It may stop
+    /// early, and `push` takes the rest. `room` is empty, has room for 16 events, and is left
+    /// empty.
     pub fn take_run<G: Give>(
         &mut self,
         at: Place,
@@ -125,18 +125,18 @@ impl ScoreStage {
         self.machine.take_run(at, text, room, out)
     }
 
-    /// Returns the limits under which it was made.
+    /// Returns its limits.
     pub fn limits(&self) -> Limits
         ensures { result ≡ self.now.limits }
     {
         self.machine.limits
     }
 
-    /// Returns what stands before the held syllable, or, if none is held, before the one that is
-    /// read: the numbers that the headers gave, and of the syllables before how many they are, how
-    /// many bytes they and the canonical headers have, which spans are open after them, and whether
-    /// one of them has a note or a clef in GABC. Before the headers are whole, and after the last
-    /// event, it returns `None`.
+    /// Returns the context of the held syllable, or, if none is held, of the one that is read: the
+    /// number of NABC lines and the macros, of the headers; and of the syllables before it their
+    /// number, the bytes of the canonical headers and of their canonical texts, the spans that are
+    /// open after them, and whether one of them has a note or a clef in GABC. Before the headers
+    /// are whole, and after the last event, it returns `None`.
     pub fn before(&self) -> Option<Before>
         ensures { result ≡ before_of self.now }
     {
@@ -146,9 +146,9 @@ impl ScoreStage {
         }
     }
 
-    /// Returns the held syllable, if there is one: it is whole, and is given when the next one is
-    /// whole, or at the last event. Outside the body it returns `None`. The syllable's position is
-    /// not known yet, and what it says of it counts for nothing.
+    /// Returns the held syllable, if there is one: it is whole, and is emitted when the next one is
+    /// whole, or at the last event. Outside the body it returns `None`. The position of the
+    /// syllable is not known yet, and the one that it has counts for nothing.
     pub fn held(&self) -> Option<&Syllable>
         ensures { MatchOption result (held_of self.now ≡ None)
             (λ s. held_of self.now ≡ Some (unplaced_of s.now)) }
@@ -164,8 +164,8 @@ impl ScoreStage {
         self.machine.reading()
     }
 
-    /// Returns the places of what is open: of the `(` of notes, and of a `<` or `[` inside. Outside
-    /// the body it returns `None`.
+    /// Returns the places of the open brackets: of the `(` of notes, and of a `<` or `[` inside.
+    /// Outside the body it returns `None`.
     pub fn openers(&self) -> Option<Openers>
         ensures { result ≡ in_body self.now.part (openers_of self.now.body.part) }
     {
@@ -185,9 +185,9 @@ impl ScoreStage {
         }
     }
 
-    /// Returns the place of the next character: after the last one that was pushed, or where
-    /// `go_to` put it. A text that is read has counted this place as long as each character stands
-    /// where the one before it ends. Outside the body it returns `None`.
+    /// Returns the place of the next character: after the last one that was pushed, or as `go_to`
+    /// set it. A text that is read has counted this place as long as each character is where the
+    /// one before it ends. Outside the body it returns `None`.
     pub fn next(&self) -> Option<Place>
         ensures { result ≡ next_of self.now }
     {
@@ -204,16 +204,16 @@ impl ScoreStage {
         self.machine.go_to(at);
     }
 
-    /// Returns the syllable that the last call gave as `lent`. If that gave none, the result is not
-    /// specified.
+    /// Returns the syllable that the last call emitted as `lent`. If it emitted none, the result is
+    /// not specified.
     pub fn syllable(&self, lent: BorrowedSyllable) -> &Syllable
         ensures { placed_of result.now ≡ borrowed_in lent self.now }
     {
         self.lent(lent).syllable
     }
 
-    /// Returns the syllable that `syllable` returns, and where its canonical text stands in its
-    /// kept text: the stage has looked for that at the `)`.
+    /// Returns the syllable that `syllable` returns, with the byte of its kept text at which its
+    /// canonical text begins, if it is known: the stage has looked for it at the `)`.
     pub fn lent(&self, lent: BorrowedSyllable) -> LentSyllable<'_>
         ensures placed { placed_of result.syllable.now ≡ borrowed_in lent self.now }
         ensures stands { StandsFrom result.kept_from (unplaced_of result.syllable.now) }

@@ -1,4 +1,4 @@
-//! A syllable that is read into memory reserved for it.
+//! A syllable that is read into reserved memory.
 
 use crate::first_sound::{FirstSound, first_sound};
 use gabc_body::{Position, Snippet, Snippets, Spans, Syllable, position_by};
@@ -7,8 +7,8 @@ use gabc_text::{TextPart, TextView};
 use std::alloc::AllocError;
 use std::marker::Model;
 
-/// A syllable that is being read, or was read. Its memory is reserved: as many bytes as a
-/// syllable may have, and what one more character can add.
+/// A syllable that is being read, or was read. Its memory is reserved: for the bytes of the longest
+/// syllable, and for those that one more character can add.
 #[derive(Drop)]
 pub(crate) struct Slot {
     syllable: Syllable,
@@ -63,7 +63,7 @@ impl Slot {
         })
     }
 
-    /// Drops what was read. The memory stays reserved.
+    /// Drops the syllable that was read. The memory stays reserved.
     pub(crate) fn clear(&mut self)
         ensures { self.new ≡ record self.old { reading = nothing_open } }
     {
@@ -83,7 +83,7 @@ impl Slot {
         };
     }
 
-    /// Adds a part of the view.
+    /// Adds `part` to the view.
     pub(crate) fn add(&mut self, part: TextPart)
         requires { FitsPiece self.old.limit self.old.reading }
         ensures { self.new ≡ record self.old {
@@ -93,7 +93,7 @@ impl Slot {
         self.syllable.text.add_reserved(part);
     }
 
-    /// Ends the part that is being read with this mark.
+    /// Ends the part that is being read with `mark`.
     fn mark(&mut self, mark: char)
         requires { FitsKept self.old.limit self.old.reading 4 }
         ensures { self.new ≡ record self.old {
@@ -114,7 +114,8 @@ impl Slot {
         self.mark('(');
     }
 
-    /// Ends the snippet of this line at this mark; `count` bytes of it are kept. Returns its span.
+    /// Ends the snippet of line `line` at `mark`; `count` bytes of the snippet are kept. Returns
+    /// its span.
     pub(crate) fn end_snippet(&mut self, line: u8, count: usize, mark: char) -> Span
         requires kept { FitsKept self.old.limit self.old.reading 4 }
         requires snippet { FitsSnippet self.old.limit self.old.reading }
@@ -133,7 +134,7 @@ impl Slot {
         span
     }
 
-    /// Adds the notes of a last text, one empty snippet.
+    /// Adds the notes of a last text, which are one empty snippet.
     pub(crate) fn add_no_notes(&mut self)
         ensures { self.new ≡ record self.old {
           reading = record self.old.reading { snippets = empty_snippet self.old.reading.kept ∷ [] };
@@ -155,8 +156,8 @@ impl Slot {
         self.syllable.nlba = spans.nlba;
     }
 
-    /// Gives the syllable its position in its word. `follows` says whether a syllable stands before
-    /// it, and `next_starts` whether the next one begins a word.
+    /// Gives the syllable its position in its word. `follows` says whether there is a syllable
+    /// before it, and `next_starts` whether the next one begins a word.
     pub(crate) fn place(&mut self, follows: bool, next_starts: bool)
         ensures { self.new ≡ record self.old {
           position = position_by (not follows || self.old.reading.view.word_start) next_starts;
@@ -166,14 +167,15 @@ impl Slot {
         self.syllable.position = position_by(starts, next_starts);
     }
 
-    /// Returns the bytes of a span of the kept text.
+    /// Returns the bytes of `span` in the kept text.
     pub(crate) fn slice(&self, span: Span) -> &[u8]
         ensures { result.now ≡ slice span self.now.reading.kept }
     {
         self.syllable.slice(span)
     }
 
-    /// Returns which comes first in the snippet of this span, a note or a clef.
+    /// Returns which comes first in the snippet of `span`, a note or a clef; `None`, if neither
+    /// does.
     #[inline(always)]
     pub(crate) fn first_sound_in(&self, span: Span) -> Option<FirstSound>
         ensures { kind_of result
@@ -185,7 +187,7 @@ impl Slot {
         self.first_sound_read(span)
     }
 
-    /// Returns which comes first in the snippet of this span, by reading its items.
+    /// Returns which comes first in the snippet of `span`, a note or a clef, by reading its items.
     #[inline(never)]
     fn first_sound_read(&self, span: Span) -> Option<FirstSound>
         ensures { kind_of result
@@ -207,7 +209,7 @@ ghost use Rattle.std.specs.Prelude.{◌≡◌, string_bytes};
 ghost use Rattle.std.specs.String.{string_capacity};
 ghost use Rattle.gabc_body.specs.Syllable.{prefix_of};
 
-/// Cuts a text to its first bytes, if a character ends there.
+/// Cuts `kept` to its first `to` bytes, if a character ends there.
 fn cut_text(kept: &mut String<Memory>, to: usize)
     ensures bytes { string_bytes kept.new ≡ prefix_of to (string_bytes kept.old) }
     ensures capacity { string_capacity kept.new ≡ string_capacity kept.old }

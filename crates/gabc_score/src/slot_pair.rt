@@ -26,33 +26,33 @@ pub(crate) enum SlotUse {
     Lent,
 }
 
-/// What was gathered of a body. Of its whole syllables only the last is held.
+/// The state gathered from the events of a body. Of its whole syllables only the last is held.
 #[derive(Drop)]
 pub(crate) struct SlotPair {
     /// The most bytes that a syllable may have.
     limit: usize,
     pub(crate) reader: Box<Slot, Memory>,
     pub(crate) used: SlotUse,
-    /// The byte from which on the kept text of the whole syllable in `reader` is its canonical
+    /// The byte at which the canonical text of the whole syllable in `reader` begins in its kept
     /// text, if it is known.
     pub(crate) reader_from: Option<usize>,
     /// The last whole syllable, if it is held.
     pub(crate) holder: Box<Slot, Memory>,
-    /// The same of the syllable in `holder`.
+    /// The same for the syllable in `holder`.
     pub(crate) holder_from: Option<usize>,
     pub(crate) held: bool,
-    /// Whether a syllable stands before the one that is read.
+    /// Whether there is a syllable before the one that is read.
     pub(crate) follows: bool,
     /// The spans that are open.
     pub(crate) spans: Spans,
-    /// The bytes of the canonical headers and of all syllables that stand before the one that is
-    /// read, or the last value.
+    /// The bytes of the canonical headers and of all syllables before the one that is read;
+    /// saturates.
     pub(crate) total: usize,
-    /// Whether one of them is longer than the limit.
+    /// Whether one of these syllables is longer than the limit.
     over: bool,
     /// The place of the bracket that the end of the input leaves open.
     cut: Option<Place>,
-    /// What came first in the GABC snippets that have ended, if a note or a clef has come.
+    /// Whether a note or a clef came first in the GABC snippets that have ended, if one has come.
     pub(crate) sounded: Option<FirstSound>,
 }
 
@@ -132,7 +132,7 @@ impl SlotPair {
         })
     }
 
-    /// Drops what was gathered: nothing was read, as in new slots. Their memory stays reserved.
+    /// Drops what was gathered, as in new slots. Their memory stays reserved.
     pub(crate) fn restart(&mut self)
         ensures gathered { self.new.gathered ≡ nothing_gathered self.old.gathered.limit 0 }
         ensures used { self.new.used ≡ SlotUse.Filling }
@@ -157,7 +157,7 @@ impl SlotPair {
         self.total = head;
     }
 
-    /// Takes back what was borrowed.
+    /// Takes back the borrowed syllables.
     pub(crate) fn free(&mut self)
         requires { is_made self.old.used ≡ false }
         ensures gathered { self.new.gathered ≡ self.old.gathered }
@@ -172,7 +172,7 @@ impl SlotPair {
         self.used = SlotUse::Filling;
     }
 
-    /// Adds what a text emits next.
+    /// Adds the next event of a text.
     #[inline(always)]
     pub(crate) fn add_text(&mut self, event: TextEvent)
         requires reads { self.old.used ≡ SlotUse.Filling }
@@ -191,7 +191,7 @@ impl SlotPair {
         }
     }
 
-    /// Opens or closes a span, if the part is a mark that does.
+    /// Opens or closes a span, if `part` is a mark that does.
     fn add_mark_of(&mut self, part: TextPart)
         requires { self.old.used ≡ SlotUse.Filling }
         ensures { self.new ≡ record self.old {
@@ -230,7 +230,7 @@ impl SlotPair {
         }
     }
 
-    /// Adds what a snippet of that line emits next.
+    /// Adds the next event of a snippet of line `line`.
     #[inline(always)]
     pub(crate) fn add_note(&mut self, line: u8, event: NoteEvent)
         requires reads { self.old.used ≡ SlotUse.Filling }
@@ -267,7 +267,7 @@ impl SlotPair {
         }
     }
 
-    /// Returns whether `line` is a line of GABC, and neither a note nor a clef has come in GABC.
+    /// Returns whether `line` is a line of GABC, and no note or clef has come in GABC.
     #[inline(always)]
     fn awaits_on(&self, line: u8) -> bool
         ensures { result ≡ awaits self.now.gathered.first_kind line }
@@ -275,8 +275,8 @@ impl SlotPair {
         line == 0 && self.sounded.is_none()
     }
 
-    /// Finds the first note or clef in the snippet of `line` that has ended, which has this span,
-    /// if neither came before.
+    /// Looks for the first note or clef in `span`, the snippet of line `line` that has ended, if
+    /// this is a line of GABC and neither came before.
     #[inline(always)]
     fn add_first_sound(&mut self, line: u8, span: Span)
         requires { self.old.used ≡ SlotUse.Filling }
@@ -306,8 +306,8 @@ impl SlotPair {
         self.used = SlotUse::Made;
     }
 
-    /// Closes the last text, if it has a piece, a centre or a translation: its notes are one
-    /// empty snippet. Returns whether it has.
+    /// Closes the last text, if it has a piece, a centre or a translation: its notes are one empty
+    /// snippet. Returns whether it did.
     pub(crate) fn close_last(&mut self) -> bool
         requires { self.old.used ≢ SlotUse.Lent }
         ensures gathered { self.new.gathered ≡ with_last self.old.gathered }
@@ -326,7 +326,7 @@ impl SlotPair {
         has_last
     }
 
-    /// Returns which limit is passed, if one is: at one point the one with the lower number.
+    /// Returns the code of the limit that is passed, if one is; the lower one, if two are.
     pub(crate) fn code(&self, limits: Limits) -> Option<Code>
         ensures code { result ≡ code_in limits self.now.gathered }
     {
@@ -344,7 +344,7 @@ impl SlotPair {
         }
     }
 
-    /// Returns whether a syllable is being read that is within its limit.
+    /// Returns whether a syllable is being read, and its kept text is within the limit.
     #[inline(always)]
     pub(crate) fn reads_on(&self) -> bool
         ensures short { result ≡ true →
@@ -367,7 +367,8 @@ impl SlotPair {
         }
     }
 
-    /// Returns the fault of the end, which is at this place: of an open bracket, or of a limit.
+    /// Returns the fault of the end, if there is one: of an open bracket, at its place, or else of
+    /// a limit, at `at`.
     pub(crate) fn end_fault(&self, limits: Limits, at: Place) -> Option<Fault>
         ensures fault { result ≡ end_fault limits at self.now.gathered }
     {
@@ -391,8 +392,9 @@ impl SlotPair {
         self.reader.syllable().text.word_start
     }
 
-    /// Gives the held syllable if the one that was read is whole, which is held from then on.
-    /// `has_lent` says whether one was borrowed before. Returns how many it gave, one or none.
+    /// Emits the held syllable if the one that was read is whole, which is held from then on.
+    /// `has_lent` says whether there is a syllable before it. Returns the number of syllables
+    /// emitted, 0 or 1.
     pub(crate) fn rotate(&mut self, has_lent: bool) -> usize
         ensures gathered { self.new.gathered ≡ with_held self.old.gathered }
         ensures lends { lent_syllables result self.new ≡ take (length self.old.gathered.made - 1)
@@ -419,7 +421,8 @@ impl SlotPair {
         }
     }
 
-    /// Gives the held syllable as the last one. Returns how many it gave, one or none.
+    /// Emits the held syllable as the last one. `has_lent` says whether there is a syllable before
+    /// it. Returns the number of syllables emitted, 0 or 1.
     pub(crate) fn give_held(&mut self, has_lent: bool) -> usize
         requires { self.old.used ≢ SlotUse.Lent }
         ensures { LendsLast self.old (placed_after has_lent self.old.held) 1 result self.new }
@@ -428,7 +431,8 @@ impl SlotPair {
         if self.held { 1 } else { 0 }
     }
 
-    /// Gives the held syllable, and after it the one that was made last. Returns how many it gave.
+    /// Emits the held syllable, and after it the one that was made last. `has_lent` says whether
+    /// there is a syllable before it. Returns the number of syllables emitted, at most 2.
     pub(crate) fn give_all(&mut self, has_lent: bool) -> usize
         requires { self.old.used ≢ SlotUse.Lent }
         ensures { LendsLast self.old (placed_after has_lent self.old.gathered.made) 2
@@ -463,8 +467,8 @@ fn has_text(view: &TextView) -> bool
     !view.pieces.as_slice().is_empty() || view.centre.is_some() || view.translation.is_some()
 }
 
-/// Returns whether a span is open after a piece of this kind and spelling, by the tags that open
-/// and close it.
+/// Returns whether a span is open after a piece of kind `kind` spelled `spelled`, if `was` says so
+/// before it. The tag `opening` opens it, and `closing` closes it.
 fn is_open_after(opening: &[u8], closing: &[u8], was: bool, kind: PieceKind, spelled: &[u8]) -> bool
     ensures { result ≡ is_open_after opening.now closing.now was kind spelled.now }
 {

@@ -11,7 +11,7 @@ use gabc_body::{Position, Spans};
 use gabc_notes::first_note_or_clef;
 use gabc_text::translation_from;
 
-/// A regular syllable as it is spelled, in a slice of the text that it stands in.
+/// A regular syllable as it is spelled, in a slice of the text that has it.
 #[derive(Clone, Copy)]
 pub struct SpelledSyllable<'a> {
     /// Its position in its word.
@@ -35,13 +35,13 @@ pub struct SpelledSnippet<'a> {
     pub text: &'a str,
 }
 
-/// The snippets of a regular syllable that are still to come.
+/// The remaining snippets of a regular syllable.
 #[derive(Clone, Copy)]
 pub struct SpelledSnippets<'a> {
     lines: u8,
     /// The line of the next one.
     line: u8,
-    /// The next one and what follows it, through the `)`.
+    /// The next one and the text after it, through the `)`.
     rest: &'a str,
     /// Whether no snippet is left.
     over: bool,
@@ -56,7 +56,7 @@ impl<'a> SpelledSyllable<'a> {
         self.canonical.split_at(self.opening).0
     }
 
-    /// Returns its text and its translation with its brackets, of which either may be empty;
+    /// Returns its text, and its translation with its brackets, either of which may be empty;
     /// `None`, if it is not known where the translation begins.
     pub fn text_and_translation(self) -> Option<(&'a [u8], &'a [u8])>
         requires { IsSpelling self }
@@ -83,7 +83,7 @@ impl<'a> SpelledSyllable<'a> {
         }
     }
 
-    /// Returns whether a note or a clef stands in its snippets of GABC.
+    /// Returns whether its snippets of GABC have a note or a clef.
     pub(crate) fn sounds(self) -> bool
         requires { IsSpelling self }
         ensures { (is : IsSpelling self.entry) →
@@ -100,7 +100,7 @@ impl<'a> SpelledSyllable<'a> {
 }
 
 impl<'a> SpelledSnippet<'a> {
-    /// Returns whether it is of GABC, and a note or a clef stands in it.
+    /// Returns whether it is of GABC, and has a note or a clef.
     fn sounds(self) -> bool
         ensures { result ≡ sounds_on_line (self.entry.line, self.entry.text.now) }
     {
@@ -109,7 +109,7 @@ impl<'a> SpelledSnippet<'a> {
 }
 
 impl<'a> SpelledSnippets<'a> {
-    /// Returns how many bytes the next snippet has.
+    /// Returns the length of the next snippet in bytes.
     #[inline(never)]
     fn next_len(self) -> usize
         requires { (nexts : List (List ℕ)) × ((final : List ℕ) × AreToCome self nexts final) }

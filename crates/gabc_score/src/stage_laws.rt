@@ -49,8 +49,8 @@ use gabc_places::{Limits, Place, Room, Stage, drive};
 use std::alloc::{AllocError, Global};
 
 /// Law: a fresh stage over a score, driven over `inputs` of which no count reaches its last value,
-/// gives what the definition gives of them, each syllable as the event that lends it. For want of
-/// memory nothing is given.
+/// emits what the definition says of them, each syllable as the event that lends it. If memory
+/// cannot be allocated, nothing is emitted.
 pub fn a_fresh_stage_emits(
     alloc: Global,
     limits: Limits,
@@ -69,12 +69,12 @@ pub fn a_fresh_stage_emits(
     Ok(())
 }
 
-/// Law: what an input gives: the next outputs, as events, and the stage lends their syllables. What
+/// Law: at an input the stage emits the next outputs, as events, and lends their syllables. What
 /// the stage reports stays that of a text, if the input may come of one and a text that is read has
 /// counted the place of the next character. An input may come of a text if the numbers of the
-/// headers are in range, and if a character stands where the next one does, at a place whose
-/// numbers have not reached their last value, and is no CR and no U+FEFF. Whatever comes in, none
-/// is held only where no syllable was given, if that was so before.
+/// headers are in range, and if a character is where the next one is expected, at a place whose
+/// numbers have not reached their last value, and is no CR and no U+FEFF. Whatever the input, if no
+/// syllable is held only as long as none was emitted, this stays so.
 pub fn an_input_is_taken(stage: &mut ScoreStage, input: HeadEvent, out: &mut Room<ScoreEvent>)
     requires { Fits out.old 16 }
     ensures { GivesAt stage.old input stage.new out.old out.new }
@@ -82,15 +82,15 @@ pub fn an_input_is_taken(stage: &mut ScoreStage, input: HeadEvent, out: &mut Roo
     stage.push(input, out);
 }
 
-/// Law: where the inputs of a stage just cease, it gives no finding, no stop and no end then,
-/// whatever it has read.
+/// Law: if the inputs of a stage just cease, it emits no finding, no stop and no end then, whatever
+/// it has read.
 pub fn inputs_that_cease_give_no_stop()
     ensures findings { (s : ScoreStageState) → findings_in (concat_of (left_of s [])) ≡ [] }
     ensures stop { (s : ScoreStageState) → fault_in (concat_of (left_of s [])) ≡ None }
     ensures end { (s : ScoreStageState) → has_end (concat_of (left_of s [])) ≡ false }
 {}
 
-/// Law: where the inputs of a stage just cease, it gives at most one syllable then, the one that it
+/// Law: if the inputs of a stage just cease, it emits at most one syllable then, the one that it
 /// holds.
 pub fn at_most_one_syllable_is_held(stage: &ScoreStage)
     ensures { length (syllables_in (concat_of (left_of stage.now []))) ≤ 1 }
@@ -98,8 +98,8 @@ pub fn at_most_one_syllable_is_held(stage: &ScoreStage)
     machine_laws::at_most_one_is_given(&stage.machine);
 }
 
-/// Law: where a stage stands, whatever it has read, a stage may stand. The laws of stages that may
-/// stand so hold of it, and of what it reported once it is gone.
+/// Law: each state of a stage is reachable, whatever it has read. The laws of reachable states hold
+/// of it, and of what it reported once it is gone.
 pub fn a_stage_is_reachable(stage: &ScoreStage)
     ensures { IsReachable stage.now }
 {
@@ -107,10 +107,10 @@ pub fn a_stage_is_reachable(stage: &ScoreStage)
 }
 
 /// Law: in the body what a stage reports is within its limits, whatever it has read. The kept text
-/// of the syllable that is read is no longer than a syllable may be, nor is the canonical text of
-/// the one that is held, with its LF if it begins a word; with what stands before it and a last LF
-/// this is within the limit of the input. Before the first syllable no span is open, and nothing
-/// has sounded. Inside a tag, a raw part, a translation or a raw bracket no comment is open.
+/// of the syllable that is read is no longer than the limit of a syllable, nor is the canonical
+/// text of the held one, with its LF if it begins a word; with what comes before it and a last LF
+/// this is within the limit of the input. Before the first syllable no span is open, and no note or
+/// clef has come. Inside a tag, a raw part, a translation or a raw bracket no comment is open.
 pub fn what_is_reported_is_within_the_limits()
     ensures { (s : ScoreStageState) → IsReachable s → is_some (before_of s) ≡ true → ReportsWithin s }
 {
@@ -118,8 +118,8 @@ pub fn what_is_reported_is_within_the_limits()
     gabc_notes::laws::an_opener_is_reported_inside_raw();
 }
 
-/// Law: in the body the whole syllables are those that were given, and the one that is held, if one
-/// is, whatever a stage has read.
+/// Law: in the body the whole syllables are those that were emitted, and the held one, if there is
+/// one, whatever a stage has read.
 pub fn whole_syllables_are_given_or_held(stage: &ScoreStage)
     requires runs { is_some (before_of stage.now) ≡ true }
     ensures { whole_syllables stage.now
@@ -128,8 +128,8 @@ pub fn whole_syllables_are_given_or_held(stage: &ScoreStage)
     machine_laws::whole_ones_are_given_or_held(&stage.machine);
 }
 
-/// Law: what a stage of headers gives before the body may come of a text, wherever the next
-/// character stands.
+/// Law: the events that a stage of headers emits before the body may come of a text, whatever the
+/// place of the next character.
 pub fn headers_may_come()
     ensures { (limits : Limits) (t : List ℕ) (x : Char) (next : Place) →
         All (MayCome limits next) (events_of_input limits (reading t) (Ok x)) }
@@ -138,8 +138,8 @@ pub fn headers_may_come()
     gabc_headers::laws::the_numbers_of_headers_are_in_range();
 }
 
-/// Law: what a stage reports is still that of a text where its next character is said to stand
-/// there, if that is no earlier.
+/// Law: if the place of the next character is set to one that is no earlier, what a stage reports
+/// is still that of a text.
 pub fn what_is_reported_may_move(stage: &mut ScoreStage, at: Place)
     requires later { IsUpTo stage.old.held.next at }
     requires place { IsPlace at }
@@ -149,30 +149,30 @@ pub fn what_is_reported_may_move(stage: &mut ScoreStage, at: Place)
     stage.go_to(at);
 }
 
-/// Law: what a stage reports that goes on after syllables, and has read nothing yet, is that of a
-/// text, where the counts of what stands before it are in range.
+/// Law: what a stage reports that resumes after syllables, and has read nothing yet, is that of a
+/// text, if the counts of what comes before it are in range.
 pub fn a_resumed_stage_reports_a_text()
     ensures { (limits : Limits) (before : Before) (s : ScoreStageState) →
         IsAfterSyllables limits before s →
         AreCountsWithin limits before.nabc_lines before.macros before.canonical → ReportsText s }
 {}
 
-/// Law: where a stage begins to read a text, no comment is open.
+/// Law: at the beginning of a text no comment is open.
 pub fn a_text_begins_outside_a_comment()
     ensures { (s : ScoreStageState) → BeginsText s → is_in_comment s.body.part ≡ false }
 {
     gabc_text::laws::a_fresh_stage_reports_nothing_open();
 }
 
-/// Law: in the body, while the comment after the `%%` is open, a stage stands in front of the first
+/// Law: in the body, while the comment after the `%%` is open, a stage is in front of the first
 /// text: no syllable is whole, and nothing is read of one.
 pub fn in_front_nothing_is_read()
     ensures { (s : ScoreStageState) → IsReachable s → is_some (before_of s) ≡ true →
         is_in_front s.body.part ≡ true → IsInFront s }
 {}
 
-/// Law: in front of the first text a stage gives the same of whatever follows, wherever the next
-/// character is said to stand: its place counts only once the character has come.
+/// Law: in front of the first text a stage emits the same of whatever follows, whatever the place
+/// of the next character is set to: its place counts only once the character has come.
 pub fn a_body_may_begin_anywhere(stage: &ScoreStage)
     requires { IsInFront stage.now }
     ensures { (place : Place) (xs : List HeadEvent) →
@@ -181,20 +181,21 @@ pub fn a_body_may_begin_anywhere(stage: &ScoreStage)
     machine_laws::a_body_begins_anywhere(&stage.machine);
 }
 
-/// Law: a stage gives the end only where the end is among its inputs, whatever it has read.
+/// Law: a stage emits the end only if the end is among its inputs, whatever it has read.
 pub fn the_end_comes_with_the_end()
     ensures { (s : ScoreStageState) (xs : List HeadEvent) → HasNoEnd xs →
         has_end (concat_of (left_of s xs)) ≡ false }
 {}
 
-/// Law: after a stop a stage gives nothing, whatever it has read and whatever follows.
+/// Law: after a stop a stage emits nothing, whatever it has read and whatever follows.
 pub fn nothing_follows_a_stop()
     ensures { (s : ScoreStageState) (fault : Fault) (later : List HeadEvent) →
         concat_of (left_of s (Stop fault ∷ later)) ≡ concat_of (left_of s (Stop fault ∷ [])) }
 {}
 
-/// Law: of whatever a stage of headers emits of a text with fewer than 2^63 bytes no count reaches
-/// its last value, and a score reads the texts of its body by their machine as by their definition.
+/// Law: over a text with fewer than 2^63 bytes a stage of headers emits events of which no count
+/// reaches its last value, and a score reads the texts of its body by their machine as by their
+/// definition.
 pub fn texts_are_read_in_full()
     ensures counts { (limits : Limits) (ending : InputEnding) (t : List ℕ) →
         length (encode_utf8_all t) < 2 ^ 63 → AreCountsBelow (head_events limits ending t) }
@@ -207,9 +208,8 @@ pub fn texts_are_read_in_full()
     gabc_text::laws::a_fresh_stage_emits_the_events_by_point();
 }
 
-/// Law: a stage over a body that stands at the beginning of a text emits of the characters from
-/// there on what the definition says of a text that begins there, if no count of theirs reaches its
-/// last value.
+/// Law: a stage over a body at the beginning of a text emits of the characters from there on what
+/// the definition says of a text that begins there, if no count of theirs reaches its last value.
 pub fn a_text_is_read_from_its_beginning()
     ensures { (r : BodyStageState) (at : Place) (t : List ℕ) →
         r.part ≡ Text (fresh_stage at) → CountsFit at t →
@@ -220,9 +220,9 @@ pub fn a_text_is_read_from_its_beginning()
     gabc_text::laws::a_fresh_stage_emits_the_events_by_point();
 }
 
-/// Law: a fresh stage over a score gives what the definition says of a text with fewer than 2^63
-/// bytes, however its input ended, once it takes what a stage of headers emits of this text.
-/// Returns this stage.
+/// Law: a fresh stage over a score emits what the definition says of a text with fewer than 2^63
+/// bytes, however its input ended, once it takes the events that a stage of headers emits of this
+/// text. Returns this stage.
 pub fn a_fresh_stage_reads_texts(alloc: Global, limits: Limits) -> Result<ScoreStage, AllocError>
     ensures { IfOk result (λ stage. (ending : InputEnding) (t : List ℕ) →
         length (encode_utf8_all t) < 2 ^ 63 →
@@ -232,12 +232,12 @@ pub fn a_fresh_stage_reads_texts(alloc: Global, limits: Limits) -> Result<ScoreS
     ScoreStage::with_limits(alloc, limits)
 }
 
-/// Law: two stages in the body that run under the same limits and report the same give the same of
-/// whatever follows, if both or none of them stand in front of the first text. They report the same
-/// where this is the same: what stands before the syllable that is held, the kept text of the one
-/// that is read, what is open, whether a comment is, and where the next character stands, as a text
-/// that is read has counted it. The syllables that they hold need only say the same: then that of
-/// the one stands where the other gives its own.
+/// Law: two stages in the body that run under the same limits and report the same emit the same of
+/// whatever follows, if both or none of them are in front of the first text. They report the same
+/// if these are the same: the context of the held syllable, the kept text of the one that is read,
+/// the open brackets, whether a comment is open, and the place of the next character, as a text
+/// that is read has counted it. The syllables that they hold need only say the same: then the one
+/// emits its own at the point at which the other emits its own.
 pub fn stages_that_report_the_same_agree()
     ensures { (one other : ScoreStageState) → IsReachable one → IsReachable other → AreEquivalent one other →
         is_in_front one.body.part ≡ is_in_front other.body.part →
@@ -250,8 +250,8 @@ pub fn stages_that_report_the_same_agree()
     gabc_nabc::laws::stages_after_one_text_agree();
 }
 
-/// Law: so it is where only one of them stands in front of the first text, and the other in a
-/// comment of a text of which nothing is read, if the characters that follow stand one after the
+/// Law: the same holds if only one of them is in front of the first text, and the other in a
+/// comment of a text of which nothing is read, if the characters that follow are one after the
 /// other, from the place of the next one on.
 pub fn stages_that_report_the_same_agree_in_line()
     ensures { (one other : ScoreStageState) → IsReachable one → IsReachable other → AreEquivalent one other →
@@ -266,7 +266,7 @@ pub fn stages_that_report_the_same_agree_in_line()
 }
 
 /// Law: the whole syllable that a stage holds, whatever it has read, holds some unit: a text and
-/// its notes, with one snippet where there are no NABC lines.
+/// its notes, with one snippet if there are no NABC lines.
 pub fn what_is_held_holds_a_unit()
     ensures { (s : ScoreStageState) → IsReachable s →
         IfSome (held_of s) (HoldsSomeUnit s.body.nabc_lines) }
@@ -277,15 +277,15 @@ pub fn what_is_held_holds_a_unit()
     gabc_nabc::laws::kept_again();
 }
 
-/// Law: where the inputs of a stage just cease, whatever it has read, each syllable that it gives
-/// then is the one that it holds.
+/// Law: if the inputs of a stage just cease, whatever it has read, each syllable that it emits then
+/// is the one that it holds.
 pub fn what_breaks_off_is_held()
     ensures { (s : ScoreStageState) → IsReachable s → All (λ p. held_of s ≡ Some p.made)
         (syllables_in (concat_of (left_of s []))) }
 {}
 
-/// Law: which spans are open after the whole syllable that a stage holds, whatever it has read,
-/// follows from its text and from those that are open before it.
+/// Law: the spans that are open after the whole syllable that a stage holds, whatever it has read,
+/// follow from its text and from those that are open before it.
 pub fn spans_of_what_is_held_follow()
     ensures { (s : ScoreStageState) → IsReachable s →
         IfSome (held_of s) (FollowsSpans s.before.spans) }
@@ -316,7 +316,7 @@ pub fn what_is_held_is_in_utf8(stage: &ScoreStage)
 }
 
 /// Law: the whole syllable that a stage holds, whatever it has read, is within the stage's limits,
-/// wherever it stands in its word.
+/// whatever its position in its word.
 pub fn what_is_held_is_within_the_limits()
     ensures { (s : ScoreStageState) → IsReachable s →
         IfSome (held_of s) (IsWithinAnywhere s.limits) }
@@ -336,7 +336,7 @@ pub fn a_comment_in_front_can_be_read_in_a_text()
         CanBeReadInText s }
 {}
 
-/// Law: a text that is read by itself after the same is one syllable, and no other.
+/// Law: a text read by itself after the same is one syllable at most.
 pub fn a_text_is_one_syllable()
     ensures { (limits : Limits) (before : Before) (text : List ℕ) (m n : UnplacedSyllable) →
         MayBeHeld limits before text m → MayBeHeld limits before text n → m ≡ n }
@@ -351,10 +351,10 @@ pub fn one_syllable_keeps_no_more_than_its_text()
         IsReadAsSyllable lines macros t spans other m × (length m.kept ≤ other) }
 {}
 
-/// Reads again what `told` reports of the syllable that it reads, in a stage that stands before
-/// this syllable. Both stand after the same and under the same limits, and the syllables that they
-/// hold say the same. From then on `again` gives what `told` gives, but for the syllable that is
-/// held.
+/// Law: a stage that reads again the kept text that `told` reports emits what `told` emits. `again`
+/// is before this syllable, both are after the same and under the same limits, and the syllables
+/// that they hold say the same. From then on `again` emits what `told` emits, but for the held
+/// syllable.
 pub fn a_kept_text_gives_the_stage_back(told: &ScoreStage, again: &mut ScoreStage)
     requires runs { is_some (before_of told.now) ≡ true }
     requires front { is_in_front told.now.body.part ≡ false }

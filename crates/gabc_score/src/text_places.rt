@@ -9,7 +9,7 @@ ghost use Rattle.gabc_score.specs.machine.PlaceByBytes.{begins_character};
 use gabc_places::Place;
 use memchr::memchr;
 
-/// The number of bytes that are looked at together when characters are counted.
+/// The number of bytes in which characters are counted at once.
 const MOST_COUNTED: usize = 240;
 
 /// Returns whether a character begins with `byte`, a byte of a text.
@@ -20,8 +20,8 @@ fn begins_character(byte: u8) -> bool
     byte < 0x80 || byte > 0xBF
 }
 
-/// Returns how many characters begin in `bytes`, of which there are at most 255. The count is a
-/// byte, so that many bytes are looked at together.
+/// Returns the number of characters that begin in `bytes`, of which there are at most 255. The
+/// count is a byte, so that many bytes are counted at once.
 #[tactic(auto, using(std::proofs::lemmas::List::Sums::count_by_more_yes, std::proofs::lemmas::List::Sums::count_by_more_no))]
 fn characters_in_few(bytes: &[u8]) -> u8
     requires { length bytes.now < 256 }
@@ -37,7 +37,7 @@ fn characters_in_few(bytes: &[u8]) -> u8
     n
 }
 
-/// Returns how many characters begin in `bytes`.
+/// Returns the number of characters that begin in `bytes`.
 fn characters_in(bytes: &[u8]) -> u64
     ensures count { result ≡ count_by begins_character bytes.now }
     ensures few { result ≤ length bytes.now }
@@ -52,7 +52,7 @@ fn characters_in(bytes: &[u8]) -> u64
     n
 }
 
-/// Returns the place after `text`, whose first character stands at `at`.
+/// Returns the place after `text`, whose first character is at `at`.
 pub(crate) fn place_past(at: Place, text: &str) -> Place
     requires line { at.line + length text.now < 2 ^ 64 }
     requires column { at.column + length text.now < 2 ^ 64 }

@@ -1,4 +1,4 @@
-//! Syllables of a run that wait for those that follow.
+//! The syllables of a run that wait to be given together.
 
 ghost use Rattle.std.specs.Prelude.{◌≡◌, ◌+◌, ◌-◌, ◌<◌, ◌≤◌, ℕ, List, drop, length, nat_lt};
 ghost use Rattle.std.specs.String.Boundary.{IsSplitPoint};
@@ -14,18 +14,18 @@ use crate::give::Give;
 pub(crate) struct Waiting<'a> {
     /// The text from that of the first of them on; if none waits, from that of the next one on.
     text: &'a str,
-    /// Whether that one begins a word.
+    /// Whether the first of them, or else the next one, begins a word.
     starts: bool,
-    /// How many syllables of the run stand before it.
+    /// The number of syllables of the run before it.
     earlier: u64,
-    /// How many bytes they may have together, with one more.
+    /// The least number of bytes that they may not have together.
     most: usize,
 }
 
 impl<'a> Waiting<'a> {
     /// Returns the state in which none waits, before the syllable that `text` begins with, which
-    /// has a gap of `gap` bytes before its text. `earlier` syllables of the run stand before it,
-    /// and `most` bytes may be given together.
+    /// has a gap of `gap` bytes before its text. `earlier` syllables of the run come before it, and
+    /// fewer than `most` bytes may be given together.
     #[inline(always)]
     pub(crate) fn none(text: &'a str, gap: usize, earlier: u64, most: usize) -> Waiting<'a>
         requires { IsSplitPoint text.now gap }
@@ -43,7 +43,7 @@ impl<'a> Waiting<'a> {
         }
     }
 
-    /// Returns whether some wait, if `count` syllables of the run stand before the next one.
+    /// Returns whether some wait, if `count` syllables of the run come before the next one.
     #[inline(always)]
     pub(crate) fn is_some(self, count: u64) -> bool
         ensures { result ≡ nat_lt self.entry.earlier count }
@@ -60,8 +60,8 @@ impl<'a> Waiting<'a> {
         self.text.len() - left < self.most
     }
 
-    /// Gives all but the last `left` bytes of the text to `out`: those that wait, and what stands
-    /// before the syllable with `count` syllables of the run before it.
+    /// Passes all but the last `left` bytes of the text to `out` at once: the syllables that wait,
+    /// up to the one with `count` syllables of the run before it.
     #[inline(always)]
     pub(crate) fn give<G: Give>(self, count: u64, left: usize, out: &mut G)
         requires front { (front : List ℕ) × HasFront self.text.now front left }

@@ -20,11 +20,11 @@ use std::hash::DefaultHasher;
 
 /// Reads the score of `text`, whose input ended as `ending` says, under `limits` (GregorioRef,
 /// "Headers" and "Syllable Text Syntax"). Returns the book of its headers, if they are whole; its
-/// whole syllables, each with its text, kept text, snippets, position and flags; what was found;
-/// and the fault, the earliest that a rule gives. What has its point at the stop is hidden.
-/// `gabc_places::text_of` gives the text, and the fault of an `InputEnding::At`. It fails only for
-/// want of memory. The names of headers are hashed with a fixed key: if strangers write the text
-/// and `limits.header` is large, take `score_whole_with_hasher`.
+/// whole syllables, each with its text, kept text, snippets, position and flags; the findings; and
+/// the fault, the earliest that a rule gives. Findings whose point is at the stop are hidden.
+/// `gabc_places::text_of` gives the text, and the fault of an `InputEnding::At`. Fails only if
+/// memory cannot be allocated. The names of headers are hashed with a fixed key: if strangers write
+/// the text and `limits.header` is large, use `score_whole_with_hasher`.
 pub fn score_whole(
     alloc: Global,
     text: &Text,
@@ -64,19 +64,20 @@ pub fn score_whole_with_hasher(
     })
 }
 
-/// What a score says beside its syllables.
+/// A score without its syllables.
 #[derive(Debug, Drop)]
 pub struct ScoreRest {
     /// The headers that count; none if a fault lies in the headers.
     pub book: Option<HeaderBook>,
-    /// What was found before the stop, in the order of places.
+    /// The findings before the stop, in the order of places.
     pub findings: Findings,
-    /// What stopped the reading, if something did.
+    /// The fault that stopped the reading, if there is one.
     pub fault: Option<Fault>,
 }
 
-/// Reads the score of `text` as `score_whole_with_hasher` does, gives its syllables to `taker`, and
-/// returns the rest. If memory lacks, `taker` may have taken some of them.
+/// Reads the score of `text` as `score_whole_with_hasher` does, passes its syllables to `taker`,
+/// and returns the rest. If memory cannot be allocated, it fails, and `taker` may have taken some
+/// of them.
 pub fn score_given<C: Collect>(
     alloc: Global,
     text: &Text,
@@ -95,7 +96,8 @@ pub fn score_given<C: Collect>(
     }
 }
 
-/// Returns what a text says whose headers have a fault.
+/// Returns the rest of a score whose headers have the fault `stop`, of an input that ended as
+/// `ending` says.
 fn stopped_in_heads(ending: InputEnding, stop: HeadFault) -> ScoreRest
     ensures { result ≡ record {
       book = None;
@@ -115,8 +117,8 @@ fn stopped_in_heads(ending: InputEnding, stop: HeadFault) -> ScoreRest
     }
 }
 
-/// Returns the fault of headers: one that has the end as its point gives way to what ended the
-/// text.
+/// Returns the fault of a score whose headers have the fault `fault`: if its point is the end, as
+/// `at_end` says, how the input ended comes first.
 fn head_fault(ending: InputEnding, at_end: bool, fault: Fault) -> Option<Fault>
     ensures { result ≡ head_fault_by ending at_end fault }
 {

@@ -1,4 +1,4 @@
--- What is gathered of a text as it is read.
+-- The reading that is gathered of a text.
 use Rattle.std.specs.Prelude.{ℕ, List, [], ◌∷◌, ◌++◌, true, false, Some, None, encode_utf8, encode_utf8_all, reverse}
 use Rattle.gabc_places.specs.declared.code.Finding.{Finding}
 use Rattle.gabc_text.specs.TextView.{ViewContent}
@@ -21,7 +21,7 @@ pub record BuiltText : Type 0 where
   pub findings : List Finding
   pub end : TextEnd
 
--- a view that says nothing
+-- an empty view
 abbrev pub empty_view : ViewContent
 empty_view = record { word_start = false; pieces = []; centre = None; translation = None }
 
@@ -44,7 +44,7 @@ with_events t (o ∷ os) = with_events (with_event t o) os
 abbrev pub empty_text : BuiltText
 empty_text = record { kept = []; view = empty_view; findings = []; end = ending.Finished }
 
--- what a text says, whose first character stands at this place
+-- the reading of a text whose first character is at this place
 abbrev pub text_built_at : Place → List ℕ → BuiltText
 text_built_at at t = record {
   kept = encode_utf8_all (kept t);

@@ -19,7 +19,7 @@ use Rattle.gabc_text.specs.View.{is_same}
 unfoldable pub listed_styles : Styles → List Style
 listed_styles s = filter (λ r. has_style s r) all_styles
 
--- what is left of two lists of styles after their longest common prefix
+-- the rest of two lists of styles after their longest common prefix
 abbrev pub after_common : List Style → List Style → List Style × List Style
 after_common [] new = ([], new)
 after_common (s ∷ old) [] = (s ∷ old, [])
@@ -31,7 +31,7 @@ style_opening s = codes "<" ++ (style_name s ++ codes ">")
 abbrev pub style_closing : Style → List ℕ
 style_closing s = codes "</" ++ (style_name s ++ codes ">")
 
--- the braces before the piece with this index
+-- the braces before the piece with the index
 abbrev pub braces : Option Span → ℕ → List ℕ
 braces None i = []
 braces (Some c) i =
@@ -45,7 +45,7 @@ boundary old new middle = flat_map style_closing (reverse (after_common old new)
 
 -- ---- the pieces
 
--- the bytes of the kept text for which a span stands: none, where it does not lie in them
+-- the bytes of a span in the kept text: none, if it does not lie in it
 abbrev pub span_bytes : List ℕ → Span → List ℕ
 span_bytes kept s = cond (not (nat_lt s.to s.from) && not (nat_lt (length kept) s.to)) (slice_range kept s.from s.to) []
 

@@ -1,4 +1,4 @@
--- The texts that are printed as they stand, and in which nothing is found.
+-- The texts that are printed as they are written, and in which nothing is found.
 use Rattle.std.specs.Prelude.{◌≡◌, ℕ, ◌+◌, ◌==◌, List, [], ◌∷◌, Bool, true, false, not, ◌&&◌, ◌||◌, if◌then◌else◌, nat_lt, slice_index, codes, cond, Option, Some, None}
 use Rattle.std.specs.List.{starts_with}
 use Rattle.gabc_places.specs.declared.place.Place.{Place}
@@ -15,7 +15,7 @@ pub record IsRegularText (t : List ℕ) : Type 0 where
   pub no_start : (view_facts t).word_start ≡ false
   pub nothing : (at : Place) → findings at t ≡ []
 
--- what is printed of this text but for its translation, and of its translation with the brackets
+-- the printed form of this text but for its translation, and of its translation with the brackets
 abbrev pub text_part : List ℕ → List ℕ
 text_part t = text_of_tokens (text_tokens (view_facts t))
 

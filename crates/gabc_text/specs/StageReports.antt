@@ -1,4 +1,4 @@
--- What a stage reports of where it stands beside the text that it keeps, by what it still emits.
+-- The reports of a stage beside the text that it keeps, by its rest.
 use Rattle.std.specs.Prelude.{◌≡◌, ℕ, List, [], ◌∷◌, Bool, true, false, Option, Some, None}
 use Rattle.std.specs.List.{All}
 use Rattle.gabc_places.specs.Place.{saturating_next_place}
@@ -13,7 +13,7 @@ use Rattle.gabc_text.specs.BuiltText.{kept_chars_in}
 use Rattle.gabc_text.specs.witness.EventsLeft.{events_left}
 use Rattle.gabc_text.specs.witness.StageReports.{next_of}
 
--- the place at which these events say that the text is cut, if they do
+-- the place at which these events cut the text, if they do
 abbrev pub cut_place : List TextEvent → Option Place
 cut_place [] = None
 cut_place (Ended (Cut place) ∷ events) = Some place
@@ -32,20 +32,21 @@ begins_silently _ = false
 abbrev pub is_in_comment : TextStage → Bool
 is_in_comment s = begins_silently (events_left s (40 ∷ []))
 
--- What is kept with each character of a text stands where this character stands, if the text begins
--- at p and counts stay at their last value. With its end nothing is kept.
+-- Each kept character of a text has the place of its character in the text, if the text begins at p
+-- and counts stay at their last value. With its end nothing is kept.
 abbrev pub KeptIsPlaced : Place → List ℕ → List (List TextEvent) → Type 0
 KeptIsPlaced p [] lists = kept_chars_in (concat_of lists) ≡ []
 KeptIsPlaced p (c ∷ t) [] = ⊥
 KeptIsPlaced p (c ∷ t) (events ∷ lists) =
     All (λ (x : Char). x.place ≡ p) (kept_chars_in events) × KeptIsPlaced (saturating_next_place p c) t lists
 
--- the next character stands at p: what is kept of any text that follows stands as in one that
--- begins at p
+-- p is the place of the next character: the kept characters of any text that follows have the
+-- places that they have in one that begins at p
 abbrev pub IsNext : TextStage → Place → Type 0
 IsNext s p = (t : List ℕ) → KeptIsPlaced p t (events_left s t)
 
--- What a stage that has ended reports: no opener, no comment, and the place at which it stood.
+-- The reports of a stage that has ended: no opener, no comment, and the place of the next character
+-- before its end.
 pub record EndedInPlace (before after : TextStage) : Type 0 where
   pub opener : opener_of after ≡ None
   pub comment : is_in_comment after ≡ false

@@ -1,4 +1,4 @@
--- The names of the styles, and of the tags that are known.
+-- The names of the styles, and of the known tags.
 use Rattle.std.specs.Prelude.{ℕ, List, [], ◌∷◌, ◌++◌, codes}
 use Rattle.std.specs.List.{flat_map}
 use Rattle.gabc_text.specs.declared.styles.Style.{Style}
@@ -11,7 +11,7 @@ use Rattle.gabc_text.specs.declared.token.TagEffect.TheVariants.{Opens, Closes, 
 abbrev pub all_styles : List Style
 all_styles = B ∷ C ∷ E ∷ I ∷ Sc ∷ Tt ∷ Ul ∷ []
 
--- what stands in the tags of a style
+-- the name between the `<` and the `>` of the tags of a style
 abbrev pub style_name : Style → List ℕ
 style_name B = codes "b"
 style_name C = codes "c"

@@ -1,4 +1,4 @@
--- What `text_whole` says of a text.
+-- The reading of a text by `text_whole`.
 use Rattle.std.specs.Prelude.{◌≡◌, ℕ, List, [], ◌∷◌, ◌&&◌, not, cond, Option, Some, None, length, reverse, string_bytes, encode_utf8_all}
 use Rattle.gabc_places.specs.declared.place.Place.{Place}
 use Rattle.gabc_places.specs.declared.place.Span.{Span}

@@ -1,4 +1,4 @@
--- What the machine does at a character and at the end.
+-- The machine of a text at a character and at the end.
 use Rattle.std.specs.Prelude.{ℕ, ◌+◌, ◌-◌, ◌^◌, min, false, None}
 use Rattle.gabc_places.specs.declared.place.Place.{Place}
 use Rattle.gabc_text.specs.declared.token_state.TokenState.TheVariants.{Plain}

@@ -1,4 +1,4 @@
--- The tokens of a text by the bytes where they begin and end.
+-- The tokens of a text by the bytes at which they begin and end.
 use Rattle.std.specs.Prelude.{ℕ, ◌+◌, ◌≤◌, List, [], ◌∷◌, length}
 use Rattle.std.specs.List.{All}
 use Rattle.std.specs.Str.{chars}
@@ -10,12 +10,12 @@ use Rattle.gabc_text.specs.View.{effect, bytes_of}
 abbrev pub placed_token : ℕ → Token → TextToken
 placed_token at k = record { kind = k.kind; effect = effect k; span = record { from = at; to = at + bytes_of (spelling k) } }
 
--- tokens that stand one after the other from that byte on
+-- tokens that come one after the other from that byte on
 abbrev pub placed_tokens : ℕ → List Token → List TextToken
 placed_tokens at [] = []
 placed_tokens at (k ∷ ks) = placed_token at k ∷ placed_tokens (at + bytes_of (spelling k)) ks
 
--- the tokens of what is left of a text from that byte on
+-- the tokens of the rest of a text from that byte on
 abbrev pub tokens_from : ℕ → List ℕ → List TextToken
 tokens_from at rest = placed_tokens at (tokens (chars rest))
 

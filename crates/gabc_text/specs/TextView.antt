@@ -1,10 +1,10 @@
--- What a view of a text says.
+-- The content of a view of a text.
 use Rattle.std.specs.Prelude.{List, Bool, Option}
 use Rattle.gabc_places.specs.declared.place.Span.{Span}
 use Rattle.gabc_text.specs.declared.view.Piece.{Piece}
 use Rattle.gabc_text.specs.declared.view.TextView.{TextView}
 
--- a view, without how much more it can hold
+-- the content of a view, without its capacity
 pub record ViewContent : Type 0 where
   pub word_start : Bool
   pub pieces : List Piece

@@ -1,4 +1,4 @@
--- The tokens of a syllable's text: the parts of its spelling that the rules speak of.
+-- The tokens of a syllable's text: the parts of its spelling that the rules are about.
 use Rattle.std.specs.Prelude.{ℕ, suc, zero, List, [], ◌∷◌, ◌++◌, Bool, true, false, cond, ◌&&◌, ◌==◌, length, drop, map, Option, Some, None, option_map, codes}
 use Rattle.std.specs.List.{list_any}
 use Rattle.gabc_text.specs.declared.token.TokenKind.{TokenKind}
@@ -57,11 +57,11 @@ is_text [] [] = true
 is_text (c ∷ s) (d ∷ t) = (d == c) && is_text s t
 is_text _ _ = false
 
--- the names of the tags that are known, each with what the tag does: those of the table
+-- the names of the known tags, each with the effect of the tag: those of the table
 abbrev pub tag_names : List (List ℕ × TagEffect)
 tag_names = map (λ row. (row.0.now, row.1)) TAGS
 
--- the tags that are known
+-- the known tags
 abbrev pub tags : List (List ℕ × TagEffect)
 tags = map (λ row. (60 ∷ row.0 ++ 62 ∷ [], row.1)) tag_names
 
@@ -88,7 +88,7 @@ abbrev pub tag_at : List ℕ → Option (List ℕ) → Token
 tag_at t None = record { kind = OpenTag; first = 60; more = t }
 tag_at t (Some name) = token_of_tag name (drop (length name) t) (effect_of (60 ∷ name))
 
--- a `$` with what follows
+-- a `$`, with the character after it if it makes this a letter
 abbrev pub dollar_at : List ℕ → Token
 dollar_at [] = record { kind = Letter; first = 36; more = [] }
 dollar_at (c ∷ t) = record { kind = Letter; first = 36; more = cond (is_special c) (c ∷ []) [] }

@@ -13,7 +13,7 @@ use crate::token::is_special;
 use crate::view::{Piece, PieceKind, TextView};
 use gabc_places::{ByteCounter, Put, Span};
 
-/// The styles in both sets.
+/// Returns the styles that are in both sets.
 fn common_styles(a: Styles, b: Styles) -> Styles
     ensures { result ≡ common_styles a b }
 {
@@ -28,15 +28,15 @@ fn common_styles(a: Styles, b: Styles) -> Styles
     }
 }
 
-/// Whether neighbours differ in a style, or did before.
+/// Returns whether neighbours differ in a style, or did before.
 fn differs(before: bool, old: bool, new: bool) -> bool
     ensures { result ≡ differs before old new }
 {
     before || old != new
 }
 
-/// The first style in which two neighbours differ, and those listed after it: these do not stay
-/// open between them.
+/// Returns the first style in which two neighbours differ, and those listed after it: these do not
+/// stay open between them.
 fn changed_styles(old: Styles, new: Styles) -> Styles
     ensures { result ≡ changed_styles old new }
 {
@@ -57,7 +57,7 @@ fn changed_styles(old: Styles, new: Styles) -> Styles
     }
 }
 
-/// Puts `text`, if it is wanted.
+/// Puts `text`, if `wanted`.
 fn put_if<S: Put>(wanted: bool, text: &str, out: &mut S)
     ensures { out.new ≡ S.taken out.old (cond wanted text.now []) }
 {
@@ -108,7 +108,7 @@ fn put_closing<S: Put>(styles: Styles, out: &mut S)
     put_each(&tags, out);
 }
 
-/// The braces before the piece with this index.
+/// Returns the braces before the piece with the index `index`.
 fn braces(centre: Option<Span>, index: usize) -> &'static str
     ensures { result.now ≡ braces centre index }
 {
@@ -126,7 +126,7 @@ fn braces(centre: Option<Span>, index: usize) -> &'static str
     }
 }
 
-/// The bytes of the kept text for which a span stands, if it lies in them.
+/// Returns the bytes of `span` in `kept`; none, if it does not lie in them.
 fn slice_of(kept: &str, span: Span) -> &[u8]
     ensures { result.now ≡ span_bytes kept.now span }
 {
@@ -138,8 +138,8 @@ fn slice_of(kept: &str, span: Span) -> &[u8]
     }
 }
 
-/// One of the characters that a `$` makes letters. Most characters are small letters, so these are
-/// tried first.
+/// Returns whether `text` is one of the characters that a `$` makes letters. Most characters are
+/// small letters, so these are tried first.
 fn needs_dollar(text: &[u8]) -> bool
     ensures { result ≡ needs_dollar text.now }
 {
@@ -159,7 +159,7 @@ fn put_some<S: Put>(bytes: &[u8], out: &mut S)
     }
 }
 
-/// Puts the bytes of the kept text for which `span` stands, if there are any.
+/// Puts the bytes of `span` in `kept`, if there are any.
 fn put_span<S: Put>(span: Span, kept: &str, out: &mut S)
     ensures { out.new ≡ S.taken out.old (span_bytes kept.now span) }
 {
@@ -168,8 +168,8 @@ fn put_span<S: Put>(span: Span, kept: &str, out: &mut S)
     }
 }
 
-/// Puts the tags and braces between two neighbours with these styles. Where they are the same there
-/// are no tags.
+/// Puts the tags and braces between two neighbours with the styles `old` and `new`. If these are
+/// the same, there are no tags.
 fn put_boundary<S: Put>(old: Styles, new: Styles, braces: &str, out: &mut S)
     ensures { out.new
         ≡ S.taken out.old (boundary (listed_styles old) (listed_styles new) braces.now) }
@@ -181,8 +181,8 @@ fn put_boundary<S: Put>(old: Styles, new: Styles, braces: &str, out: &mut S)
     }
 }
 
-/// Puts the tags and braces between two neighbours with these styles. Few neighbours differ, so it
-/// stays out of line.
+/// Puts the tags and braces between two neighbours with the styles `old` and `new`. Few neighbours
+/// differ, so it stays out of line.
 #[inline(never)]
 fn put_change<S: Put>(old: Styles, new: Styles, braces: &str, out: &mut S)
     ensures { out.new
@@ -194,14 +194,14 @@ fn put_change<S: Put>(old: Styles, new: Styles, braces: &str, out: &mut S)
     put_opening(common_styles(new, changed), out);
 }
 
-/// Whether `span` lies in the bytes of the kept text.
+/// Returns whether `span` lies in the bytes of `kept`.
 fn lies_in(span: Span, kept: &str) -> bool
     ensures { IsTrue result ↔ (span.from ≤ span.to) × (span.to ≤ length kept.now) }
 {
     span.from <= span.to && span.to <= kept.len()
 }
 
-/// Whether the span of `piece` lies in the kept text, and its bytes there are the text of `piece`.
+/// Returns whether the span of `piece` lies in `kept`, and its bytes there are the text of `piece`.
 #[inline(always)]
 fn is_as_kept(piece: Piece, kept: &str) -> bool
     ensures text { IsTrue result → piece_text kept.now piece ≡ span_bytes kept.now piece.span }
@@ -219,8 +219,8 @@ fn is_as_kept(piece: Piece, kept: &str) -> bool
     }
 }
 
-/// Whether `piece` goes on where `run` ends, after a piece with the styles `old`, with nothing but
-/// its kept bytes.
+/// Returns whether `piece` begins at the end of `run`, after a piece with the styles `old`, and
+/// adds nothing but its kept bytes.
 #[inline(always)]
 fn joins(run: Span, old: Styles, piece: Piece, braces: &str, kept: &str) -> bool
     ensures text { IsTrue result → piece_text kept.now piece ≡ span_bytes kept.now piece.span }
@@ -237,7 +237,7 @@ fn joins(run: Span, old: Styles, piece: Piece, braces: &str, kept: &str) -> bool
     run.to == piece.span.from && braces.is_empty() && is_as_kept(piece, kept)
 }
 
-/// Puts what comes before the kept bytes in the text of `piece`, and returns where these lie.
+/// Puts the part of the text of `piece` before its kept bytes, and returns the span of these.
 fn put_head<S: Put>(piece: Piece, kept: &str, out: &mut S) -> Span
     ensures text { S.taken out.new (span_bytes kept.now result)
         ≡ S.taken out.old (piece_text kept.now piece) }
@@ -275,7 +275,7 @@ struct Run {
     next: usize,
 }
 
-/// The run of no pieces, where the first piece begins.
+/// Returns the run of no pieces, before the first piece.
 fn first_run(pieces: &[Piece]) -> Run
     ensures empty { result.span.from ≡ result.span.to }
     ensures first { result.next ≡ 0 }
@@ -292,9 +292,9 @@ fn first_run(pieces: &[Piece]) -> Run
     }
 }
 
-/// The run with all of `pieces` that join it, where `old` are its styles. The loop goes over most
+/// Returns `run` with all of `pieces` that join it, if its styles are `old`. The loop is over most
 /// pieces and puts no bytes, so its variables stay in registers. It is compiled in place, so that
-/// what is known of `centre` and `old` there is not asked in the loop.
+/// what is known of `centre` and `old` there is not tested in the loop.
 #[inline(always)]
 fn joined_run(pieces: &[Piece], centre: Option<Span>, kept: &str, old: Styles, run: Run) -> Run
     requires ordered { run.span.from ≤ run.span.to }
@@ -320,7 +320,7 @@ fn joined_run(pieces: &[Piece], centre: Option<Span>, kept: &str, old: Styles, r
     }
 }
 
-/// The run with all pieces of `view` that join it, where `old` are its styles.
+/// Returns `run` with all pieces of `view` that join it, if its styles are `old`.
 #[inline(never)]
 fn whole_run(view: &TextView, kept: &str, old: Styles, run: Run) -> Run
     requires ordered { run.span.from ≤ run.span.to }
@@ -333,8 +333,8 @@ fn whole_run(view: &TextView, kept: &str, old: Styles, run: Run) -> Run
     joined_run(view.pieces.as_slice(), view.centre, kept, old, run)
 }
 
-/// Puts the run with all pieces that join it, where `old` are its styles, and returns the index of
-/// the piece after them.
+/// Puts `run` with all pieces that join it, if its styles are `old`, and returns the index of the
+/// piece after them.
 fn put_run<S: Put>(view: &TextView, kept: &str, old: Styles, run: Run, out: &mut S) -> usize
     requires ordered { run.span.from ≤ run.span.to }
     requires within { run.next ≤ length view.now.pieces.items }
@@ -350,8 +350,8 @@ fn put_run<S: Put>(view: &TextView, kept: &str, old: Styles, run: Run, out: &mut
 
 /// Puts the canonical text of `view` without its translation, whose spans count the bytes of
 /// `kept`: its pieces with the tags of their styles, one inside another (GregorioRef, "Syllable
-/// Text Syntax"). A span that does not lie in the kept text stands for nothing. A room without
-/// `text_len` bytes left gets as many of them as fit. It asks for no memory.
+/// Text Syntax"). A span that does not lie in the kept text is empty. A room with fewer than
+/// `text_len` bytes left takes as many of them as fit. It does not allocate.
 pub fn write_text<S: Put>(view: &TextView, kept: &str, out: &mut S)
     ensures { out.new ≡ S.taken out.old (canonical_text (content_of view.now) kept.now) }
 {
@@ -361,7 +361,8 @@ pub fn write_text<S: Put>(view: &TextView, kept: &str, out: &mut S)
     }
 }
 
-/// Puts what `write_text` puts, piece by piece. It stays out of line, for `write_text` to be short.
+/// Puts the text of `write_text`, piece by piece. It stays out of line, so that `write_text` is
+/// short.
 #[inline(never)]
 fn write_pieces<S: Put>(view: &TextView, kept: &str, out: &mut S)
     ensures { out.new ≡ S.taken out.old (canonical_text (content_of view.now) kept.now) }
@@ -383,9 +384,9 @@ fn write_pieces<S: Put>(view: &TextView, kept: &str, out: &mut S)
     put_boundary(old, Styles::NONE, braces(view.centre, next), out);
 }
 
-/// Returns a part of `kept` that is the canonical text of `view`. It returns one at least where
-/// `view` has no centre and no style, and its pieces follow one another in `kept` as they stand
-/// there. An empty text may be any part without bytes.
+/// Returns a span of `kept` that is the canonical text of `view`. It returns one at least if `view`
+/// has no centre and no style, and its pieces follow one another in `kept` as they are printed. The
+/// span of an empty text may be any without bytes.
 #[inline(always)]
 pub fn text_span(view: &TextView, kept: &str) -> Option<Span>
     ensures text { (span : Span) → result ≡ Some span →
@@ -404,7 +405,7 @@ pub fn text_span(view: &TextView, kept: &str) -> Option<Span>
     }
 }
 
-/// Returns how many bytes `write_text` puts; it saturates at the last value of a `usize`.
+/// Returns the number of bytes that `write_text` puts; it saturates at the last value of a `usize`.
 pub fn text_len(view: &TextView, kept: &str) -> usize
     ensures { result ≡ min (length (canonical_text (content_of view.now) kept.now)) (2 ^ 64 - 1) }
 {

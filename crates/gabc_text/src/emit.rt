@@ -1,4 +1,4 @@
-//! What the machine that reads a text adds to a room of events.
+//! The events that the machine of a text adds to a room.
 
 ghost use Rattle.std.specs.Prelude.{◌≡◌, ◌+◌, ◌≤◌, length, map};
 ghost use Rattle.gabc_places.specs.BoundedList.{Fits, extended_by};
@@ -10,7 +10,7 @@ use crate::text_event::{TextEvent, TextPart};
 use crate::view::Piece;
 use gabc_places::{Char, Code, Finding, Place, Room};
 
-/// Adds the character that is kept, if one is.
+/// Adds the kept character, if there is one.
 #[inline(always)]
 pub(crate) fn emit_char(out: &mut Room<TextEvent>, place: Place, kept: Option<char>)
     requires { Fits out.old 1 }
@@ -47,7 +47,7 @@ pub(crate) fn emit_piece(out: &mut Room<TextEvent>, piece: Option<Piece>)
     }
 }
 
-/// Adds a finding of this code, if there is one.
+/// Adds a finding with the code `code` at `place`, if there is one.
 #[inline(always)]
 pub(crate) fn emit_code(out: &mut Room<TextEvent>, place: Place, code: Option<Code>)
     requires { Fits out.old 1 }

@@ -22,9 +22,9 @@ fn add_kept(kept: &mut Sequence<Char>, event: TextEvent) -> Result<(), AllocErro
     }
 }
 
-/// Returns the characters of the kept text that `text_whole` answers for `body`, each with its
+/// Returns the characters of the kept text that `text_whole` returns for `body`, each with its
 /// place in the source; a run of blanks has the place of its first. The first character of `body`
-/// stands at `at`. `gabc_places::place_of_byte` finds the place of a byte among them.
+/// is at `at`. `gabc_places::place_of_byte` finds the place of a byte among them.
 pub fn kept_chars(alloc: Global, body: &str, at: Place) -> Result<Sequence<Char>, AllocError>
     requires line { at.line + length body.now < 2 ^ 64 }
     requires column { at.column + length body.now < 2 ^ 64 }

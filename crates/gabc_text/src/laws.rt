@@ -1,5 +1,5 @@
-//! Laws of the definitions that contracts speak of. Each function is there for its clauses: all but
-//! two do nothing, and these drive a fresh stage.
+//! Laws of the definitions that contracts use. Each function is there for its clauses: all but two
+//! do nothing, and these two drive a fresh stage.
 
 ghost use Rattle.std.specs.Prelude.{◌≡◌, ℕ, ◌+◌, ◌<◌, List, [], ◌∷◌, ◌++◌, length, take, drop, true, false, cond, codes, Decides, None, encode_utf8_all, reverse, map};
 ghost use Rattle.gabc_places.specs.StageLaw.{concat_of};
@@ -53,15 +53,15 @@ pub fn an_opener_is_where_a_text_is_cut()
         opener_of s ≡ cut_place (concat_of (drop (length t) (events_by_point at t))) }
 {}
 
-/// Law: a stage reports that a comment is open exactly if a `(` would emit nothing: else it ends
-/// the text, or is kept.
+/// Law: a stage has an open comment exactly if a `(` would emit nothing: else the `(` ends the
+/// text, or is kept.
 pub fn a_comment_is_where_a_bracket_is_silent()
     ensures { (s : TextStage) → has_ended s ≡ false → Decides (is_in_comment s)
         ((later : List (List TextEvent)) × (events_left s (40 ∷ []) ≡ [] ∷ later)) }
 {}
 
-/// Law: a fresh machine emits what the definition says, where no count of the text reaches its last
-/// value, and what it does not read begins with the `(` that ends the text.
+/// Law: a fresh machine emits what the definition says, if no count of the text reaches its last
+/// value, and the characters that it does not read begin with the `(` that ends the text.
 pub fn a_fresh_stage_emits_the_events_by_point()
     ensures events { (at : Place) (t : List ℕ) → CountsFit at t →
         events_left (fresh_stage at) t ≡ events_by_point at t }
@@ -101,13 +101,13 @@ pub fn events_build_the_text()
 {}
 
 /// Law: the findings of a text are sorted by their places, those of one place by their codes, and
-/// none stands twice.
+/// none comes twice.
 pub fn findings_in_order()
     ensures { (at : Place) (t : List ℕ) → AreInOrder (findings at t) }
 {}
 
-/// Law: a machine emits a list for each character and one for the end. What it emits for some
-/// characters does not depend on what follows them.
+/// Law: a machine emits a list of events for each character and one for the end. Its events for
+/// some characters do not depend on those that follow them.
 pub fn events_need_nothing_after()
     ensures each { (s : TextStage) (t : List ℕ) → length (events_left s t) ≡ length t + 1 }
     ensures prefix { (s : TextStage) (t u v : List ℕ) →
@@ -124,8 +124,8 @@ pub fn nothing_after_the_notes_begin()
         ++ ([] ∷ no_events_each v) }
 {}
 
-/// Law: the spans of a text's view stand for what the view says, and its centre lies among its
-/// pieces. A span that stands for a part of a text holds that part's bytes.
+/// Law: the spans of a text's view have the parts that the view says, and its centre lies among its
+/// pieces. The bytes of a span of a part of a text are those of this part.
 pub fn spans_stand_for_the_view()
     ensures starts { (t : List ℕ) → (view_in t).word_start ≡ (view_facts t).word_start }
     ensures centre { (t : List ℕ) → (view_in t).centre ≡ (view_facts t).centre }
@@ -134,7 +134,7 @@ pub fn spans_stand_for_the_view()
         span_bytes (encode_utf8_all text) span ≡ encode_utf8_all part }
 {}
 
-/// Law: the canonical text of a text's view is the printed form of what the text says, but for the
+/// Law: the canonical text of a text's view is the printed form of the view's facts, but for the
 /// blank before a word and the translation.
 pub fn canonical_is_printed()
     ensures { (whole t : List ℕ) → StandsForView whole (view_in t) t →
@@ -142,11 +142,11 @@ pub fn canonical_is_printed()
         ≡ encode_utf8_all (text_of_tokens (text_tokens (view_facts t))) }
 {}
 
-/// Law: what is printed of a view is the printed form of what its text says, whatever whole text
-/// the view's spans count the bytes of: that of the text alone, or of a syllable. In front of a
-/// `(`, and whatever follows, it is read again as the same view: it ends at that `(`, says the
-/// same, and has no error. All of it is kept, the LF before a word as a blank. What is printed of
-/// the view that is read again, is the same.
+/// Law: the printed form of a view is that of its text's facts, whatever whole text the view's
+/// spans count the bytes of: that of the text alone, or of a syllable. Before a `(`, and whatever
+/// follows, it is read again as the same view: it ends at that `(`, says the same, and has no
+/// error. All of it is kept, the LF before a word as a blank. The printed form of the view that is
+/// read again is the same.
 pub fn view_again()
     ensures printed { (whole t : List ℕ) → StandsForView whole (view_in t) t →
         printed_view (view_in t) (encode_utf8_all whole) ≡ encode_utf8_all (print (view_facts t)) }
@@ -220,13 +220,13 @@ pub fn a_kept_text_is_read_again()
     ensures facts { (t : List ℕ) → view_facts (kept t) ≡ view_facts t }
 {}
 
-/// Law: a text says what its kept text says, each span of it too.
+/// Law: a text has the view of its kept text, in each span too.
 pub fn a_text_says_what_is_kept()
     ensures { (t : List ℕ) → view_of_kept (kept t) ≡ view_in t }
 {}
 
-/// Law: what becomes of a character that begins a token, and what is found with a tag, with the `[`
-/// of a translation and at the end, follows from what is kept of the text before.
+/// Law: the fate of a character that begins a token, and the findings of a tag, of the `[` of a
+/// translation and of the end, follow from what is kept of the text before.
 pub fn fates_in_text()
     ensures fate { (t : List ℕ) (c : ℕ) → let before = reverse (tokens (kept t)) in
         belongs before c ≡ false → fate_in_text before c ≡ fate_of_token (reverse (tokens t)) c }
@@ -239,7 +239,7 @@ pub fn fates_in_text()
         codes_at_end (reverse (tokens (kept t))) ≡ codes_at_end (reverse (tokens t)) }
 {}
 
-/// Law: an LF before a text makes it begin a word. Nothing else that the text says changes by it.
+/// Law: an LF before a text makes it begin a word, and changes nothing else of its view.
 pub fn a_line_feed_begins_a_word()
     ensures { (t : List ℕ) → view_facts (10 ∷ t) ≡ record (view_facts t) { word_start = true } }
 {}
@@ -281,8 +281,8 @@ pub fn stages_after_one_text_agree()
         (t : List ℕ) → events_left one t ≡ events_left other t }
 {}
 
-/// Law: whether a stage has an opener follows from the text that it keeps. A comment is open only
-/// where a `%` begins one after this text, and there is no opener then.
+/// Law: the text that a stage keeps decides whether the stage has an opener. A comment is open only
+/// if a `%` begins one after this text, and there is no opener then.
 pub fn what_is_open_follows_from_the_kept_text()
     ensures opener { (s : TextStage) (k : List ℕ) → Keeps s k →
         is_some (opener_of s) ≡ is_open_after_text k }
@@ -300,7 +300,7 @@ pub fn a_kept_character_is_kept_again()
     ensures ends { (k : List ℕ) → ends_after_it k ≡ true → kept_with k 40 ≡ [] }
 {}
 
-/// Law: of a text that a stage keeps all is kept. What becomes of a character after it is what the
+/// Law: of a text that a stage keeps all is kept. The fate of a character after it is what the
 /// stage does with it: whether a `%` begins a comment, whether a `(` ends the text, and what is
 /// kept of any character.
 pub fn a_stage_follows_fates()
@@ -313,14 +313,14 @@ pub fn a_stage_follows_fates()
         kept_with k c ≡ kept_after (reverse (tokens k)) c }
 {}
 
-/// Law: what is kept of a text is what is kept a character after the other: by the fate of each
-/// after what is kept before it, and by whether a comment is open.
+/// Law: the kept text of a text is kept a character after the other: by the fate of each after what
+/// is kept before it, and by whether a comment is open.
 pub fn a_text_is_kept_by_fates()
     ensures { (t : List ℕ) → kept t ≡ kept_past [] false t }
 {}
 
-/// Law: what is emitted of a text with each character, but for the parts of its view, follows from
-/// what is kept of the text before, whether a comment is open, and the place of what is open.
+/// Law: the events of each character of a text, but for the parts of its view, follow from what is
+/// kept of the text before, whether a comment is open, and the place of the opener.
 pub fn text_events_are_by_kept()
     ensures { (at : Place) (t : List ℕ) → CountsFit at t →
         map emitted (events_by_point at t) ≡ emitted_past text_begins at t }
@@ -337,16 +337,15 @@ pub fn a_stage_takes_each_character()
     ensures takes { (s : TextStage) (c : ℕ) → has_ended s ≡ false → Takes s c }
 {}
 
-/// Law: where the next character is said to stand elsewhere, what is open stays open, at the same
-/// place.
+/// Law: to move a stage leaves its opener at the same place, and its comment open, if one is.
 pub fn what_is_open_stays_open_elsewhere()
     ensures opener { (s : TextStage) (at : Place) → opener_of (moved_to at s) ≡ opener_of s }
     ensures comment { (s : TextStage) (at : Place) →
         is_in_comment (moved_to at s) ≡ is_in_comment s }
 {}
 
-/// Law: the next character of a stage stands where the stage reports: of a fresh one where the text
-/// begins, and of one that was moved at the place to which it was.
+/// Law: the place of the next character of a stage is the one that it reports: of a fresh one the
+/// place where the text begins, and of one that was moved the place to which it was.
 pub fn the_next_character_stands_where_it_is_reported()
     ensures stands { (s : TextStage) → IsNext s (next_of s) }
     ensures fresh { (at : Place) → next_of (fresh_stage at) ≡ at }
@@ -363,7 +362,7 @@ pub fn a_stage_that_has_ended_emits_nothing()
         concat_of (events_left s t) ≡ [] }
 {}
 
-/// Law: a fresh stage reports no opener, and no comment that is open.
+/// Law: a fresh stage reports no opener and no open comment.
 pub fn a_fresh_stage_reports_nothing_open()
     ensures opener { (at : Place) → opener_of (fresh_stage at) ≡ None }
     ensures comment { (at : Place) → is_in_comment (fresh_stage at) ≡ false }
@@ -375,15 +374,15 @@ pub fn a_fresh_stage_owes_no_piece()
     ensures moved { (s : TextStage) (at : Place) → pieces_owed (moved_to at s) ≡ pieces_owed s }
 {}
 
-/// Law: where something is kept of a character that follows at once, the next character of the
-/// stage stands at one place and at no other.
+/// Law: if something is kept of a character that follows at once, the stage has one place for the
+/// next character, and no other.
 pub fn the_next_character_stands_at_one_place()
     ensures { (s : TextStage) (p q : Place) (c : ℕ) (x : Char) (xs : List Char) →
         kept_chars_in (concat_of (take 1 (events_left s (c ∷ [])))) ≡ x ∷ xs →
         IsNext s p → IsNext s q → p ≡ q }
 {}
 
-/// Law: the opener of a stage may stand at any place, and the stage keeps the same text.
+/// Law: the opener of a stage may be at any place, and the stage keeps the same text.
 pub fn an_opener_may_be_anywhere()
     ensures { (s : TextStage) (k : List ℕ) (at : Place) → Keeps s k →
         is_some (opener_of s) ≡ true → OpensThere s k at }
@@ -397,8 +396,9 @@ pub fn a_kept_text_is_said_in_full()
         CountsFit (record { line = 0; column = 0 }) (k ++ 40 ∷ rest) → IsSaidInFull k rest }
 {}
 
-/// Law: a stage in a comment that has kept nothing passes over the comment, wherever the next
-/// character is said to stand. The LF after it is the first character of a text that begins there.
+/// Law: a stage in a comment that has kept nothing passes over the comment, whatever the place of
+/// the next character is set to. The LF after it is the first character of a text that begins
+/// there.
 pub fn a_comment_before_a_text_counts_for_nothing()
     ensures on { (s : TextStage) (c : ℕ) (t : List ℕ) → Keeps s [] → is_in_comment s ≡ true →
         (c == 10) ≡ false → events_left s (c ∷ t)
@@ -410,10 +410,10 @@ pub fn a_comment_before_a_text_counts_for_nothing()
         events_left s [] ≡ (TextEvent.Ended TextEnd.Finished ∷ []) ∷ [] }
 {}
 
-/// Returns a stage that is restored as `stage` stands, by the text `kept` that it keeps and what it
-/// reports: a fresh stage reads this text again, each character at the place of the opener, then a
-/// `%` where a comment is open, and goes to the place of the next character. From then on it emits
-/// what `stage` emits.
+/// Returns a stage that is restored from the text `kept` that `stage` keeps and from its reports: a
+/// fresh stage reads this text again, each character at the place of the opener, then a `%` if a
+/// comment is open, and goes to the place of the next character. From then on it emits what `stage`
+/// emits. `room` is empty, and has room for 8 events.
 pub fn a_kept_text_gives_the_stage_back(
     stage: &TextStage,
     kept: &[char],

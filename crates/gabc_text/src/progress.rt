@@ -1,4 +1,4 @@
-//! Where in a text the machine stands, and what it has counted.
+//! The position and the counts of the machine of a text.
 
 ghost use Rattle.std.specs.Prelude.{◌≡◌, None, ℕ};
 ghost use Rattle.gabc_text.specs.TextStage.{count_plus, fresh_stage};
@@ -13,34 +13,34 @@ use crate::token::{TagEffect, TokenKind};
 use crate::view::{Piece, PieceKind};
 use gabc_places::{Place, Span};
 
-/// Where in the text and in what was kept of it the machine stands. A count that has reached its
-/// last value stays there.
+/// The position of the machine in the text and in its kept text. A count that has reached its last
+/// value stays there.
 #[derive(Clone, Copy, PartialEq)]
 pub(crate) struct Progress {
-    /// Where the token that is read begins: its place, and the bytes kept before it.
+    /// The beginning of the current token: its place, and the number of bytes kept before it.
     pub(crate) place: Place,
     pub(crate) start: usize,
-    /// The place of the character to come, and the bytes kept before it.
+    /// The place of the next character, and the number of bytes kept before it.
     pub(crate) next: Place,
     pub(crate) kept: usize,
-    /// How many pieces there are, with a blank that is not emitted yet.
+    /// The number of pieces, with a blank that is not emitted yet.
     pub(crate) pieces: usize,
     /// A blank that is a piece if another piece follows.
     pub(crate) blank: Option<Piece>,
-    /// How many pieces stand before the centre, and before its end.
+    /// The number of pieces before the centre, and before its end.
     pub(crate) begin: Option<usize>,
     pub(crate) end: Option<usize>,
 }
 
-/// The sum, or the last value where it is larger.
+/// Returns the sum, or the last value if it is larger.
 pub(crate) fn plus(n: usize, more: usize) -> usize
     ensures { result ≡ count_plus n more }
 {
     n.saturating_add(more)
 }
 
-/// The piece of this kind that a token is: of a character without its `$`. Before its last
-/// character, `last` bytes were kept.
+/// Returns the piece of kind `kind` for a token, without the `$` of an escape. Before the last
+/// character of the token, `last` bytes were kept.
 #[inline(always)]
 pub(crate) fn piece_there(
     facts: TextFacts,
@@ -64,8 +64,8 @@ pub(crate) fn piece_there(
     }
 }
 
-/// The part that a token is which is no piece, if it is one. Before its last character, `last`
-/// bytes were kept.
+/// Returns the part for a token that is no piece, if there is one. Before the last character of the
+/// token, `last` bytes were kept.
 pub(crate) fn part_at(
     facts: TextFacts,
     progress: Progress,
@@ -96,7 +96,7 @@ pub(crate) fn part_at(
     }
 }
 
-/// The blank that waits after a token.
+/// Returns the blank that waits after a token, if one does.
 #[inline(always)]
 pub(crate) fn waiting_piece(
     facts: TextFacts,
@@ -119,7 +119,8 @@ pub(crate) fn waiting_piece(
     }
 }
 
-/// The centre of a text that ends here. No position is past the last piece that is emitted.
+/// Returns the centre of a text that ends here, if it has one. It does not reach past the last
+/// piece that is emitted.
 pub(crate) fn centre(progress: Progress) -> Option<Span>
     ensures { result ≡ centre_by (count_by progress.pieces progress.blank)
         progress.begin progress.end }
@@ -144,7 +145,7 @@ pub(crate) fn centre(progress: Progress) -> Option<Span>
 }
 
 impl Progress {
-    /// Returns where a machine stands that has read nothing, before a character at `at`.
+    /// Returns the progress before the first character, which is at `at`.
     pub(crate) fn new(at: Place) -> Progress
         ensures { result ≡ (fresh_stage at).progress }
     {
@@ -160,7 +161,7 @@ impl Progress {
         }
     }
 
-    /// Goes past a token, which ends before this place.
+    /// Updates the progress for a token, which ends before `place`.
     #[inline(always)]
     pub(crate) fn pass_token(
         &mut self,
@@ -185,7 +186,7 @@ impl Progress {
         self.start = self.kept;
     }
 
-    /// Goes past a character, of which this was kept.
+    /// Updates the progress for the character `c`, of which `kept` is kept.
     #[inline(always)]
     pub(crate) fn pass(&mut self, c: char, kept: Option<char>)
         ensures { self.new ≡ progress_past self.old c kept }

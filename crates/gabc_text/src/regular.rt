@@ -1,4 +1,4 @@
-//! How far a text goes that is printed as it stands.
+//! The length of a text that is printed as it is written.
 
 ghost use Rattle.std.specs.Prelude.{◌≡◌, ◌+◌, ◌≤◌, ◌<◌, length, take, drop, get_or, true, false, Option, IfSome, None, codes, encode_utf8_all};
 ghost use Rattle.std.specs.Str.{chars};
@@ -53,34 +53,34 @@ fn is_style(last: Option<Style>, style: Style) -> bool
     }
 }
 
-/// What of a regular text matters for what may follow it.
+/// The facts about a regular text that decide what may follow it.
 #[derive(Clone, Copy)]
 struct Before {
     /// The style of its last piece, if it has one.
     style: Option<Style>,
-    /// Whether a piece but a span mark stands in it, so that a blank may follow.
+    /// Whether it has a piece other than a span mark, so that a blank may follow.
     word: bool,
     /// Whether it has a centre.
     centre: bool,
 }
 
-/// A part of a text: some pieces, all in the style, if in one, and none a span mark.
+/// A part of a text: some pieces, all in one style or in none, and none of them a span mark.
 #[derive(Clone, Copy)]
 struct Part {
-    /// How many bytes it has.
+    /// Its number of bytes.
     len: usize,
     style: Option<Style>,
 }
 
 impl Before {
-    /// Nothing stands before, or a span mark alone.
+    /// Nothing comes before, or a span mark alone.
     const NOTHING: Before = Before {
         style: None,
         word: false,
         centre: false,
     };
 
-    /// Returns what stands before what follows `part`.
+    /// Returns the facts after `part`.
     fn through(self, part: Part) -> Before
         ensures { result ≡ through self part }
     {
@@ -128,7 +128,7 @@ fn begins_no_raw(bytes: &[u8]) -> bool
     }
 }
 
-/// Returns the part that `bytes` begin with, where the piece before has the style `last`.
+/// Returns the part that `bytes` begin with, if the piece before has the style `last`.
 fn next_part(bytes: &[u8], last: Option<Style>) -> Option<Part>
     ensures within { IfSome result (λ p. (0 < p.len) × (p.len ≤ length bytes.now)) }
     ensures part { IfSome result (λ p. IsPart p.style (take p.len bytes.now)) }
@@ -145,16 +145,16 @@ fn next_part(bytes: &[u8], last: Option<Style>) -> Option<Part>
     Some(Part { len, style: None })
 }
 
-/// What a text goes on with.
+/// A further part of a text.
 #[derive(Clone, Copy)]
 struct Step {
-    /// How many bytes it is.
+    /// Its number of bytes.
     len: usize,
-    /// What stands before the rest then.
+    /// The facts after it.
     before: Before,
 }
 
-/// Returns what a text goes on with from the blank at `end`, of which `before` is known.
+/// Returns the next part from the blank at `end`, before which the facts are `before`.
 fn step_after_blank(bytes: &[u8], end: usize, before: Before) -> Option<Step>
     requires { end < length bytes.now }
     ensures within { IfSome result (λ s. (0 < s.len) × (end + s.len ≤ length bytes.now)) }
@@ -172,8 +172,8 @@ fn step_after_blank(bytes: &[u8], end: usize, before: Before) -> Option<Step>
     })
 }
 
-/// Returns what a text goes on with from `end`, of which `before` is known, if that is its centre:
-/// a run within braces.
+/// Returns the next part from `end`, before which the facts are `before`, if that is the centre: a
+/// run within braces.
 fn centre_step(bytes: &[u8], end: usize, before: Before) -> Option<Step>
     requires { end < length bytes.now }
     ensures within { IfSome result (λ s. (0 < s.len) × (end + s.len ≤ length bytes.now)) }
@@ -195,7 +195,7 @@ fn centre_step(bytes: &[u8], end: usize, before: Before) -> Option<Step>
     })
 }
 
-/// Returns what a text goes on with from `end`, of which `before` is known.
+/// Returns the next part from `end`, before which the facts are `before`.
 fn next_step(bytes: &[u8], end: usize, before: Before) -> Option<Step>
     requires { end < length bytes.now }
     ensures within { IfSome result (λ s. (0 < s.len) × (end + s.len ≤ length bytes.now)) }
@@ -214,7 +214,8 @@ fn next_step(bytes: &[u8], end: usize, before: Before) -> Option<Step>
     }
 }
 
-/// Returns how many bytes the span mark has that `bytes` begin with; 0, if they begin with none.
+/// Returns the length in bytes of the span mark that `bytes` begin with; 0, if they begin with
+/// none.
 fn mark_len(bytes: &[u8]) -> usize
     ensures within { result ≤ length bytes.now }
     ensures len { result ≡ mark_length (mark_at bytes.now) }
@@ -226,7 +227,7 @@ fn mark_len(bytes: &[u8]) -> usize
     }
 }
 
-/// Returns how many of the first of `bytes` are a regular text without a translation.
+/// Returns the length in bytes of a regular text without a translation that `bytes` begin with.
 fn untranslated_len(bytes: &[u8]) -> usize
     ensures within { result ≤ length bytes.now }
     ensures mark { mark_length (mark_at bytes.now) ≤ result }
@@ -248,8 +249,8 @@ fn untranslated_len(bytes: &[u8]) -> usize
     end
 }
 
-/// Returns how many bytes the translation has that `bytes` begin with, if it has only characters
-/// that `bracketed_len` takes, and a `(` follows; else 0.
+/// Returns the length in bytes of the translation that `bytes` begin with, if it has only
+/// characters that `bracketed_len` takes, and a `(` follows; else 0.
 fn translation_len(bytes: &[u8]) -> usize
     ensures within { result ≤ length bytes.now }
     ensures bracketed { 0 < result → IsBracketed (codes "[") 93 (codes "]") (take result bytes.now) }
@@ -266,7 +267,7 @@ fn translation_len(bytes: &[u8]) -> usize
     }
 }
 
-/// Returns what `regular_text` returns, whatever the text is.
+/// Returns the length that `regular_text` returns, for any text.
 #[inline(never)]
 fn any_text_len(bytes: &[u8]) -> usize
     ensures within { result ≤ length bytes.now }
@@ -280,13 +281,13 @@ fn any_text_len(bytes: &[u8]) -> usize
     end + translation_len(&bytes[end..])
 }
 
-/// Returns how many of the first of `bytes` are a text that is printed as it stands before a `(`,
-/// that begins no word, and in which nothing is found
-/// (`laws::a_regular_text_is_printed_as_it_stands`). They are whole characters, without CR and
-/// U+FEFF, no span mark stands in them but one with which they begin, and no letter of ASCII, of
-/// two bytes, or from U+1000 to U+CFFF comes next. That it goes further is not promised: it takes
-/// letters and raw parts, with single blanks between them, some of them within the tags of a style,
-/// some in one centre, after a span mark; and a translation, if a `(` follows.
+/// Returns the length in bytes of a text at the front of `bytes` that is printed as it is written
+/// before a `(`, that begins no word, and in which nothing is found
+/// (`laws::a_regular_text_is_printed_as_it_stands`). It has whole characters, no CR and no U+FEFF,
+/// and no span mark but one at its beginning, and no letter of ASCII, of two bytes, or from U+1000
+/// to U+CFFF comes next. That it is longer is not promised: it has letters and raw parts, with
+/// single blanks between them, some of them within the tags of a style, some in one centre, after a
+/// span mark; and a translation, if a `(` follows.
 #[inline(always)]
 pub fn regular_text(bytes: &[u8]) -> usize
     ensures within { result ≤ length bytes.now }
@@ -304,8 +305,8 @@ pub fn regular_text(bytes: &[u8]) -> usize
     }
 }
 
-/// Returns how many bytes of `text`, which is regular, stand before its translation: all of them,
-/// if it has none; `None`, if it is not known where one begins.
+/// Returns the number of bytes of `text`, which is regular, before its translation: all of them, if
+/// it has none; `None`, if it is not known where one begins.
 pub fn translation_from(text: &str) -> Option<usize>
     requires { IsRegularText (chars text.now) }
     ensures within { IfSome result (λ n. n ≤ length text.now) }

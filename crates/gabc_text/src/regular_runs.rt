@@ -1,4 +1,4 @@
-//! Bytes of letters, raw parts and runs of these, for `regular.rt`.
+//! The lengths of letters, raw parts and runs of these, for `regular.rt`.
 
 ghost use Rattle.std.specs.Prelude.{◌≡◌, ◌≢◌, ◌+◌, ◌≤◌, ◌<◌, ◌==◌, ◌&&◌, length, take, slice_index, true, false};
 ghost use Rattle.gabc_text.specs.ExampleTexts.{beginning_of};
@@ -15,8 +15,8 @@ fn is_special_byte(byte: u8) -> bool
     is_special(char::from(byte))
 }
 
-/// Returns whether `byte` is a letter by itself: it is of ASCII, and printed as it stands. Most are
-/// small letters.
+/// Returns whether `byte` is a letter by itself: it is of ASCII, and printed as it is written. Most
+/// are small letters.
 #[inline(always)]
 fn is_letter_byte(byte: u8) -> bool
     ensures { result ≡ is_letter_byte byte }
@@ -25,7 +25,7 @@ fn is_letter_byte(byte: u8) -> bool
         || (byte != b'(' && !is_special_byte(byte) && byte > b' ' && byte < 0x7F)
 }
 
-/// Returns whether `byte` goes on with a character of several bytes.
+/// Returns whether `byte` is a byte after the first of a character of several bytes.
 fn is_continuation(byte: u8) -> bool
     ensures { result ≡ is_continuation byte }
 {
@@ -74,8 +74,8 @@ pub(crate) fn byte_at(bytes: &[u8], index: usize) -> u8
     if index < bytes.len() { bytes[index] } else { 0 }
 }
 
-/// Returns how many bytes the letter has that `bytes` begin with, with its `$` if it has one; 0, if
-/// none is known to be there. Most letters are of ASCII, and most runs of them end at a `(`.
+/// Returns the length in bytes of the letter that `bytes` begin with, with its `$` if it has one;
+/// 0, if none is known to be there. Most letters are of ASCII, and most runs of them end at a `(`.
 #[inline(always)]
 fn letter_len(bytes: &[u8]) -> usize
     ensures within { result ≤ length bytes.now }
@@ -113,8 +113,8 @@ fn is_plain_byte(stop: u8, byte: u8) -> bool
     byte > 0x1F && byte < 0x7F && byte != stop
 }
 
-/// Returns how many bytes the character has that `bytes` begin with, if it is not `stop`, and of
-/// printable ASCII, of two bytes, or from U+1000 to U+CFFF; else 0. Most are of ASCII.
+/// Returns the length in bytes of the character that `bytes` begin with, if it is not `stop`, and
+/// of printable ASCII, of two bytes, or from U+1000 to U+CFFF; else 0. Most are of ASCII.
 #[inline(always)]
 fn inner_character_len(bytes: &[u8], stop: u8) -> usize
     requires ascii { stop < 128 }
@@ -137,7 +137,7 @@ fn inner_character_len(bytes: &[u8], stop: u8) -> usize
     }
 }
 
-/// Returns how many bytes such characters have that `bytes` begin with.
+/// Returns the length in bytes of such characters that `bytes` begin with.
 fn inner_len(bytes: &[u8], stop: u8) -> usize
     requires ascii { stop < 128 }
     ensures within { result ≤ length bytes.now }
@@ -154,9 +154,9 @@ fn inner_len(bytes: &[u8], stop: u8) -> usize
     end
 }
 
-/// Returns how many bytes `opening`, characters but `stop` and `closing` have, if `bytes` begin
-/// with these; else 0. The characters are of printable ASCII, of two bytes, or from U+1000 to
-/// U+CFFF.
+/// Returns the length in bytes of `opening`, characters other than `stop`, and `closing`, if
+/// `bytes` begin with these; else 0. The characters are of printable ASCII, of two bytes, or from
+/// U+1000 to U+CFFF.
 pub(crate) fn bracketed_len(bytes: &[u8], opening: &[u8], stop: u8, closing: &[u8]) -> usize
     requires ascii { stop < 128 }
     ensures within { result ≤ length bytes.now }
@@ -196,8 +196,8 @@ fn raw_by(byte: u8) -> Option<RawKind> {
     }
 }
 
-/// Returns how many bytes the raw part has that `bytes` begin with, if it holds no tag, and only
-/// characters that `bracketed_len` takes; else 0.
+/// Returns the length in bytes of the raw part that `bytes` begin with, if it has no tag in it, and
+/// only characters that `bracketed_len` takes; else 0.
 fn raw_len(bytes: &[u8]) -> usize
     ensures within { result ≤ length bytes.now }
     ensures word { 0 < result → IsWord (take result bytes.now) }
@@ -212,7 +212,7 @@ fn raw_len(bytes: &[u8]) -> usize
     bracketed_len(bytes, opening.as_bytes(), b'<', closing.as_bytes())
 }
 
-/// Returns how many bytes the letter or the raw part has that `bytes` begin with; 0, if none is
+/// Returns the length in bytes of the letter or the raw part that `bytes` begin with; 0, if none is
 /// known to be there.
 fn word_len(bytes: &[u8]) -> usize
     ensures within { result ≤ length bytes.now }
@@ -223,8 +223,8 @@ fn word_len(bytes: &[u8]) -> usize
     if letter > 0 { letter } else { raw_len(bytes) }
 }
 
-/// Returns how many bytes a run goes on with from `end`: those of a letter or a raw part, or of a
-/// blank and one of these where something stands before; 0, if it does not go on so.
+/// Returns the number of bytes by which a run goes on from `end`: those of a letter or a raw part,
+/// or of a blank and one of these if something comes before; 0, if it does not go on so.
 fn more_of_run(bytes: &[u8], end: usize) -> usize
     requires { end ≤ length bytes.now }
     ensures within { end + result ≤ length bytes.now }
@@ -243,7 +243,7 @@ fn more_of_run(bytes: &[u8], end: usize) -> usize
     if after > 0 { after + 1 } else { 0 }
 }
 
-/// Returns how many bytes the letters have that `bytes` begin with.
+/// Returns the length in bytes of the letters that `bytes` begin with.
 #[inline(always)]
 pub(crate) fn letters_len(bytes: &[u8]) -> usize
     ensures within { result ≤ length bytes.now }
@@ -261,8 +261,8 @@ pub(crate) fn letters_len(bytes: &[u8]) -> usize
     end
 }
 
-/// Returns whether `bytes` begin with what stands in no run: the `(` of notes, or the `<` of a
-/// closing tag.
+/// Returns whether `bytes` begin with the `(` of notes or the `<` of a closing tag, which are in no
+/// run.
 #[inline(always)]
 fn ends_run(bytes: &[u8]) -> bool
     requires { 0 < length bytes.now }
@@ -271,8 +271,8 @@ fn ends_run(bytes: &[u8]) -> bool
     bytes[0] == b'(' || (bytes[0] == b'<' && byte_at(bytes, 1) == b'/')
 }
 
-/// Returns how many bytes the run has that `bytes` begin with: letters and raw parts, with single
-/// blanks between them.
+/// Returns the length in bytes of the run that `bytes` begin with: letters and raw parts, with
+/// single blanks between them.
 pub(crate) fn run_len(bytes: &[u8]) -> usize
     ensures within { result ≤ length bytes.now }
     ensures run { IsRun (take result bytes.now) }
@@ -292,7 +292,7 @@ pub(crate) fn run_len(bytes: &[u8]) -> usize
     end
 }
 
-/// Returns how many bytes `opening`, a run with something in it and `closing` have, if `bytes`
+/// Returns the length in bytes of `opening`, a run that is not empty, and `closing`, if `bytes`
 /// begin with these; else 0.
 pub(crate) fn enclosed_len(bytes: &[u8], opening: &[u8], closing: &[u8]) -> usize
     ensures within { result ≤ length bytes.now }

@@ -18,7 +18,7 @@ pub enum SpanMark {
 }
 
 impl SpanMark {
-    /// Returns how it is spelled.
+    /// Returns its spelling.
     pub(crate) fn tag(self) -> &'static str
         ensures { result.now ≡ tag_of self }
     {
@@ -31,8 +31,8 @@ impl SpanMark {
     }
 }
 
-/// Returns the first byte of the name of the tag that `bytes` begin with, where they begin with a
-/// tag: a `/` may stand before it.
+/// Returns the first byte of the name of the tag that `bytes` begin with, if they begin with a tag:
+/// a `/` may come before it.
 #[inline(always)]
 fn name_of_tag(bytes: &[u8]) -> u8
     requires { 3 ≤ length bytes.now }

@@ -38,7 +38,7 @@ pub struct TextStage {
     ended: bool,
 }
 
-/// Returns whether a text that ends so is cut.
+/// Returns whether a text with the end `how` is cut.
 fn is_cut(how: TextEnd) -> bool
     ensures { result ≡ is_cut_end how }
 {
@@ -49,7 +49,7 @@ fn is_cut(how: TextEnd) -> bool
 }
 
 impl TextStage {
-    /// Returns a machine that has read nothing. The first character stands at `at`. Spans that it
+    /// Returns a machine that has read nothing. The first character is at `at`. The spans that it
     /// emits count bytes of the kept text, a centre counts pieces. Each count saturates. It has
     /// kept the empty text. A call emits at most 8 events. After the end `push` and `finish` emit
     /// nothing, and leave the machine as it is.
@@ -67,7 +67,7 @@ impl TextStage {
         }
     }
 
-    /// Returns whether it has read nothing, and its first character stands at `at`.
+    /// Returns whether it has read nothing, and its first character is at `at`.
     pub fn begins(&self, at: Place) -> bool
         ensures { IsTrue result ↔ (self.now ≡ fresh_stage at) }
     {
@@ -126,7 +126,7 @@ impl TextStage {
         self.facts.pass(kind, effect);
     }
 
-    /// Reads the token, if any, that ends before the character.
+    /// Reads the token, if any, that ends before the character `c`.
     fn settle(&mut self, c: char, out: &mut Room<TextEvent>)
         requires { Fits out.old 3 }
         ensures stage { self.new ≡ settle_stage self.old c }
@@ -144,7 +144,7 @@ impl TextStage {
         }
     }
 
-    /// Reads the character, which goes on with a token or begins one.
+    /// Reads the character `c`, which is part of the current token or begins one.
     fn read(&mut self, c: char, out: &mut Room<TextEvent>)
         requires { Fits out.old 5 }
         ensures stage { self.new ≡ read_stage self.old c }
@@ -187,7 +187,7 @@ impl TextStage {
         self.facts.pass(TokenKind::Letter, TagEffect::Other);
     }
 
-    /// Ends the text.
+    /// Ends the text with the end `how`.
     fn end(&mut self, how: TextEnd, out: &mut Room<TextEvent>)
         requires { Fits out.old 4 }
         ensures stage { self.new ≡ end_stage self.old }
@@ -205,8 +205,8 @@ impl TextStage {
         self.ended = true;
     }
 
-    /// Reads the character, after the token, if any, that ends before it. A `(` between tokens ends
-    /// the text.
+    /// Reads the character `c`, after the token, if any, that ends before it. A `(` between tokens
+    /// ends the text.
     fn settle_and_read(&mut self, c: char, out: &mut Room<TextEvent>)
         requires fits { Fits out.old 8 }
         requires open { self.old.ended ≡ false }
@@ -222,7 +222,7 @@ impl TextStage {
         }
     }
 
-    /// Takes a character. After the end it changes nothing.
+    /// Takes the character `c`. After the end it changes nothing.
     pub(crate) fn take(&mut self, c: char, out: &mut Room<TextEvent>)
         requires { Fits out.old 8 }
         ensures stage { self.new ≡ push_stage self.old c }
@@ -245,8 +245,8 @@ impl TextStage {
         !self.ended && is_unmatched(self.state)
     }
 
-    /// Takes the characters of a text in a raw part. None of them begins the ending, so that each
-    /// is kept, and no more is emitted.
+    /// Takes the characters of `text` in a raw part. None of them begins the ending, so that each
+    /// is kept, and nothing more is emitted.
     pub(crate) fn pass(&mut self, text: &str)
         requires raw { is_in_raw self.old ≡ true }
         requires no_ending { NonePass (λ c. c == 60) (chars text.now) }
@@ -290,7 +290,8 @@ impl TextStage {
     }
 }
 
-/// Returns how a text ends whose last token begins at `from` and ends with the input.
+/// Returns the end of a text whose last token is of kind `kind`, begins at `from`, and ends with
+/// the input.
 fn end_after(kind: TokenKind, from: Place) -> TextEnd
     ensures { result ≡ end_by kind from }
 {

@@ -1,4 +1,4 @@
-//! What a stage reports of where it stands, and how it is set there again.
+//! The reports of a stage over a text, and how it is restored from them.
 
 ghost use Rattle.std.specs.Prelude.{◌≡◌, ℕ, List};
 ghost use Rattle.gabc_text.specs.witness.Keeps.{Keeps};
@@ -11,7 +11,7 @@ use crate::token_state::TokenState;
 use gabc_places::Place;
 
 impl TextStage {
-    /// Whether it stands in a tag, a raw part or a translation, or ended there.
+    /// Returns whether it is in a tag, a raw part or a translation, or ended there.
     fn is_open(&self) -> bool
         ensures { result ≡ is_open self.now.state }
     {
@@ -23,8 +23,8 @@ impl TextStage {
 
     /// Returns the place of the opener, if there is one: the `<` or `[` of a tag, a raw part or a
     /// translation that has not ended. It is the place at which the text is cut if it ends here;
-    /// which one this is in the text that was read, says the law
-    /// `an_opener_is_where_a_text_is_cut`. A stage that has ended reports none.
+    /// the law `an_opener_is_where_a_text_is_cut` says which one this is in the text that was read.
+    /// A stage that has ended has none.
     pub fn opener(&self) -> Option<Place>
         ensures { result ≡ opener_of self.now }
     {
@@ -37,8 +37,8 @@ impl TextStage {
         }
     }
 
-    /// Returns whether a comment is open: whether with a `(` nothing would be emitted, and
-    /// something with the end after it. After the end of the stage none is.
+    /// Returns whether a comment is open: whether a `(` would emit nothing, and the end after it
+    /// something. After its end a stage has no open comment.
     pub fn in_comment(&self) -> bool
         ensures { result ≡ is_in_comment self.now }
     {
@@ -48,9 +48,9 @@ impl TextStage {
         }
     }
 
-    /// Returns the place of the next character: what is kept of the characters to come stands as in
-    /// a text that begins there. It is the place at which the stage began or to which it was moved
-    /// last, past the characters since. The end of the stage leaves it as it was.
+    /// Returns the place of the next character: the characters to come are kept as in a text that
+    /// begins there. It is the place at which the stage began or to which it was moved last, past
+    /// the characters since. The end of the stage leaves it as it was.
     pub fn next(&self) -> Place
         ensures next { IsNext self.now result }
         ensures reports { result ≡ next_of self.now }
@@ -58,8 +58,8 @@ impl TextStage {
         self.progress.next
     }
 
-    /// Sets the place of the next character to `place`. The opener keeps its own, and the stage
-    /// keeps the text that it keeps.
+    /// Sets the place of the next character to `place`. The opener keeps its own place, and the
+    /// stage keeps the same text.
     pub fn go_to(&mut self, place: Place)
         ensures moved { self.new ≡ moved_to place self.old }
         ensures next { IsNext self.new place }

@@ -24,7 +24,7 @@ pub enum Style {
     Ul,
 }
 
-/// A set of styles: which of the seven are open.
+/// A set of styles: those of the seven that are open.
 #[derive(Clone, Copy, Debug, PartialEq, Eq)]
 pub struct Styles {
     /// Whether `<b>` is open.
@@ -70,7 +70,7 @@ impl Styles {
         }
     }
 
-    /// The set with this style in it, or not.
+    /// Returns the set with `style` in it, if `is_open`, or else without it.
     pub(crate) fn with(self, style: Style, is_open: bool) -> Styles
         ensures { result ≡ with_style self style is_open }
     {

@@ -11,8 +11,8 @@ use crate::tags::{KEPT, TAGS};
 use crate::token::TagEffect;
 use std::marker::Model;
 
-/// What was read of a tag's name: its first characters, up to more than any known name has.
-/// Contracts see the list of them.
+/// The first characters of a tag's name, up to more than any known name has. In contracts it is the
+/// list of them.
 #[derive(Clone, Copy)]
 pub struct TagPrefix {
     letters: [char; KEPT],
@@ -45,7 +45,7 @@ impl Model for TagPrefix {
 }
 
 impl TagPrefix {
-    /// Nothing of the name was read.
+    /// Returns a name of which nothing was read.
     pub(crate) fn new() -> TagPrefix
         ensures { result ≡ [] }
     {
@@ -55,7 +55,7 @@ impl TagPrefix {
         }
     }
 
-    /// The name so far with a character more.
+    /// Returns the name so far with the character `c` after it.
     pub(crate) fn with(mut self, c: char) -> TagPrefix
         ensures { result ≡ next_name self c }
     {
@@ -66,14 +66,14 @@ impl TagPrefix {
         self
     }
 
-    /// Whether this is a name in ASCII.
+    /// Returns whether it is `name`, in ASCII.
     fn is(&self, name: &str) -> bool
         ensures { result ≡ is_text name.now self.now }
     {
         name.len() == self.len && are_same(name.as_bytes(), &self.letters[..self.len])
     }
 
-    /// What a tag of this name does, by the first of the rows that has it.
+    /// Returns the effect of a tag with this name, by the first of `rows` that has it.
     fn effect_among(&self, rows: &[(&'static str, TagEffect)]) -> TagEffect
         ensures { result ≡ effect_in (map (λ row. (row.0.now, row.1)) rows.now) self.now }
     {
@@ -85,7 +85,7 @@ impl TagPrefix {
         TagEffect::Other
     }
 
-    /// What the tag of this name does.
+    /// Returns the effect of the tag with this name.
     pub(crate) fn effect(&self) -> TagEffect
         ensures { result ≡ effect_of (60 ∷ self.now ++ 62 ∷ []) }
     {
@@ -93,7 +93,7 @@ impl TagPrefix {
     }
 }
 
-/// Whether the characters are these bytes, one by one, as far as there are both.
+/// Returns whether `letters` are `bytes`, one by one, as far as there are both.
 fn are_same(bytes: &[u8], letters: &[char]) -> bool
     ensures { result ≡ list_all (λ p. p.1 == p.0) (zip bytes.now letters.now) }
 {

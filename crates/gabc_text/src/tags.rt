@@ -7,8 +7,7 @@ ghost use Rattle.gabc_text.specs.Token.{tag_names};
 use crate::styles::Style;
 use crate::token::{RawKind, TagEffect};
 
-/// The tags that are known: what stands between the `<` and the `>`, in ASCII, and what the tag
-/// does.
+/// The known tags: the name between the `<` and the `>`, in ASCII, and the effect of the tag.
 #[rattlefmt::skip]
 pub(crate) const TAGS: [(&str, TagEffect); 21] = [
     ("b", TagEffect::Opens(Style::B)),
@@ -34,10 +33,10 @@ pub(crate) const TAGS: [(&str, TagEffect); 21] = [
     ("alt", TagEffect::Begins(RawKind::Alt)),
 ];
 
-/// How many characters of a tag's name are kept: more than any name in the table has.
+/// The number of characters of a tag's name that are kept: more than any name in the table has.
 pub(crate) const KEPT: usize = 6;
 
-/// Law: the names in the table are these, each with what its tag does.
+/// Law: the names in the table are these, each with the effect of its tag.
 pub fn tag_names_are_these()
     ensures { tag_names ≡ known_tags }
 {}

@@ -1,4 +1,4 @@
-//! What a text emits as it is read.
+//! The events of a text as it is read.
 
 use crate::view::Piece;
 use gabc_places::{Char, Finding, Place, Span};
@@ -10,13 +10,13 @@ pub enum TextPart {
     WordStart,
     /// A piece.
     Piece(Piece),
-    /// The centre: from and to how many pieces. It comes just before the end.
+    /// The centre, from and to a number of pieces. It comes just before the end.
     Centre(Span),
     /// The translation without its brackets, in bytes of the kept text.
     Translation(Span),
 }
 
-/// How a text ended.
+/// The end of a text.
 #[derive(Clone, Copy, Debug, PartialEq, Eq)]
 pub enum TextEnd {
     /// At the `(` of the notes.
@@ -27,18 +27,18 @@ pub enum TextEnd {
     Cut(Place),
 }
 
-/// What a text emits as it is read.
+/// An event of a text as it is read.
 #[derive(Clone, Copy, Debug, PartialEq, Eq)]
 pub enum TextEvent {
     /// A character of the kept text.
     Kept(Char),
     /// A part of the view.
     Part(TextPart),
-    /// What was found, with its place.
+    /// An error or a warning, with its place.
     Found(Finding),
-    /// The end, after which nothing more comes.
+    /// The end, the last event.
     Ended(TextEnd),
 }
 
-/// What a `TextStage` puts out.
+/// The output of a `TextStage`.
 pub type TextOut = TextEvent;

@@ -1,4 +1,4 @@
-//! What the tokens so far have shown.
+//! The facts about the tokens so far.
 
 ghost use Rattle.std.specs.Prelude.{◌≡◌, ◌∷◌, ◌&&◌, [], cond, not};
 ghost use Rattle.std.specs.List.{list_any};
@@ -17,7 +17,7 @@ use crate::token_state::TokenState;
 use crate::view::PieceKind;
 use gabc_places::Code;
 
-/// What the tokens so far have shown.
+/// The facts about the tokens so far.
 #[derive(Clone, Copy, PartialEq)]
 pub struct TextFacts {
     /// The open styles.
@@ -53,7 +53,8 @@ pub(crate) fn kind_of(kind: TokenKind, effect: TagEffect) -> Option<PieceKind>
     }
 }
 
-/// The styles after a tag that does this.
+/// Returns the styles that are open after a tag with the effect `effect`, if `styles` are open
+/// before it.
 pub(crate) fn styles_after(styles: Styles, effect: TagEffect) -> Styles
     ensures { result ≡ styles_after styles effect }
 {
@@ -64,7 +65,7 @@ pub(crate) fn styles_after(styles: Styles, effect: TagEffect) -> Styles
     }
 }
 
-/// A brace, comment or stray character that is not kept.
+/// Returns whether a token is left out: a brace, comment or stray character that is not kept.
 pub(crate) fn is_left_out(facts: TextFacts, kind: TokenKind) -> bool
     ensures { result ≡ leaves_out facts kind }
 {
@@ -76,7 +77,7 @@ pub(crate) fn is_left_out(facts: TextFacts, kind: TokenKind) -> bool
     }
 }
 
-/// The piece that a token is, if any.
+/// Returns the kind of the piece for a token, if it is one.
 #[inline(always)]
 pub(crate) fn piece_at(facts: TextFacts, kind: TokenKind, effect: TagEffect) -> Option<PieceKind>
     ensures { result ≡ piece_by facts kind effect }
@@ -93,7 +94,7 @@ pub(crate) fn piece_at(facts: TextFacts, kind: TokenKind, effect: TagEffect) -> 
     }
 }
 
-/// The finding where a second translation begins.
+/// Returns the finding at the beginning of a second translation.
 pub(crate) fn early_at(facts: TextFacts, state: TokenState, c: char) -> Option<Code>
     ensures { result ≡ early_at facts state c }
 {
@@ -103,7 +104,7 @@ pub(crate) fn early_at(facts: TextFacts, state: TokenState, c: char) -> Option<C
     }
 }
 
-/// The finding where a token ends, if any.
+/// Returns the finding at the end of a token, if any.
 #[inline(always)]
 pub(crate) fn code_at(facts: TextFacts, kind: TokenKind, effect: TagEffect) -> Option<Code>
     ensures { option_list_of result ≡ codes_by facts kind effect }
@@ -140,7 +141,7 @@ pub(crate) fn code_at(facts: TextFacts, kind: TokenKind, effect: TagEffect) -> O
     }
 }
 
-/// The finding of styles that are open where a text ends.
+/// Returns the finding of a text that ends with open styles, if any is open.
 pub(crate) fn style_code(styles: Styles) -> Option<Code>
     ensures { option_list_of result
         ≡ cond (list_any (has_style styles) all_styles) (Code.W3 ∷ []) [] }
@@ -152,7 +153,7 @@ pub(crate) fn style_code(styles: Styles) -> Option<Code>
     }
 }
 
-/// The finding of a centre that is open where a text ends.
+/// Returns the finding of a text that ends with an open centre, if it is open.
 pub(crate) fn centre_code(facts: TextFacts) -> Option<Code>
     ensures { option_list_of result ≡ cond (facts.begun && not facts.ended) (Code.W4 ∷ []) [] }
 {
@@ -164,7 +165,7 @@ pub(crate) fn centre_code(facts: TextFacts) -> Option<Code>
 }
 
 impl TextFacts {
-    /// Sees a piece that is no blank and no span mark.
+    /// Updates the facts for a piece that is no blank and no span mark.
     #[inline(always)]
     fn pass_piece(&mut self)
         ensures { self.new ≡ after_piece self.old }
@@ -174,7 +175,7 @@ impl TextFacts {
         self.space = false;
     }
 
-    /// Sees a tag that does this.
+    /// Updates the facts for a tag with the effect `effect`.
     fn pass_tag(&mut self, effect: TagEffect)
         ensures { self.new ≡ after_tag self.old effect }
     {
@@ -191,7 +192,7 @@ impl TextFacts {
         }
     }
 
-    /// Sees a token more.
+    /// Updates the facts for one more token.
     #[inline(always)]
     pub(crate) fn pass(&mut self, kind: TokenKind, effect: TagEffect)
         ensures { self.new ≡ facts_after self.old kind effect }
@@ -222,7 +223,7 @@ impl TextFacts {
     }
 }
 
-/// What is kept of a character between tokens, where this is its kind.
+/// Returns the character that is kept of `c` between tokens, if any, if its kind is `kind`.
 pub(crate) fn keep_first(facts: TextFacts, c: char, kind: TokenKind) -> Option<char>
     ensures { result ≡ keep_first facts c kind }
 {
@@ -235,7 +236,7 @@ pub(crate) fn keep_first(facts: TextFacts, c: char, kind: TokenKind) -> Option<c
     }
 }
 
-/// What is kept of a character.
+/// Returns the character that is kept of `c`, if any.
 pub(crate) fn keep(facts: TextFacts, state: TokenState, c: char) -> Option<char>
     ensures { result ≡ keep facts state c }
 {

@@ -1,4 +1,4 @@
-//! The tokens of a text: the parts of its spelling that the rules speak of.
+//! The tokens of a text: the parts of its spelling that the rules are about.
 
 ghost use Rattle.std.specs.Prelude.{◌≡◌};
 ghost use Rattle.gabc_text.specs.Token.{is_special, single};
@@ -6,10 +6,10 @@ ghost use Rattle.gabc_text.specs.View.{is_space};
 
 use crate::styles::Style;
 
-/// What a token of a text is.
+/// The kind of a token of a text.
 #[derive(Clone, Copy, Debug, PartialEq, Eq)]
 pub enum TokenKind {
-    /// A character that stands for itself, with its `$` if it has one.
+    /// A character that is printed as itself, with its `$` if it has one.
     Letter,
     /// A blank.
     Blank,
@@ -44,7 +44,7 @@ pub enum RawKind {
     Alt,
 }
 
-/// What a tag does.
+/// The effect of a tag.
 #[derive(Clone, Copy, Debug, PartialEq, Eq)]
 pub enum TagEffect {
     /// It opens a style.
@@ -55,7 +55,7 @@ pub enum TagEffect {
     Mark,
     /// It begins a raw part.
     Begins(RawKind),
-    /// Nothing of these.
+    /// None of these.
     Other,
 }
 

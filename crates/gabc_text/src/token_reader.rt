@@ -9,18 +9,18 @@ use crate::token_state::{Step, TokenState, is_plain, kind_at_end, next_step, set
 use gabc_places::Span;
 use std::marker::Model;
 
-/// A token of a text: a part of its spelling that the rules speak of.
+/// A token of a text: a part of its spelling that the rules are about.
 #[derive(Clone, Copy, Debug, PartialEq, Eq)]
 pub struct TextToken {
-    /// What it is.
+    /// Its kind.
     pub kind: TokenKind,
-    /// What its tag does, where it is a tag; else `Other`.
+    /// The effect of its tag, if it is a tag; else `Other`.
     pub effect: TagEffect,
     /// Its bytes in the text.
     pub span: Span,
 }
 
-/// What a character does where a token is read.
+/// The effect of a character on the token that is read.
 #[derive(Clone, Copy)]
 pub(crate) enum Reading {
     /// No token begins with it: it is the `(` of the notes.
@@ -31,7 +31,7 @@ pub(crate) enum Reading {
     Taken(Step),
 }
 
-/// Returns what the character does in this state.
+/// Returns the effect of the character `c` in `state`.
 fn reading_at(state: &TokenState, c: char) -> Reading
     ensures { result ≡ reading_at state.now c }
 {
@@ -83,12 +83,13 @@ fn other_token(kind: TokenKind, from: usize, to: usize) -> TextToken
     }
 }
 
-/// Goes over the tokens of a text, in order. Contracts see the list of those to come.
+/// An iterator over the tokens of a text, in order. In contracts it is the list of the remaining
+/// ones.
 #[derive(Drop)]
 pub struct TokenReader<'a> {
     /// The text from the next token on.
     rest: &'a str,
-    /// How many bytes of the text stand before it.
+    /// The number of bytes of the text before it.
     at: usize,
 }
 
@@ -105,8 +106,8 @@ impl<'a> Model for TokenReader<'a> {
 }
 
 impl<'a> TokenReader<'a> {
-    /// Returns an iterator over the tokens that are still to come, to look ahead. It takes none of
-    /// them, and asks for no memory.
+    /// Returns an iterator over the remaining tokens, to look ahead. It takes none of them, and
+    /// does not allocate.
     pub fn ahead(&self) -> TokenReader<'a>
         ensures { result ≡ self.now }
     {
@@ -134,10 +135,10 @@ impl<'a> Iterator for TokenReader<'a> {
     }
 }
 
-/// Returns an iterator over the tokens of `text`, in order, up to its end or to the `(` where a
-/// token would begin (GregorioRef, "Syllable Text Syntax"). They lie in `text`, each begins where
-/// the one before it ends, and they are at most as many as its bytes. It asks for no memory, and
-/// each token is read when it is asked for.
+/// Returns an iterator over the tokens of `text`, in order, up to its end or to a `(` between
+/// tokens (GregorioRef, "Syllable Text Syntax"). They lie in `text`, each begins at the end of the
+/// one before it, and they are at most as many as its bytes. It does not allocate, and reads each
+/// token when it is asked for.
 pub fn tokens_in(text: &str) -> TokenReader<'_>
     ensures tokens { result ≡ tokens_of text.now }
     ensures within { AreWithin text.now (tokens_of text.now) }

@@ -1,4 +1,4 @@
-//! How a text is cut into tokens as its characters come.
+//! The machine that cuts a text into tokens as its characters come.
 
 ghost use Rattle.std.specs.Prelude.{◌≡◌, IsTrue};
 ghost use Rattle.gabc_text.specs.machine.TokenState.{settled_kind, wanted_char, step_in_raw, step_at_tag_end, first_step, next_step, kind_at_end, is_plain, IsLetterBetween};
@@ -17,7 +17,7 @@ pub enum TokenState {
     Comment,
     /// In a tag, with its name so far.
     Tag(TagPrefix),
-    /// In a raw part, with how many characters of its ending were read.
+    /// In a raw part, with the number of characters of its ending that were read.
     Raw { part: RawKind, matched: u8 },
     Translation,
 }
@@ -98,7 +98,7 @@ fn stays_in_raw(part: RawKind, matched: u8) -> Step
     Step::Stays(TokenState::Raw { part, matched })
 }
 
-/// Returns the effect of a character in a raw part.
+/// Returns the effect of the character `c` in a raw part, after `matched` characters of its ending.
 pub(crate) fn step_in_raw(part: RawKind, matched: u8, c: char) -> Step
     ensures { result ≡ step_in_raw part matched c }
 {
@@ -117,7 +117,7 @@ pub(crate) fn step_in_raw(part: RawKind, matched: u8, c: char) -> Step
     }
 }
 
-/// What the `>` of a tag does that does this.
+/// Returns the step at the `>` of a tag with the effect `effect`.
 pub(crate) fn step_at_tag_end(effect: TagEffect) -> Step
     ensures { result ≡ step_at_tag_end effect }
 {
@@ -130,7 +130,7 @@ pub(crate) fn step_at_tag_end(effect: TagEffect) -> Step
     }
 }
 
-/// Returns the effect of a character between tokens.
+/// Returns the effect of the character `c` between tokens.
 pub(crate) fn first_step(c: char) -> Step
     ensures { result ≡ first_step c }
 {
@@ -143,7 +143,7 @@ pub(crate) fn first_step(c: char) -> Step
     }
 }
 
-/// Returns true only for a character of ASCII that is a letter of the text between tokens: a
+/// Returns `true` only for a character of ASCII that is a letter of the text between tokens: a
 /// letter, a digit or most marks. There it is a token by itself, and it is kept.
 pub(crate) fn is_plain_letter(c: char) -> bool
     ensures { IsTrue result → IsLetterBetween c }
@@ -154,7 +154,7 @@ pub(crate) fn is_plain_letter(c: char) -> bool
     }
 }
 
-/// Returns the effect of a character in this state.
+/// Returns the effect of the character `c` in `state`.
 pub(crate) fn next_step(state: TokenState, c: char) -> Step
     ensures { result ≡ next_step state c }
 {

@@ -1,4 +1,4 @@
-//! The pieces of a text.
+//! The view of a text: its pieces, its centre and its translation.
 
 ghost use Rattle.std.specs.Prelude.{◌≡◌, ◌≤◌, IsOk, IfOk, OnOk, OnErr};
 ghost use Rattle.smallvec.specs.SmallVec.{HasRoomFor};
@@ -11,16 +11,16 @@ use gabc_places::{Place, Span};
 use smallvec::SmallVec;
 use std::alloc::{AllocError, Global};
 
-/// What a piece of a text is.
+/// The kind of a piece of a text.
 #[derive(Clone, Copy, Debug, PartialEq, Eq)]
 pub enum PieceKind {
-    /// A character that stands for itself.
+    /// A character that is printed as itself.
     Char,
     /// A run of blanks.
     Blank,
     /// A raw part with its two tags.
     Raw,
-    /// A tag that is kept as it stands.
+    /// A tag that is kept as it is written.
     Tag,
     /// One of `<eu>`, `</eu>`, `<nlba>` and `</nlba>`.
     Mark,
@@ -30,7 +30,7 @@ pub enum PieceKind {
 /// `$` before it.
 #[derive(Clone, Copy, Debug, PartialEq, Eq)]
 pub struct Piece {
-    /// What it is.
+    /// Its kind.
     pub kind: PieceKind,
     /// The styles that are open at it.
     pub styles: Styles,
@@ -55,7 +55,7 @@ impl Default for Piece {
     }
 }
 
-/// How a text ends.
+/// The end of a text.
 #[derive(Clone, Copy, Debug, PartialEq, Eq)]
 pub enum TextEnding {
     /// At the `(` at this index, in bytes of the text.
@@ -66,17 +66,17 @@ pub enum TextEnding {
     Cut(Place),
 }
 
-/// The pieces of a text, in order. Four of them need no memory of their own.
+/// The pieces of a text, in order. Up to four of them are not allocated.
 pub type Pieces = SmallVec<Piece, 4>;
 
-/// What a text says.
+/// The view of a text.
 #[derive(Debug, Drop)]
 pub struct TextView {
     /// Whether the syllable begins a word.
     pub word_start: bool,
     /// The pieces, in order.
     pub pieces: Pieces,
-    /// The centre: from and to how many pieces (GregorioRef, "Lyric Centering").
+    /// The centre, from and to a number of pieces (GregorioRef, "Lyric Centering").
     pub centre: Option<Span>,
     /// The first translation without its brackets, in bytes of the kept text (GregorioRef,
     /// "Translation Text").
@@ -84,7 +84,7 @@ pub struct TextView {
 }
 
 impl TextView {
-    /// Returns a view that says nothing.
+    /// Returns an empty view.
     pub fn new(alloc: Global) -> TextView
         ensures { content_of result ≡ empty_view }
     {
@@ -96,7 +96,7 @@ impl TextView {
         }
     }
 
-    /// Returns a view that says nothing, and reserves memory for `pieces` pieces.
+    /// Returns an empty view, and reserves memory for `pieces` pieces.
     pub fn with_capacity(alloc: Global, pieces: usize) -> Result<TextView, AllocError>
         ensures content { IfOk result (λ view. content_of view ≡ empty_view) }
         ensures capacity { IfOk result (λ view. pieces ≤ view.pieces.capacity) }
@@ -109,8 +109,8 @@ impl TextView {
         })
     }
 
-    /// Adds `part`, as the machine emitted it. Where a piece more is within the capacity, that asks
-    /// for no memory. If there is no memory, the view says what it said.
+    /// Adds `part`, as the machine emitted it. If one piece more is within the capacity, it does
+    /// not allocate. If memory cannot be allocated, the view is unchanged.
     pub fn add(&mut self, part: TextPart) -> Result<(), AllocError>
         ensures added { OnOk result (content_of self.new ≡ with_part (content_of self.old) part) }
         ensures capacity { self.old.pieces.capacity ≤ self.new.pieces.capacity }
@@ -128,8 +128,7 @@ impl TextView {
         Ok(())
     }
 
-    /// Adds `part`, as `add` does, where a piece more is within the capacity. It asks for no
-    /// memory.
+    /// Adds `part`, as `add` does, if one piece more is within the capacity. It does not allocate.
     pub fn add_reserved(&mut self, part: TextPart)
         requires { HasRoomFor self.old.pieces 1 }
         ensures added { content_of self.new ≡ with_part (content_of self.old) part }
@@ -155,7 +154,7 @@ impl TextView {
         })
     }
 
-    /// Makes the view say nothing. The memory stays reserved.
+    /// Makes the view empty. The memory stays reserved.
     pub fn clear(&mut self)
         ensures content { content_of self.new ≡ empty_view }
         ensures capacity { self.new.pieces.capacity ≡ self.old.pieces.capacity }

@@ -16,21 +16,21 @@ use gabc_places::{Findings, Place, Room};
 use memchr::memchr;
 use std::alloc::{AllocError, Global};
 
-/// What a text says.
+/// The reading of a text.
 #[derive(Debug, Drop)]
 pub struct TextRead {
-    /// What it says.
+    /// Its view.
     pub view: TextView,
     /// The text without comments and what was left out, each run of blanks as one U+0020. Spans
     /// count its bytes.
     pub kept: String,
-    /// What was found, in the order of places.
+    /// The findings, in the order of places.
     pub findings: Findings,
-    /// How it ends.
+    /// Its end.
     pub how: TextEnding,
 }
 
-/// What was read so far.
+/// The reading of a text so far.
 #[derive(Drop)]
 struct TextBuilder {
     kept: String,
@@ -51,7 +51,7 @@ impl TextBuilder {
         }
     }
 
-    /// Adds what the machine emitted.
+    /// Adds an event of the machine.
     fn add(&mut self, event: TextEvent) -> Result<(), AllocError>
         ensures { OnOk result (built_text_of self.new ≡ with_event (built_text_of self.old) event) }
     {
@@ -64,7 +64,7 @@ impl TextBuilder {
         Ok(())
     }
 
-    /// Adds all that the machine emitted.
+    /// Adds all `events` of the machine.
     fn add_all(&mut self, events: &[TextEvent]) -> Result<(), AllocError>
         ensures { OnOk result (built_text_of self.new
             ≡ with_events (built_text_of self.old) events.now) }
@@ -75,7 +75,7 @@ impl TextBuilder {
         Ok(())
     }
 
-    /// Passes a character to the machine, and adds what it emits. Nothing stays in the room.
+    /// Passes the character `c` to the machine, and adds its events. `room` is left empty.
     fn feed(
         &mut self,
         stage: &mut TextStage,
@@ -94,8 +94,8 @@ impl TextBuilder {
         Ok(())
     }
 
-    /// Passes the characters of a text in a raw part to the machine, and adds what it emits: it
-    /// keeps them all, since none of them begins the ending.
+    /// Passes the characters of `text` in a raw part to the machine, and adds its events: it keeps
+    /// them all, since none of them begins the ending.
     fn pass(&mut self, stage: &mut TextStage, text: &str) -> Result<(), AllocError>
         requires raw { is_in_raw stage.old ≡ true }
         requires no_ending { NonePass (λ c. c == 60) (chars text.now) }
@@ -107,7 +107,7 @@ impl TextBuilder {
         self.kept.push_str(text)
     }
 
-    /// Ends the machine, and adds what it emits.
+    /// Ends the machine, and adds its events.
     fn close(&mut self, stage: &mut TextStage, room: &mut Room<TextEvent>) -> Result<(), AllocError>
         requires { room.old ≡ record { items = []; limit = 8 } }
         ensures { OnOk result (built_text_of self.new
@@ -117,7 +117,7 @@ impl TextBuilder {
         self.add_all(room.slice())
     }
 
-    /// What was read, of a text that ends like this.
+    /// Returns the reading of a text with the end `how`.
     fn into_read(self, how: TextEnding) -> TextRead
         ensures kept { string_bytes result.kept ≡ string_bytes self.kept }
         ensures view { result.view ≡ self.view }
@@ -139,7 +139,7 @@ impl TextBuilder {
     }
 }
 
-/// Returns how a text ends after `index` bytes.
+/// Returns the end of a text after `index` bytes.
 fn ending_of(end: TextEnd, index: usize) -> TextEnding
     ensures { result ≡ ending_of end index }
 {
@@ -150,7 +150,7 @@ fn ending_of(end: TextEnd, index: usize) -> TextEnding
     }
 }
 
-/// The text before its first `<`, or all of it.
+/// Returns the text before the first `<`, or all of it.
 fn before_tag(text: &str) -> &str
     ensures prefix { chars result.now ≡ before_first 60 (chars text.now) }
     ensures begins { result.now ≡ take (length result.now) text.now }
@@ -164,9 +164,9 @@ fn before_tag(text: &str) -> &str
 /// Reads the text of a syllable, up to its `(` or the end of `body` (GregorioRef, "Syllable Text
 /// Syntax"). Returns the kept text, the view (whether it begins a word, its pieces with kind,
 /// styles and span, its centre and its translation), the findings with their places, and the end.
-/// The first character of `body` stands at `at`; each number of `at` and the bytes of `body`
-/// together have to be below 2^64. Where the text is cut, `kept` holds what was kept up to the end.
-/// It fails only for want of memory.
+/// The first character of `body` is at `at`; each number of `at` and the bytes of `body` together
+/// have to be below 2^64. If the text is cut, `kept` has all that was kept up to the end. Fails
+/// only if memory cannot be allocated.
 pub fn text_whole(alloc: Global, body: &str, at: Place) -> Result<TextRead, AllocError>
     requires line { at.line + length body.now < 2 ^ 64 }
     requires column { at.column + length body.now < 2 ^ 64 }

@@ -15,10 +15,10 @@ escaped text = flat_map escaped_byte text
 abbrev pub line_of_header : List ℕ × List ℕ → List ℕ
 line_of_header e = codes "header " ++ (escaped (encode_utf8_all e.0) ++ (codes ":" ++ (escaped (encode_utf8_all e.1) ++ codes "\n")))
 
--- what stands before the syllables: `dump 2`, and a line for each header
+-- the lines before the syllables: `dump 2`, and a line for each header
 abbrev pub dump_heads : List (List ℕ × List ℕ) → List ℕ
 dump_heads book = codes "dump 2\n" ++ flat_map line_of_header book
 
--- what stands after them, for n syllables: `end COUNT`
+-- the line after them, for n syllables: `end COUNT`
 abbrev pub end_line : ℕ → List ℕ
 end_line count = codes "end " ++ (decimal count ++ codes "\n")

@@ -1,5 +1,6 @@
--- The lines of a GABC snippet in a dump. In these definitions `before` is what stands before an
--- item, the nearest first, and `outset` is what is in force before the snippet.
+-- The lines of a GABC snippet in a dump. In these definitions `before` are the items before an
+-- item, the nearest first, and `outset` has the clef and the alterations in force before the
+-- snippet.
 use Rattle.std.specs.Prelude.{ℕ, ◌+◌, ◌-◌, ◌==◌, List, [], ◌∷◌, ◌++◌, Bool, true, false, ◌&&◌, ◌||◌, not, length, map, reverse, slice_range, codes, Option, Some, None, if◌then◌else◌}
 use Rattle.std.specs.List.{flat_map, take_while}
 use Rattle.std.specs.Fmt.{decimal}
@@ -77,7 +78,7 @@ line_of_spacing t = codes "space " ++ (if is_blank_run t then codes "blank\n" el
 abbrev pub line_of_custos : List ℕ → List ℕ
 line_of_custos t = codes "custos " ++ (if begins_with (codes "z") t then codes "auto\n" else pitch_letter (height_at t) ∷ codes "\n")
 
--- what stands between the brackets of an attribute
+-- the bytes between the brackets of an attribute
 abbrev pub raw_of : List ℕ → List ℕ
 raw_of t = slice_range t 1 (length t - 1)
 
@@ -96,7 +97,7 @@ line_by force kind.Fusion t = codes "fusion " ++ last_text t
 abbrev pub line_of_item : InForce → List ℕ → Item → List ℕ
 line_of_item force kept i = line_by force i.kind (bytes_of kept i)
 
--- ---- what stands before the line of an item
+-- ---- the lines before the line of an item
 
 -- the nearest item is part of an element
 abbrev pub is_after_element : List ℕ → List Item → Bool
@@ -115,7 +116,7 @@ line_of_glyph g = codes "glyph " ++ (kind_word g.kind ++ (codes " " ++ (decimal 
 abbrev pub line_of_glyph_at : List Glyph → ℕ → List ℕ
 line_of_glyph_at glyphs index = flat_map (λ (g : Glyph). if g.first == index then line_of_glyph g else []) glyphs
 
--- the notes of the segment that stand before a place, and those from there on
+-- the notes of the segment before a place, and those from there on
 abbrev pub notes_before : List ℕ → List Item → List Note
 notes_before kept before = notes_in kept (reverse (take_while is_in_segment before))
 
@@ -138,7 +139,7 @@ glyph_line kept before i items = if is_note i.kind then line_of_first_glyph kept
 
 -- ---- the lines of a snippet
 
--- what is in force after the items before
+-- the clef and the alterations in force after the items before
 abbrev pub in_force_at : InForce → List ℕ → List Item → InForce
 in_force_at outset kept before = in_force_after outset (map (step_of kept) before)
 

@@ -56,7 +56,7 @@ first_steps position = if starts_word position then WordStart ∷ [] else []
 abbrev pub steps_of_syllable : PlacedSyllable → List ScoreStep
 steps_of_syllable s = first_steps s.position ++ steps_of_snippets s.made.kept s.made.snippets
 
--- ---- the lines; `outset` is what is in force before what they report
+-- ---- the lines; `outset` has the clef and the alterations in force before them
 
 -- the lines of a snippet: line 0 is that of the notes
 abbrev pub lines_on : InForce → ℕ → List ℕ → List ℕ

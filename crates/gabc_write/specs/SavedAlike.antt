@@ -6,7 +6,7 @@ use Rattle.gabc_score.specs.ReportedWithin.{ReportsText, written_after}
 use Rattle.gabc_score.specs.witness.ScoreStage.{ScoreStageState}
 
 -- In the body, under the same limits, the same is saved of both. What the one reports is that of a
--- text, and the next character stands where a text that is read has counted it.
+-- text, and the place of the next character is the one that a text that is read has counted.
 pub record AreSavedAlike (one other : ScoreStageState) : Type 0 where
   pub runs : is_some (before_of one) ≡ true
   pub limits : one.limits ≡ other.limits

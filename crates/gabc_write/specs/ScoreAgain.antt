@@ -40,9 +40,9 @@ pub record IsSameScore (book : List (List ℕ × List ℕ)) (facts : List Syllab
   pub bytes : score_text book again.syllables ≡ encode_utf8_all (printed_file book facts)
 
 -- The canonical file of this book and these syllables is read again, under these limits: it has no
--- more bytes than the input may have, they are decoded without a fault, and the text is read as the
--- book and cut into units that say what the syllables' units say. Its score has no fault and no
--- error and is the same: it has this book, its syllables say the same, and its canonical file is
+-- more bytes than the limit of the input, they are decoded without a fault, and the text is read as
+-- the book and cut into units that say the same as the syllables' units. Its score has no fault and
+-- no error and is the same: it has this book, its syllables say the same, and its canonical file is
 -- this file.
 pub record IsScoreAgain (limits : Limits) (input : List ℕ) (book : List (List ℕ × List ℕ)) (syllables : List PlacedSyllable) : Type 0 where
   pub printed : IsPrintedScore input book syllables

@@ -1,4 +1,4 @@
--- A stage over a score that is restored from what another one reports.
+-- A stage over a score that is restored from the reports of another one.
 use Rattle.std.specs.Prelude.{◌≡◌, ◌==◌, ℕ, Bool, List, Option, Some, None, encode_utf8_all}
 use Rattle.gabc_places.specs.declared.limits.Limits.{Limits}
 use Rattle.gabc_headers.specs.declared.head_event.HeadEvent.{HeadEvent}
@@ -17,8 +17,8 @@ use Rattle.gabc_write.specs.DumpOfSyllables.{HaveOneDump}
 use Rattle.gabc_write.specs.SyllableMeaning.{meaning_of}
 use Rattle.gabc_write.specs.SyllableRead.{as_it_stands}
 
--- two held syllables say the same where they stand, wherever in their word.
--- `first` says whether no syllable stands before them.
+-- two held syllables say the same, whatever their position in their word. `first` says whether no
+-- syllable comes before them.
 abbrev pub SayTheSame : Bool → Option UnplacedSyllable → Option UnplacedSyllable → Type 0
 SayTheSame first None None = Unit {0}
 SayTheSame first (Some m) (Some n) =
@@ -34,14 +34,14 @@ pub record MayBeHeldByItsText (limits : Limits) (before : Before) (m : UnplacedS
   pub may : MayBeHeld limits before text again
   pub same_text : written_after (preceding_of before) again ≡ written_after (preceding_of before) m
 
--- Whatever follows, the one gives what the other gives. Only the syllable that it holds stands
--- where the other gives its own: it says the same, and has the same canonical text.
+-- Whatever follows, the one emits what the other emits. Only the syllable that it holds takes the
+-- place of the one that the other emits: it says the same, and has the same canonical text.
 pub record GoesOnEquivalently (told made : ScoreStageState) : Type 0 where
   pub held : HoldTheSame (told.before.syllables == 0) (held_of told) (held_of made)
   pub says : SayTheSame (told.before.syllables == 0) (held_of told) (held_of made)
   pub gives : (xs : List HeadEvent) → GiveTheSame (held_of told) (held_of made) (left_of told xs) (left_of made xs)
 
--- So it is of characters that stand one after the other, from the place of the next one on.
+-- The same holds of characters that come one after the other, from the place of the next one on.
 pub record GoesOnEquivalentlyInLine (told made : ScoreStageState) : Type 0 where
   pub held : HoldTheSame (told.before.syllables == 0) (held_of told) (held_of made)
   pub says : SayTheSame (told.before.syllables == 0) (held_of told) (held_of made)
@@ -53,7 +53,7 @@ pub record IsWrittenAlike (m n : UnplacedSyllable) (position : Position) : Type 
   pub canonical : canonical_in_place (record { made = m; position = position }) ≡ canonical_in_place (record { made = n; position = position })
   pub dump : HaveOneDump (record { made = m; position = position }) (record { made = n; position = position })
 
--- so are two held ones, wherever in their word
+-- so are two held ones, whatever their position in their word
 abbrev pub AreWrittenAlike : Option UnplacedSyllable → Option UnplacedSyllable → Type 0
 AreWrittenAlike None None = Unit {0}
 AreWrittenAlike (Some m) (Some n) = (position : Position) → IsWrittenAlike m n position

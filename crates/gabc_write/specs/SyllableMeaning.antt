@@ -1,4 +1,4 @@
--- What a syllable says: all that is reported of it but its spelling and its spans.
+-- The meaning of a syllable: all that is reported of it but its spelling and its spans.
 use Rattle.std.specs.Prelude.{◌≡◌, ℕ, List, map, Bool, Option}
 use Rattle.std.specs.Option.{option_map}
 use Rattle.gabc_places.specs.declared.place.Span.{Span}
@@ -46,6 +46,6 @@ meaning_of s = record {
   nlba = s.made.nlba;
 }
 
--- these syllables say what those say: as many, and each the same
+-- these syllables say the same as those: they are as many, and each says the same
 abbrev pub AreSame : List PlacedSyllable → List PlacedSyllable → Type 0
 AreSame syllables others = map meaning_of syllables ≡ map meaning_of others

@@ -1,5 +1,4 @@
--- A syllable that is read again from its own canonical text, apart from the score in which it
--- stands.
+-- A syllable that is read again from its own canonical text, apart from the score that has it.
 use Rattle.std.specs.Prelude.{◌≡◌, ℕ, ◌<◌, ◌≤◌, ◌||◌, Bool, List, [], ◌∷◌, ◌++◌, length, encode_utf8_all}
 use Rattle.std.specs.List.{All}
 use Rattle.gabc_places.specs.declared.place.Place.{Place}
@@ -15,12 +14,12 @@ use Rattle.gabc_body.specs.Syllable.{UnplacedSyllable, since_close, kept_of, all
 use Rattle.gabc_body.specs.UnitRead.{HoldsSomeUnit, first_events}
 use Rattle.gabc_write.specs.SyllableMeaning.{meaning_of}
 
--- a syllable as it stands in a score: the first one begins a word, whatever its text says
+-- a syllable of a score: the first one begins a word, whatever its text says
 abbrev pub as_it_stands : Bool → UnplacedSyllable → UnplacedSyllable
 as_it_stands first m = record m { text = record m.text { word_start = first || m.text.word_start } }
 
--- two syllables say the same, wherever both stand in their word, but for the spans that are open
--- after them
+-- two syllables say the same, whatever their position in their word, but for the spans that are
+-- open after them
 abbrev pub SaysTheSame : UnplacedSyllable → UnplacedSyllable → Type 0
 SaysTheSame n m =
     (position : Position) → meaning_of (record { made = n; position = position }) ≡ meaning_of (record { made = record m { eu = n.eu; nlba = n.nlba }; position = position })
@@ -54,7 +53,7 @@ module _ (lines macros : ℕ) (m : UnplacedSyllable) (text : List ℕ) (at : Pla
     pub open_nlba : is_nlba emitted_through ≡ again.nlba
     pub same_text : canonical again.text.word_start again ≡ canonical m.text.word_start m
 
--- so is the canonical text of a syllable, wherever it stands
+-- so is the canonical text of a syllable, wherever it begins
 pub record IsReadFromItsText (lines macros : ℕ) (m : UnplacedSyllable) : Type 0 where
   pub text : List ℕ
   pub bytes : canonical m.text.word_start m ≡ encode_utf8_all text
@@ -64,7 +63,7 @@ pub record IsReadFromItsText (lines macros : ℕ) (m : UnplacedSyllable) : Type 
 abbrev pub IsReadWhereItStands : ℕ → ℕ → UnplacedSyllable → Type 0
 IsReadWhereItStands lines macros m = (first : Bool) → IsReadFromItsText lines macros (as_it_stands first m)
 
--- The canonical text of a syllable, as it stands or as that of the first one of a score, is one
+-- The canonical text of a syllable, as it is or as that of the first one of a score, is one
 -- syllable by itself.
 abbrev pub IsWrittenAsOne : ℕ → ℕ → UnplacedSyllable → Type 0
 IsWrittenAsOne lines macros m =

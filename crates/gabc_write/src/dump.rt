@@ -21,9 +21,9 @@ fn put_header<S: Put>(name: &str, value: &str, out: &mut S)
     out.put(b"\n");
 }
 
-/// Puts what stands before the syllables of a dump: `dump 2`, and a line for each of `headers`. In
-/// names and values a backslash is written `\\` and an LF `\n`. It is at most three times as many
-/// bytes as `HeaderBook::canonical_len` returns, and 7. A room without that many bytes left gets as
+/// Puts the beginning of a dump, before its syllables: `dump 2`, and a line for each of `headers`.
+/// In names and values a backslash is written `\\` and an LF `\n`. It has at most three times as
+/// many bytes as `HeaderBook::canonical_len` returns, and 7. A room with fewer bytes left takes as
 /// many of them as fit.
 pub fn dump_header<S: Put>(headers: Headers<'_>, out: &mut S)
     ensures put { out.new ≡ S.taken out.old (dump_heads headers.entry) }

@@ -69,7 +69,7 @@ fn letter_of(text: &[u8]) -> u8
     }
 }
 
-/// Returns the small letter of the pitch of `text`, a note: a `-` may stand before it.
+/// Returns the small letter of the pitch of `text`, a note: a `-` may come before it.
 fn letter_of_note(text: &[u8]) -> u8
     ensures { result ≡ pitch_letter (height_at (from_pitch text.now)) }
 {
@@ -95,8 +95,8 @@ fn put_degree<S: Put>(degree: Option<u8>, out: &mut S)
     }
 }
 
-/// Puts how a note sounds, with a blank before each word: ` DEGREE ALTER`. Most notes are not
-/// altered, or flat.
+/// Puts the degree and the alteration of a note, with a blank before each: ` DEGREE ALTER`. Most
+/// notes are not altered, or flat.
 fn put_sound<S: Put>(sound: Sound, out: &mut S)
     ensures { out.new ≡ S.taken out.old (sound_words sound) }
 {
@@ -120,9 +120,9 @@ fn put_note_by_words<S: Put>(shape: Shape, sound: Sound, text: &[u8], out: &mut 
     put_blank_and_last(text, out);
 }
 
-/// Puts the line of a note of that shape, sound and text: `note PITCH SHAPE DEGREE ALTER S`. Most
-/// notes are one small pitch that nothing alters, alone or with one of the signs `.`, `_` and `'`,
-/// so their lines are put at once.
+/// Puts the line of a note of shape `shape`, sound `sound` and text `text`: `note PITCH SHAPE
+/// DEGREE ALTER S`. Most notes are one small pitch that nothing alters, alone or with one of the
+/// signs `.`, `_` and `'`, so their lines are put at once.
 fn put_note<S: Put>(shape: Shape, sound: Sound, text: &[u8], out: &mut S)
     requires { shape ≡ shape_at (from_pitch text.now) }
     ensures { out.new ≡ S.taken out.old (line_of_note sound text.now) }
@@ -200,7 +200,7 @@ fn put_custos<S: Put>(text: &[u8], out: &mut S)
     }
 }
 
-/// Returns what stands between the brackets of `text`, an attribute.
+/// Returns the bytes between the brackets of `text`, an attribute.
 fn raw(text: &[u8]) -> &[u8]
     ensures { result.now ≡ raw_of text.now }
 {
@@ -210,7 +210,7 @@ fn raw(text: &[u8]) -> &[u8]
     }
 }
 
-/// Puts the line of an item of that kind and text that is no note.
+/// Puts the line of an item that is no note, of kind `kind` and text `text`.
 fn put_other<S: Put>(kind: ItemKind, text: &[u8], out: &mut S)
     requires { is_note kind ≡ false }
     ensures { (force : InForce) → out.new ≡ S.taken out.old (line_by force kind text.now) }
@@ -240,7 +240,8 @@ fn put_other<S: Put>(kind: ItemKind, text: &[u8], out: &mut S)
     }
 }
 
-/// Puts the line of `item`, which has to lie in `kept`. Before it `force` is in force.
+/// Puts the line of `item`, which has to lie in `kept`. `force` has the clef and the alterations in
+/// force before it.
 pub(crate) fn put_item<S: Put>(kept: &str, item: Item, force: &Alterations, out: &mut S)
     requires { (item.span.from ≤ item.span.to) × (item.span.to ≤ length kept.now) }
     ensures { out.new ≡ S.taken out.old (line_of_item force.now kept.now item) }

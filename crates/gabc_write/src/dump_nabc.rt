@@ -20,7 +20,7 @@ fn put_letter<S: Put>(c: char, out: &mut S)
     out.put(c.encode_utf8(&mut [0; 4]).as_bytes());
 }
 
-/// Puts the name of `code`. One without a name is its own.
+/// Puts the name of `code`. A code without a name is its own name.
 fn put_name<S: Put>(code: GlyphCode, out: &mut S)
     ensures { out.new ≡ S.taken out.old (name_of_code code) }
 {

@@ -24,7 +24,7 @@ use itoa::Buffer;
 struct ItemPlace {
     /// Whether the item before is part of an element.
     in_element: bool,
-    /// How many notes of the glyph whose line was put last are still to come.
+    /// The number of remaining notes of the glyph whose line was put last.
     left: usize,
 }
 
@@ -82,7 +82,7 @@ fn put_glyph_by_words<S: Put>(kind: GlyphKind, count: usize, out: &mut S)
     put_count(count, out);
 }
 
-/// Puts the line of a glyph of that kind, with `count` notes: `glyph KIND COUNT`. Most glyphs are
+/// Puts the line of a glyph of kind `kind`, with `count` notes: `glyph KIND COUNT`. Most glyphs are
 /// one of six, whose lines are put at once.
 fn put_glyph<S: Put>(kind: GlyphKind, count: usize, out: &mut S)
     ensures { out.new
@@ -99,8 +99,8 @@ fn put_glyph<S: Put>(kind: GlyphKind, count: usize, out: &mut S)
     }
 }
 
-/// Puts the line of the glyph that begins with the note `first`, which `after` stands after.
-/// Returns how many of its notes are to come after `first`.
+/// Puts the line of the glyph that begins with the note `first`, before the items of `after`.
+/// Returns the number of its notes after `first`.
 fn put_glyph_from<S: Put>(kept: &str, first: Note, after: &ItemReader<'_>, out: &mut S) -> usize
     requires within { AreWithin kept.now after.now }
     requires few { length after.now < length kept.now }
@@ -117,9 +117,8 @@ fn put_glyph_from<S: Put>(kept: &str, first: Note, after: &ItemReader<'_>, out: 
     }
 }
 
-/// Puts the line of the glyph that begins with `item`, a note that `after` stands after, if none
-/// of the notes of the glyph before are `left`. Returns how many of the glyph's notes are left
-/// after it.
+/// Puts the line of the glyph that begins with `item`, a note before the items of `after`, if no
+/// notes of the glyph before are `left`. Returns the number of the glyph's notes after it.
 fn put_next_glyph<S: Put>(
     kept: &str,
     left: usize,
@@ -143,8 +142,9 @@ fn put_next_glyph<S: Put>(
     }
 }
 
-/// Puts the lines of `item` at `place`, and passes it: before its own line those of an element and
-/// of a glyph that it begins. `after` are the items after it. Returns the place after the item.
+/// Puts the lines of `item` at `place`: before its own line those of an element and of a glyph that
+/// it begins. `after` has the items after it. Updates `alterations`, and returns the place after
+/// the item.
 fn put_at<S: Put>(
     kept: &str,
     place: ItemPlace,
@@ -174,7 +174,7 @@ fn put_at<S: Put>(
     ItemPlace { in_element, left }
 }
 
-/// Puts the lines of the items of `kept`, and passes them.
+/// Puts the lines of the items of `kept`, and updates `alterations` for each.
 fn put_items<S: Put>(kept: &str, alterations: &mut Alterations, out: &mut S)
     ensures lines { out.new ≡ S.taken out.old (lines_of_items alterations.old kept.now) }
     ensures alterations { alterations.new ≡ passed alterations.old (steps_of kept.now) }
@@ -198,8 +198,8 @@ fn put_notes_by_items<S: Put>(kept: &str, alterations: &mut Alterations, out: &m
     put_items(kept, alterations, out);
 }
 
-/// Puts the lines of `kept`, a snippet of notes that is one `pitch` from `a` to `n`, and passes its
-/// note.
+/// Puts the lines of `kept`, a snippet of notes that is one `pitch` from `a` to `n`, and updates
+/// `alterations` for its note.
 fn put_one_pitch<S: Put>(kept: &str, pitch: u8, alterations: &mut Alterations, out: &mut S)
     requires one { kept.now ≡ pitch ∷ [] }
     requires small { (97 ≤ pitch) × (pitch ≤ 110) }
@@ -223,7 +223,7 @@ fn put_one_pitch<S: Put>(kept: &str, pitch: u8, alterations: &mut Alterations, o
 }
 
 /// Puts the lines of `kept`, a snippet of notes that is one `pitch` from `a` to `n` with `sign`
-/// after it, and passes its note.
+/// after it, and updates `alterations` for its note.
 fn put_one_signed<S: Put>(
     kept: &str,
     pitch: u8,
@@ -253,9 +253,9 @@ fn put_one_signed<S: Put>(
     }
 }
 
-/// Puts the lines of a snippet of notes, `notes:S` and those of its items, and passes these. `kept`
-/// may be any text, whose lines go as far as an item begins. Many snippets are one pitch, alone or
-/// with a sign, so their lines are put at once.
+/// Puts the lines of a snippet of notes, `notes:S` and those of its items, and updates
+/// `alterations` for these. `kept` may be any text, whose lines end at the first place where no
+/// item begins. Many snippets are one pitch, alone or with a sign, so their lines are put at once.
 pub(crate) fn put_notes<S: Put>(kept: &str, alterations: &mut Alterations, out: &mut S)
     ensures lines { out.new ≡ S.taken out.old (lines_of_notes alterations.old kept.now) }
     ensures alterations { alterations.new ≡ passed alterations.old (steps_of kept.now) }

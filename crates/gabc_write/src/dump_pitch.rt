@@ -22,8 +22,8 @@ fn two_letters(degree: u8) -> (u8, u8)
     }
 }
 
-/// Puts the line of a note that is `pitch`, a small pitch from `a` to `n`, of that degree, and that
-/// nothing alters.
+/// Puts the line of a note that is `pitch`, a small pitch from `a` to `n`, of degree `degree`, and
+/// that nothing alters.
 #[inline(always)]
 pub(crate) fn put_pitch<S: Put>(pitch: u8, degree: Option<u8>, out: &mut S)
     requires { (97 ≤ pitch) × (pitch ≤ 110) }
@@ -56,7 +56,7 @@ pub(crate) fn put_pitch<S: Put>(pitch: u8, degree: Option<u8>, out: &mut S)
 }
 
 /// Puts the line of a note that is `pitch`, a small pitch from `a` to `n`, with `sign` after it, of
-/// that degree, and that nothing alters.
+/// degree `degree`, and that nothing alters.
 #[inline(always)]
 pub(crate) fn put_signed<S: Put>(pitch: u8, sign: u8, degree: Option<u8>, out: &mut S)
     requires pitch { (97 ≤ pitch) × (pitch ≤ 110) }
@@ -92,8 +92,8 @@ pub(crate) fn put_signed<S: Put>(pitch: u8, sign: u8, degree: Option<u8>, out: &
     }
 }
 
-/// Puts the lines of a snippet that is `pitch`, a small pitch from `a` to `n`, of that degree, and
-/// that nothing alters.
+/// Puts the lines of a snippet that is `pitch`, a small pitch from `a` to `n`, of degree `degree`,
+/// and that nothing alters.
 pub(crate) fn put_snippet_of<S: Put>(pitch: u8, degree: Option<u8>, out: &mut S)
     requires { (97 ≤ pitch) × (pitch ≤ 110) }
     ensures { out.new ≡ S.taken out.old

@@ -26,7 +26,7 @@ fn put_line_of<S: Put>(text: &[u8], out: &mut S)
     }
 }
 
-/// Puts the line of `translation`, which stands in its brackets, if there is any: `translation:T`.
+/// Puts the line of `translation`, which has its brackets, if there is any: `translation:T`.
 fn put_line_of_bracketed<S: Put>(translation: &[u8], out: &mut S)
     ensures { out.new ≡ S.taken out.old (line_of_bracketed translation.now) }
 {
@@ -36,7 +36,7 @@ fn put_line_of_bracketed<S: Put>(translation: &[u8], out: &mut S)
     }
 }
 
-/// Puts the lines of `snippets`, and passes their items.
+/// Puts the lines of `snippets`, and updates `alterations` for their items.
 fn put_spelled_snippets<S: Put>(
     snippets: SpelledSnippets<'_>,
     alterations: &mut Alterations,
@@ -57,9 +57,9 @@ fn put_spelled_snippets<S: Put>(
     }
 }
 
-/// Puts the lines of the syllable with this `number` that `syllable` spells, as `dump_syllable`
-/// puts them. `text` is its text, and `translation` its translation with its brackets.
-/// `alterations` are those in force before it, and then those after it.
+/// Puts the lines of the syllable spelled by `syllable`, with the number `number`, as
+/// `dump_syllable` puts them. `text` is its text, and `translation` its translation with its
+/// brackets. `alterations` are those in force before it, and then those after it.
 pub fn dump_spelled<S: Put>(
     number: u64,
     syllable: SpelledSyllable<'_>,

@@ -32,7 +32,7 @@ fn put_position<S: Put>(position: Position, out: &mut S)
     }
 }
 
-/// Puts the words for the spans that are open, each with a blank before it, and an LF.
+/// Puts the words for the open spans, each with a blank before it, and an LF.
 fn put_spans<S: Put>(eu: bool, nlba: bool, out: &mut S)
     ensures { out.new ≡ S.taken out.old (words_of_spans eu nlba) }
 {
@@ -44,8 +44,8 @@ fn put_spans<S: Put>(eu: bool, nlba: bool, out: &mut S)
     }
 }
 
-/// Puts what stands after the number in the first line of a syllable. Few have a span, so the rest
-/// is put at once.
+/// Puts the first line of a syllable from the end of its number on. Few syllables have a span, so
+/// the rest is put at once.
 fn put_after_number<S: Put>(position: Position, eu: bool, nlba: bool, out: &mut S)
     ensures { out.new
         ≡ S.taken out.old (codes " " ++ (position_word position ++ words_of_spans eu nlba)) }
@@ -62,8 +62,8 @@ fn put_after_number<S: Put>(position: Position, eu: bool, nlba: bool, out: &mut 
     }
 }
 
-/// Puts the first line of the syllable with this `number` that stands there in its word:
-/// `syllable NUMBER POSITION`, then the spans that are open.
+/// Puts the first line of the syllable with the number `number` and the position `position` in its
+/// word: `syllable NUMBER POSITION`, then the open spans.
 pub(crate) fn put_first_line<S: Put>(number: u64, position: Position, spans: Spans, out: &mut S)
     ensures { out.new ≡ S.taken out.old (first_line_by number position spans.eu spans.nlba) }
 {
@@ -95,7 +95,7 @@ fn put_translation<S: Put>(syllable: &Syllable, out: &mut S)
     }
 }
 
-/// Puts the lines of the snippet `kept` of `line`, and passes its items.
+/// Puts the lines of the snippet `kept` of line `line`, and updates `alterations` for its items.
 pub(crate) fn put_snippet<S: Put>(line: u8, kept: &str, alterations: &mut Alterations, out: &mut S)
     ensures put { out.new ≡ S.taken out.old (lines_on alterations.old line kept.now) }
     ensures alterations { alterations.new ≡ passed alterations.old (steps_on line kept.now) }
@@ -108,7 +108,7 @@ pub(crate) fn put_snippet<S: Put>(line: u8, kept: &str, alterations: &mut Altera
     }
 }
 
-/// Puts the lines of `snippets` of `syllable`, and passes their items.
+/// Puts the lines of `snippets` of `syllable`, and updates `alterations` for their items.
 fn put_snippets<S: Put>(
     syllable: &Syllable,
     snippets: &[Snippet],
@@ -132,7 +132,7 @@ fn put_snippets<S: Put>(
     }
 }
 
-/// Passes the start of a word, if a syllable at `position` begins one.
+/// Updates `alterations` for the start of a word, if a syllable at `position` begins one.
 pub(crate) fn pass_position(position: Position, alterations: &mut Alterations)
     ensures { alterations.new ≡ passed alterations.old (first_steps position) }
 {
@@ -142,12 +142,12 @@ pub(crate) fn pass_position(position: Position, alterations: &mut Alterations)
     }
 }
 
-/// Puts the lines of `syllable` in a dump, in which it has this `number`: its first line, those of
-/// its text and its translation, and those of its snippets. They are at most 64 bytes for each byte
-/// that `canon_len` returns, and 256. `alterations` are those in force before the syllable, by
-/// which its notes are reported, whatever they are; and then those after it. It asks for no memory:
-/// the kept text is read again as the lines are put. A room without as many bytes left as
-/// `dump_len` returns gets as many of them as fit.
+/// Puts the lines of `syllable` in a dump, in which it has the number `number`: its first line,
+/// those of its text and its translation, and those of its snippets. They have at most 64 bytes for
+/// each byte that `canon_len` returns, and 256. `alterations` are those in force before the
+/// syllable, by which its notes are reported, whatever they are; and then those after it. It does
+/// not allocate: the kept text is read again as the lines are put. A room with fewer bytes left
+/// than `dump_len` returns takes as many of them as fit.
 pub fn dump_syllable<S: Put>(
     number: u64,
     syllable: &Syllable,
@@ -175,8 +175,8 @@ pub fn dump_syllable<S: Put>(
     put_snippets(syllable, snippets, alterations, out);
 }
 
-/// Returns how many bytes `dump_syllable` puts for the same arguments; it saturates at the last
-/// value of a `usize`. `alterations` are those in force before the syllable.
+/// Returns the number of bytes that `dump_syllable` puts for the same arguments; it saturates at
+/// the last value of a `usize`. `alterations` are those in force before the syllable.
 pub fn dump_len(number: u64, syllable: &Syllable, alterations: &Alterations) -> usize
     ensures len { result ≡ min
         (length (lines_of_syllable number alterations.now (placed_of syllable.now)))

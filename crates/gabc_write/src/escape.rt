@@ -17,14 +17,14 @@ fn put_escaped_byte<S: Put>(byte: u8, out: &mut S)
     }
 }
 
-/// Returns whether `byte` is put as it is: whether it is no backslash and no LF.
+/// Returns `true` only for a byte that is put as it is: no backslash and no LF.
 fn is_plain(byte: u8) -> bool
     ensures { IsTrue result → escaped_byte byte ≡ byte ∷ [] }
 {
     byte != b'\\' && byte != b'\n'
 }
 
-/// Returns how many bytes of `text` stand before its first backslash or LF: all, if it has none.
+/// Returns the number of bytes of `text` before its first backslash or LF: all, if it has none.
 fn plain_len(text: &[u8]) -> usize
     ensures within { result ≤ length text.now }
     ensures plain { escaped text.now ≡ take result text.now ++ escaped (drop result text.now) }
@@ -37,7 +37,7 @@ fn plain_len(text: &[u8]) -> usize
     text.len()
 }
 
-/// Puts `text`, with each backslash as `\\` and each LF as `\n`, and what stands between them at
+/// Puts `text`, with each backslash as `\\` and each LF as `\n`, and the bytes between them at
 /// once. Few texts have any, so it stays out of line.
 #[inline(never)]
 fn put_escaped_bytes<S: Put>(text: &[u8], out: &mut S)
@@ -85,7 +85,7 @@ pub(crate) fn put_ended<S: Put>(text: &[u8], end: u8, out: &mut S)
     }
 }
 
-/// Passes on the text of a syllable, with each backslash as `\\` and each LF as `\n`, and `text:`
+/// Passes the text of a syllable on, with each backslash as `\\` and each LF as `\n`, and `text:`
 /// before its first byte.
 #[derive(Drop)]
 pub(crate) struct TextLine<'a, S: Put> {
@@ -94,7 +94,7 @@ pub(crate) struct TextLine<'a, S: Put> {
 }
 
 impl<'a, S: Put> TextLine<'a, S> {
-    /// Returns what passes on to `out`, with nothing passed on.
+    /// Returns a line that passes on to `out`, before its first byte.
     pub(crate) fn new(out: &'a mut S) -> TextLine<'a, S>
         ensures same { result.out.ghost_name ≡ out.entry.ghost_name }
         ensures now { result.out.now ≡ out.old }

@@ -1,5 +1,5 @@
-//! Laws of the definitions alone. Each function's contract is a law; its body calls the laws below
-//! that it stands on.
+//! Laws of printed texts, and of the syllable that a stage holds. Each function's contract is a
+//! law; its body does nothing, or calls other laws that it rests on.
 
 ghost use Rattle.std.specs.Prelude.{◌≡◌, ◌≤◌, ◌<◌, ◌+◌, ◌*◌, ◌^◌, ◌⊎◌, ◌++◌, ◌∷◌, [], ℕ, Bool, List, length, true, false, Some, Ok, encode_utf8_all, is_some, IfSome, IsUtf8};
 ghost use Rattle.std.specs.List.{All};
@@ -62,10 +62,10 @@ pub fn syllable_again()
 }
 
 /// Law: a syllable that holds a unit with notes is read again from its own canonical text, by
-/// itself: wherever this text stands and whatever was emitted before, it is one syllable, whole
+/// itself: wherever this text begins and whatever was emitted before, it is one syllable, whole
 /// with its last character, that says the same, holds a unit, leaves the same spans open after the
-/// same spans and has the same canonical text. What is found in it are warnings, and no more bytes
-/// are kept on the way than the text has. So it is if the syllable is the first one of a score,
+/// same spans and has the same canonical text. Its findings are warnings, and no more bytes are
+/// kept on the way than the text has. The same holds if the syllable is the first one of a score,
 /// whose canonical text begins a word whatever its own text says: what is read begins a word then.
 pub fn a_syllable_is_read_from_its_own_text()
     ensures { (lines macros : ℕ) (first : Bool) (m : UnplacedSyllable) → HoldsSomeUnit lines m →
@@ -83,7 +83,7 @@ pub fn a_syllable_is_read_from_its_own_text()
 
 /// Law: the whole syllable that a stage over a score holds, whatever the stage has read, is read
 /// again from its own canonical text, by itself, as one syllable that says the same, without an
-/// error. So it is if it is said to be the first one of the score.
+/// error. The same holds if it is said to be the first one of the score.
 pub fn what_is_held_is_read_from_its_own_text()
     ensures { (s : ScoreStageState) → IsReachable s →
         IfSome (held_of s) (IsReadWhereItStands s.body.nabc_lines s.body.macros) }
@@ -93,9 +93,9 @@ pub fn what_is_held_is_read_from_its_own_text()
     a_syllable_is_read_from_its_own_text();
 }
 
-/// Law: if the inputs of a stage over a score just cease, whatever it has read, what it gives
-/// then is written as one syllable: read by itself, its canonical text is one, whole with its last
-/// character and not before.
+/// Law: if the inputs of a stage over a score just cease, whatever it has read, the syllable that
+/// it emits then is written as one syllable: read by itself, its canonical text is one, whole with
+/// its last character and not before.
 pub fn what_breaks_off_is_one_syllable(stage: &ScoreStage)
     ensures { All (λ p. IsWrittenAsOne stage.now.body.nabc_lines stage.now.body.macros p.made)
         (syllables_in (concat_of (left_of stage.now []))) }
@@ -111,8 +111,8 @@ pub fn what_breaks_off_is_one_syllable(stage: &ScoreStage)
 }
 
 /// Law: the whole syllable that a stage over a score holds in the body, whatever the stage has
-/// read, may be held by its canonical text: read by itself, after what stands before the syllable,
-/// this text is one syllable with the same canonical text there. No limit is passed with it, and no
+/// read, may be held by its canonical text: read by itself, in the context of the syllable, this
+/// text is one syllable with the same canonical text there. No limit is passed with it, and no
 /// error is found in it.
 pub fn what_is_held_may_be_held_by_its_text(stage: &ScoreStage)
     requires runs { is_some (before_of stage.now) ≡ true }
@@ -229,9 +229,9 @@ pub fn score_again()
     score_is_printed();
 }
 
-/// Law: the lines of a syllable in a dump are at most 64 bytes for each byte of its canonical text,
-/// and 256, whatever is in force before it. It asks what a `Syllable` has by its type: a kept text
-/// in UTF-8, and lines below 256.
+/// Law: the lines of a syllable in a dump have at most 64 bytes for each byte of its canonical
+/// text, and 256, whatever is in force before it. The syllable has to have what a `Syllable` has by
+/// its type: a kept text in UTF-8, and lines below 256.
 pub fn a_dump_is_short()
     ensures { (number : ℕ) (outset : InForce) (s : PlacedSyllable) → number < 2 ^ 64 →
         IsUtf8 s.made.kept →
@@ -261,10 +261,9 @@ pub fn syllables_that_say_the_same_have_one_dump()
         lines_of_syllables number outset ss ≡ lines_of_syllables number outset ts }
 {}
 
-/// Law: two held syllables that say the same where they stand have one dump, and leave the same in
-/// force if the same is before them, wherever in their word they are written and whatever their
-/// texts say of the start of a word, if the spans of their snippets begin and end between
-/// characters.
+/// Law: two held syllables that say the same have one dump, and leave the same in force if the same
+/// is in force before them, whatever their position in their word and whatever their texts say of
+/// the start of a word, if the spans of their snippets begin and end between characters.
 pub fn held_syllables_that_say_the_same_have_one_dump()
     ensures { (first : Bool) (m n : UnplacedSyllable) (position : Position) → HasWholeSnippets m →
         HasWholeSnippets n → SayTheSame first (Some m) (Some n) →

@@ -56,8 +56,8 @@ fn put_kind<S: Put>(code: Code, out: &mut S)
 }
 
 /// Puts the line that reports `code` at `place` of the input `name`: `NAME:LINE:COLUMN: KIND: CODE:
-/// TEXT` and LF, as many bytes as `message_len` returns. A room without that many bytes left gets
-/// as many of them as fit.
+/// TEXT` and LF, as many bytes as `message_len` returns. A room with fewer bytes left takes as many
+/// of them as fit.
 pub fn message_line<S: Put>(name: &str, place: Place, code: Code, out: &mut S)
     ensures put { out.new ≡ S.taken out.old (line_of name.now place code) }
     ensures short { length (line_of name.now place code) ≤ length name.now + 128 }
@@ -68,7 +68,7 @@ pub fn message_line<S: Put>(name: &str, place: Place, code: Code, out: &mut S)
 }
 
 /// Returns the number of bytes of the line that reports `code` at `place` of the input `name`, with
-/// its LF. It is at most the name's and 128.
+/// its LF: at most the bytes of `name` and 128.
 pub fn message_len(name: &str, place: Place, code: Code) -> usize
     ensures len { result ≡ length (line_of name.now place code) }
     ensures short { result ≤ length name.now + 128 }

@@ -1,5 +1,5 @@
-//! The law on which saved states stand: a stage over a score is restored from what it reports.
-//! The function's contract is the law, and its body makes the calls.
+//! The law on which saved states rest: a stage over a score is restored from its reports. The
+//! function's contract is the law, and its body makes the calls.
 
 ghost use Rattle.std.specs.Prelude.{◌≡◌, ◌≤◌, [], true, false, is_some, IfSome};
 ghost use Rattle.gabc_score.specs.Resumed.{IsAfterSyllables};
@@ -13,7 +13,7 @@ use gabc_places::Room;
 use gabc_score::{ScoreEvent, ScoreStage};
 
 /// Makes `stage` hold the held syllable of `told`, if there is one, by its canonical text `held`.
-/// Returns whether that text is a syllable.
+/// Returns whether this text is a syllable. `room` is left empty.
 fn hold_reported(
     stage: &mut ScoreStage,
     told: &ScoreStage,
@@ -41,8 +41,8 @@ fn hold_reported(
     stage.hold_again(held, room)
 }
 
-/// Reads what `told` has read of the syllable that is not whole. Returns whether that is a part of
-/// a syllable.
+/// Reads in `stage` the kept text that `told` reports of the syllable that is not whole. Returns
+/// whether it is a part of a syllable.
 fn read_reported(stage: &mut ScoreStage, told: &ScoreStage) -> bool
     requires runs { is_some (before_of told.now) ≡ true }
     requires front { is_in_front told.now.body.part ≡ false }
@@ -64,12 +64,13 @@ fn read_reported(stage: &mut ScoreStage, told: &ScoreStage) -> bool
 }
 
 /// Restores in `stage`, from what `told` reports in the body, not in front of the first text, a
-/// stage that gives the same of whatever follows. `stage` is what `ScoreStage::resume` makes, under
-/// the same limits, of what `told` reports to stand before. The restored stage holds the syllable
-/// of which `held` is the canonical text there, if `told` holds one, and reads the kept text of the
-/// next one. Only the held syllable stands as it is read from this text: it says the same, and as
-/// the first of the score it begins a word. The next character has to stand where a text that is
-/// read has counted it. Returns `true`. `room` is empty, has room for 16 events, and is left empty.
+/// stage that emits the same of whatever follows. `stage` is made by `ScoreStage::resume`, under
+/// the same limits, of the context that `told` reports. The restored stage holds the syllable of
+/// which `held` is the canonical text there, if `told` holds one, and reads the kept text of the
+/// next one. Only the held syllable is as it is read from this text: it says the same, and as the
+/// first of the score it begins a word. The place of the next character has to be the one that a
+/// text that is read has counted. Returns `true`. `room` is empty, has room for 16 events, and is
+/// left empty.
 pub fn a_stage_is_restored(
     told: &ScoreStage,
     stage: &mut ScoreStage,

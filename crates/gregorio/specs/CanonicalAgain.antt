@@ -1,4 +1,4 @@
--- What is made of an output that is compiled again.
+-- The outcome of an output that is compiled again.
 use Rattle.std.specs.Prelude.{◌≡◌, ℕ, List, true, false, Some, None}
 use Rattle.std.specs.List.{list_any}
 use Rattle.gabc_write.specs.DumpOfSyllables.{dump_text}

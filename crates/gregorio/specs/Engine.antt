@@ -1,4 +1,4 @@
--- A run in pieces: what an engine will still write, and how it will end.
+-- A run in pieces: the streams that an engine will still write, and how it will end.
 use Rattle.std.specs.Prelude.{◌≡◌, ◌<◌, ◌≤◌, ◌⊎◌, ℕ, List, [], ◌++◌, length, take, Bool, true, false, Option, is_none}
 use Rattle.gabc_neumes.specs.InForce.{InForce}
 use Rattle.std.specs.List.{All}
@@ -16,7 +16,7 @@ use Rattle.gregorio.specs.declared.source_ending.SourceEnding.{SourceEnding}
 use Rattle.gregorio.specs.declared.source_ending.SourceEnding.TheVariants.{Broken}
 use Rattle.gregorio.specs.witness.Engine.{EngineState, ceased_ending, fault_of_ending, streams_left}
 
--- what waits, and then these
+-- the bytes that wait, and then these
 abbrev pub with_waiting : EngineState → Streams → Streams
 with_waiting s rest = after_bytes s.output s.messages rest
 
@@ -26,9 +26,9 @@ pub record NothingWaits (s : EngineState) : Type 0 where
   pub output : s.output ≡ []
   pub messages : s.messages ≡ []
 
--- The text of at most one syllable, whose position in its word is not known yet, and of what stands
--- after the syllables of a score that is not whole. Read by itself, the canonical text of this
--- syllable is one.
+-- The text of at most one syllable, whose position in its word is not known yet, and the text after
+-- the syllables of a score that is not whole. Read by itself, the canonical text of this syllable
+-- is one.
 pub record IsHeldText (format : Format) (output : List ℕ) : Type 0 where
   pub count : ℕ
   pub force : InForce
@@ -60,20 +60,21 @@ StillRuns old new = (job : Job) (limits : Limits) → RunsJob job limits old →
 abbrev pub is_running : EngineState → Bool
 is_running s = is_none s.written.ended
 
--- the fatal fault that stopped the run, if one did
+-- the fatal fault that stopped the run, if there is one
 abbrev pub fault_of : EngineState → Option Fault
 fault_of s = fault_of_ending (ceased_ending s.written.ended)
 
 -- ---- a piece
 
--- what was to come of these bytes waits, after what waited before, and the rest is still to come
+-- the output and messages of these bytes wait, after those that waited before, and the rest is
+-- still to come
 abbrev pub Brings : EngineState → List ℕ → EngineState → Type 0
 Brings old bytes new =
     (more : List ℕ) (ending : SourceEnding) → with_waiting old (streams_left old ending (bytes ++ more)) ≡ with_waiting new (streams_left new ending more)
 
--- It took `count` bytes from the front of a piece, at least one where nothing waited. What they
--- bring waits, and nothing that is known is kept back but the held syllable. Where the run was
--- over, all bytes are taken and nothing changes; where it is not over, no fault is known.
+-- It took `count` bytes from the front of a piece, at least one if nothing waited. Their output and
+-- messages wait, and nothing that is known is kept back but the held syllable. If the run was over,
+-- all bytes are taken and nothing changes; if it is not over, no fault is known.
 pub record TakesFront (old : EngineState) (piece : List ℕ) (count : ℕ) (new : EngineState) : Type 0 where
   pub within : count ≤ length piece
   pub some : NothingWaits old → 0 < length piece → 0 < count
@@ -95,8 +96,8 @@ EndsByInput NoMemory = ⊥
 
 -- ---- the end
 
--- The run is over, and ended with this status: so it stays, whatever comes. What waits is the last.
--- Over already, it is as it was.
+-- The run is over, and ended with this status: so it stays, whatever comes. The last bytes of the
+-- run wait. Over already, it is as it was.
 pub record IsEnded (old : EngineState) (ending : SourceEnding) (status : Status) (new : EngineState) : Type 0 where
   pub law : streams_left old ending [] ≡ with_waiting new (ended_with status (fault_of new))
   pub last : (bytes : List ℕ) (later : SourceEnding) → streams_left new later bytes ≡ ended_with status (fault_of new)

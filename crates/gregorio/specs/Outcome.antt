@@ -1,5 +1,5 @@
--- What a run makes of its input, and what it writes: functions of the job, the limits, the bytes
--- that the source gave and how it stopped.
+-- The outcome of a run, and its output, messages and status: functions of the job, the limits, the
+-- bytes of the source and how it stopped.
 use Rattle.std.specs.Prelude.{ℕ, List, [], ◌++◌, Bool, true, false, ◌||◌, not, Option, Some, None, is_some, codes, if◌then◌else◌}
 use Rattle.std.specs.List.{flat_map, list_any}
 use Rattle.gabc_places.specs.declared.limits.Limits.{Limits}
@@ -34,7 +34,7 @@ abbrev pub is_whole : SourceEnding → Bool
 is_whole Ended = true
 is_whole Broken = false
 
--- how the text ended: at the fault that stopped it, or else as the source did
+-- the end of the text: the fault that stopped it, if there is one, or else the end of the source
 abbrev pub ending_by : SourceEnding → Option Fault → score.InputEnding
 ending_by ending (Some fault) = score_ending.At fault
 ending_by Broken None = score_ending.Broken
@@ -51,13 +51,13 @@ outcome_of limits ending bytes =
     let score = score_of limits (ending_by ending decoded.fault) decoded.text in
     record { score = score; broken = is_cut_short ending score.fault }
 
--- ---- what is written
+-- ---- the output and the messages
 
 -- no fault stopped the reading, and the source did not fail
 abbrev pub is_read_whole : Outcome → Bool
 is_read_whole outcome = not (is_some outcome.score.fault || outcome.broken)
 
--- the text of these headers and syllables, which are the whole score or not
+-- the text of these headers and syllables, of a whole score or of a part of one
 abbrev pub text_in : Format → Bool → List (List ℕ × List ℕ) → List PlacedSyllable → List ℕ
 text_in Gabc whole book syllables = score_text book syllables
 text_in Dump whole book syllables = dump_text whole book syllables
@@ -78,7 +78,7 @@ abbrev pub is_error : Severity → Bool
 is_error Error = true
 is_error kind = false
 
--- a finding is written: warnings only if all are wanted
+-- a finding is shown: a warning only if all warnings are
 abbrev pub is_shown : Bool → Finding → Bool
 is_shown all_warnings finding = all_warnings || not (is_warning (severity_of finding.code))
 
@@ -89,12 +89,13 @@ abbrev pub fault_line : List ℕ → Option Fault → List ℕ
 fault_line name None = []
 fault_line name (Some fault) = line_of name fault.place fault.code
 
--- what messages call the input
+-- the name of the input in messages
 abbrev pub input_name : Input → List ℕ
 input_name Stdin = codes "<stdin>"
 input_name (File name) = name
 
--- the lines of what a score found, and last that of its fatal fault, if messages call the input so
+-- the lines of the findings of a score, and last that of its fatal fault, with this name of the
+-- input
 abbrev pub lines_of : List ℕ → Bool → Score → List ℕ
 lines_of name all_warnings score = flat_map (shown_line name all_warnings) score.findings ++ fault_line name score.fault
 

@@ -1,4 +1,4 @@
--- What is made of the prefix of an input whose run is stopped after the headers, by a fault or by a
+-- The outcome of the prefix of an input whose run is stopped after the headers, by a fault or by a
 -- source that failed.
 use Rattle.std.specs.Prelude.{◌≡◌, ℕ, List, ◌++◌, length, take, true, None}
 use Rattle.gabc_places.specs.declared.limits.Limits.{Limits}

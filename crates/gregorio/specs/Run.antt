@@ -1,4 +1,4 @@
--- What a run does to its source and its sinks.
+-- The use that a run makes of its source and its sinks.
 use Rattle.std.specs.Prelude.{◌≡◌, ◌≢◌, ℕ, ◌<◌, ◌≤◌, ◌+◌, List, ◌++◌, length, take, Option, ◌⊎◌, true, false}
 use Rattle.std.specs.Io.KnownBytes.{Appends, Consumes, IsAtEnd, Keeps}
 use Rattle.gabc_places.specs.Calls.{Calls, NoneLate, GoesOn, FailsOnce}
@@ -13,7 +13,7 @@ use Rattle.gregorio.specs.Outcome.{outcome_of, output_of, messages_of, status_of
 use Rattle.gregorio.specs.SourceBytes.{ReadsSource}
 use Rattle.gregorio.specs.Streams.{Streams, after_bytes, streams_of_outcome}
 
--- An end before and after a run: its bytes, where they are known, and how its calls went.
+-- An end before and after a run: its bytes, if they are known, and its calls.
 pub record Use : Type 0 where
   pub old : Option (List ℕ)
   pub new : Option (List ℕ)
@@ -37,7 +37,7 @@ pub record Done (job : Job) (limits : Limits) (source out messages : Use) (statu
   pub messages_written : Appends messages.old messages.new (messages_of job (outcome_of limits input.ending input.bytes))
   pub ends : status ≡ status_of (outcome_of limits input.ending input.bytes)
 
--- Of the source these bytes were taken, and it stopped so: `Broken` also where it was not read to a
+-- These bytes were taken of the source, and it stopped so: `Broken` also if it was not read to a
 -- stop, and not one byte above the limit.
 pub record Taken (limits : Limits) (source : Use) : Type 0 where
   pub bytes : List ℕ
@@ -59,8 +59,8 @@ OneFails out messages = (FailsOnce out.calls_old out.calls_new × GoesOn message
 abbrev pub IsPointOf : List ℕ → SourceEnding → List ℕ → SourceEnding → Type 0
 IsPointOf bytes ending front at = ((rest : List ℕ) × ((bytes ≡ front ++ rest) × (at ≡ Broken))) ⊎ ((front ≡ bytes) × (at ≡ ending))
 
--- Up to some point of the input this output and these messages are known: nothing else of what is
--- read there is, but for the text of the held syllable.
+-- Up to some point of the input this output and these messages are known, and no others, but for
+-- the text of the held syllable.
 pub record IsKnown (job : Job) (limits : Limits) (bytes : List ℕ) (ending : SourceEnding) : Type 0 where
   pub front : List ℕ
   pub at : SourceEnding
@@ -71,9 +71,9 @@ pub record IsKnown (job : Job) (limits : Limits) (bytes : List ℕ) (ending : So
   pub known : streams_of_outcome job (outcome_of limits at front) ≡ after_bytes output lines left
   pub prompt : IsPrompt job.format left
 
--- A sink failed: each stream holds a prefix of its text, for the bytes that were taken. At some
--- point of the input all output that was known is written, and of the messages no more than were
--- known there: so output is written before messages.
+-- A sink failed: each stream has a prefix of its text, for the bytes that were taken. At some point
+-- of the input all output that was known is written, and of the messages no more than were known
+-- there: so output is written before messages.
 pub record SinkCut (job : Job) (limits : Limits) (source out messages : Use) : Type 0 where
   pub input : Taken limits source
   pub written_count : ℕ
@@ -85,7 +85,7 @@ pub record SinkCut (job : Job) (limits : Limits) (source out messages : Use) : T
   pub output_first : length known.output ≤ written_count
   pub messages_then : messages_count ≤ length known.lines
 
--- An end was not touched: it has the bytes, where they are known, that it had, and was not called.
+-- An end was not touched: it has the same bytes as before, if they are known, and was not called.
 pub record IsUntouched (end : Use) : Type 0 where
   pub keeps : Keeps end.old end.new
   pub uncalled : end.calls_new ≡ end.calls_old

@@ -17,7 +17,7 @@ use Rattle.gregorio_state.specs.Fields.{PhaseFields, ScoreFields, StateFields, I
 use Rattle.gregorio.specs.Outcome.{is_error_finding}
 use Rattle.gregorio.specs.witness.Engine.{EngineState}
 
--- how many syllables are held
+-- the number of held syllables
 abbrev pub held_count : Option UnplacedSyllable → ℕ
 held_count None = 0
 held_count (Some m) = 1
@@ -27,7 +27,7 @@ abbrev pub held_text : Preceding → Option UnplacedSyllable → List ℕ
 held_text p None = []
 held_text p (Some m) = canonical ((p.syllables == 0) || m.text.word_start) m
 
--- what a stage over a score reports in the body, if this is in force before the held syllable
+-- the reports of a stage over a score in the body, if this is in force before the held syllable
 abbrev pub score_fields : InForce → ScoreStageState → ScoreFields
 score_fields force s =
     let text = held_text s.before (held_of s) in
@@ -69,8 +69,8 @@ state_of e = record {
   phase = phase_fields e.heads.progress e.written.force e.score;
 }
 
--- A stage holds this text of headers, after which the next character stands, and these are the
--- errors that are found in it: some or none.
+-- A stage holds this text of headers, this is the place after it, and this says whether an error is
+-- found in it.
 pub record GivesHeaders (limits : Limits) (t : List ℕ) (place : Place) (error : Bool) : Type 0 where
   pub held : IsHeld limits t
   pub next : place ≡ place_after t

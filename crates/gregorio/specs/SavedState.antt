@@ -1,5 +1,5 @@
--- What a saved state is: fields that meet their conditions, and texts that are read as the fields
--- say. It is judged by the limits that it reports itself.
+-- A saved state: fields that meet their conditions, and texts that are read as the fields say. It
+-- is judged by the limits that it reports itself.
 use Rattle.std.specs.Prelude.{◌≡◌, ◌≢◌, ◌≤◌, ℕ, ◌-◌, List, [], length}
 use Rattle.std.specs.Str.{chars}
 use Rattle.gabc_places.specs.declared.limits.Limits.{Limits}
@@ -23,8 +23,8 @@ pub record ReportsLimits (s : StateFields) (limits : Limits) : Type 0 where
 
 -- ---- the held text
 
--- What stands before the held syllable: the state counts that syllable, and its text is the
--- last of the canonical file.
+-- The context of the held syllable: the state counts that syllable, and its text is the last of the
+-- canonical file.
 abbrev pub before_held : ScoreFields → Before
 before_held f = record {
   nabc_lines = f.nabc_lines;
@@ -35,9 +35,8 @@ before_held f = record {
   sounded = f.sounded;
 }
 
--- Read by itself after what stands before it, the held text is one syllable, whole with its last
--- character: no error is found in it, no limit is passed, and it is the canonical text of that
--- syllable.
+-- Read by itself in its context, the held text is one syllable, whole with its last character: no
+-- error is found in it, no limit is passed, and it is the canonical text of that syllable.
 pub record IsHeldRead (limits : Limits) (f : ScoreFields) : Type 0 where
   pub m : UnplacedSyllable
   pub may : MayBeHeld limits (before_held f) (chars f.held) m
@@ -45,8 +44,8 @@ pub record IsHeldRead (limits : Limits) (f : ScoreFields) : Type 0 where
 
 -- ---- the kept text
 
--- Read by itself all of the kept text is kept again, and what is open after it is what the fields
--- say. It is no longer than a syllable may be.
+-- Read by itself all of the kept text is kept again, and the brackets and the comment of the fields
+-- are open after it. It is no longer than the limit of a syllable.
 pub record IsKeptRead (limits : Limits) (f : ScoreFields) : Type 0 where
   pub again : IsKeptAgain f.nabc_lines f.macros (chars f.kept) (record { notes = f.notes_opener; inner = f.inner_opener }) f.in_comment
   pub short : length f.kept ≤ limits.syllable
@@ -57,8 +56,8 @@ pub record IsScoreRead (limits : Limits) (f : ScoreFields) : Type 0 where
   pub held : f.held ≢ [] → IsHeldRead limits f
   pub kept : IsKeptRead limits f
 
--- The text of the headers ends there, and gives this place and these errors; or the texts of the
--- score are read as it says.
+-- The headers go on after their text, with this place and these errors; or the texts of the score
+-- are read as the fields say.
 abbrev pub IsPhaseRead : Limits → StateFields → PhaseFields → Type 0
 IsPhaseRead limits s (InHeaders headers) = GivesHeaders limits (chars headers) s.place s.has_error
 IsPhaseRead limits s (InScore f) = IsScoreRead limits f
@@ -70,7 +69,7 @@ pub record AreOfState (s : StateFields) : Type 0 where
   pub limits_are : ReportsLimits s limits
   pub read : IsPhaseRead limits s s.phase
 
--- It is one of this job under these limits. Nothing else of a job stands in a state.
+-- It is one of this job under these limits. A state has nothing else of a job.
 pub record IsOfJob (job : Job) (limits : Limits) (s : StateFields) : Type 0 where
   pub limits_are : ReportsLimits s limits
   pub format : s.format ≡ job.format

@@ -1,4 +1,4 @@
--- What a run writes: its output, its messages and its status; the texts of which an output is
+-- The streams of a run: its output, its messages and its status; the texts of which an output is
 -- joined; when two ways of writing it come to the same.
 use Rattle.std.specs.Prelude.{◌≡◌, ℕ, ◌+◌, ◌-◌, ◌^◌, min, List, [], ◌∷◌, ◌++◌, Bool, Option, encode_utf8_all, codes, map, if◌then◌else◌}
 use Rattle.std.specs.Borrow.{Bor}
@@ -18,7 +18,7 @@ use Rattle.gregorio_jobs.specs.declared.job.Job.{Job}
 use Rattle.gregorio_jobs.specs.declared.job.Status.{Status}
 
 -- The bytes of an output and of messages, the status of the run that writes them, and the fatal
--- fault that stopped it, if one did.
+-- fault that stopped it, if there is one.
 pub record Streams : Type 0 where
   pub output : List ℕ
   pub messages : List ℕ
@@ -44,7 +44,7 @@ pub record TakeTheSame {A B : Type 0} (takes : A → List ℕ → A) (takes_too 
   pub status : streams_then.status ≡ streams.status
   pub fault : streams_then.fault ≡ streams.fault
 
--- what stands before the syllables
+-- the text before the syllables
 abbrev pub heads_text : Format → List (List ℕ × List ℕ) → List ℕ
 heads_text Gabc book = encode_utf8_all (canonical_heads book)
 heads_text Dump book = dump_heads book
@@ -54,12 +54,12 @@ abbrev pub syllable_text : Format → ℕ → InForce → PlacedSyllable → Lis
 syllable_text Gabc number force s = canonical_in_place s
 syllable_text Dump number force s = lines_of_syllable number force s
 
--- what is in force after a syllable: the canonical form asks for nothing of it
+-- the clef and the alterations in force after a syllable: the canonical form does not track them
 abbrev pub force_after : Format → InForce → PlacedSyllable → InForce
 force_after Gabc force s = force
 force_after Dump force s = passed force (steps_of_syllable s)
 
--- what stands after n syllables, which are the whole score or not
+-- the text after n syllables, of a whole score or of a part of one
 abbrev pub last_text : Format → Bool → ℕ → List ℕ
 last_text Gabc whole count = codes "\n"
 last_text Dump whole count = if whole then end_line count else []

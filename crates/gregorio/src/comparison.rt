@@ -1,4 +1,4 @@
-//! What compares bytes with a text as they come.
+//! A comparison of bytes, as they come, with a text.
 
 ghost use Rattle.std.specs.Prelude.{◌≡◌, ◌↔◌, [], Some, IsTrue};
 ghost use Rattle.gregorio.specs.machine.Comparison.{compared_with};
@@ -6,8 +6,8 @@ ghost use Rattle.gregorio.specs.machine.Comparison.{compared_with};
 use gabc_places::Put;
 use std::marker::Model;
 
-/// Compares the bytes that it takes with a text, and asks for no memory. Contracts see the rest of
-/// the text that has still to come, as long as what came is the text's.
+/// Compares the bytes that it takes with a text, and does not allocate. In contracts it is the rest
+/// of the text, as long as the bytes taken are the beginning of the text.
 #[derive(Drop)]
 pub(crate) struct Comparison<'a> {
     rest: Option<&'a [u8]>,
@@ -23,14 +23,14 @@ impl<'a> Model for Comparison<'a> {
 }
 
 impl<'a> Comparison<'a> {
-    /// Returns a comparison with `text`, of which nothing has come.
+    /// Returns a comparison with `text`, before its first byte.
     pub(crate) fn with(text: &'a [u8]) -> Comparison<'a>
         ensures { result ≡ Some text.now }
     {
         Comparison { rest: Some(text) }
     }
 
-    /// Returns whether the whole text came, and nothing else.
+    /// Returns whether the bytes taken are the whole text, and nothing else.
     pub(crate) fn is_same(&self) -> bool
         ensures { IsTrue result ↔ self.now ≡ Some [] }
     {

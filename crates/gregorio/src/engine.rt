@@ -29,9 +29,9 @@ use std::alloc::{AllocError, Global};
 use std::hash::DefaultHasher;
 use std::marker::Model;
 
-/// Compiles a score that comes in pieces. What is known of it is written before the next byte is
-/// read, and waits until it is taken. It asks for no memory once made. `fill` goes on while there
-/// is room for what it writes; `feed` stops when something waits.
+/// Compiles a score that comes in pieces. All that is known of it is written before the next byte
+/// is read, and waits until it is taken. Once made, it does not allocate. `fill` takes bytes while
+/// there is room for their output and messages; `feed` stops when something waits.
 ///
 /// ```
 /// let mut engine = Engine::new(alloc, &job, Limits::DEFAULT)?;
@@ -81,7 +81,7 @@ fn pass_on(from_heads: &[HeadEvent], heads: &HeaderStage, writer: &mut ScoreWrit
     }
 }
 
-/// Returns what the body gets for a character or the fault that stops the text.
+/// Returns the event for the body of a character or of the fault that stops the text.
 fn body_event(item: Result<Char, Fault>) -> HeadEvent
     ensures { result ≡ event_of_item item }
 {
@@ -91,8 +91,8 @@ fn body_event(item: Result<Char, Fault>) -> HeadEvent
     }
 }
 
-/// Reads a character, or the fault that stops the text. After the line `%%` the stage of headers is
-/// left out.
+/// Reads a character, or the fault that stops the text. After the line `%%` it passes by the stage
+/// of headers.
 #[inline(always)]
 fn read(
     item: Result<Char, Fault>,
@@ -134,7 +134,7 @@ fn read_in_heads(
     writer.begin_body(item);
 }
 
-/// Reads what the decoder has emitted.
+/// Reads the item that the decoder has emitted, if it has emitted one.
 #[inline(always)]
 fn read_decoded(
     item: Option<Result<Char, Fault>>,
@@ -153,16 +153,17 @@ fn read_decoded(
 
 impl Engine {
     /// Returns an engine for `job` under `limits`, before the first byte of its input, and reserves
-    /// the memory that it ever takes. It fails only for want of memory. The ends that `job` names
-    /// are not opened: its format, the name of its input and whether it wants warnings are all that
-    /// counts.
+    /// all the memory that it needs. Fails only if memory cannot be allocated. The files that `job`
+    /// names are not opened: only its format, the name of its input and whether warnings are
+    /// reported count.
     ///
     /// Whatever bytes come, and however they end, it writes the output and the messages of a run
     /// over them, and ends with the status and the fault of this run. It runs, and nothing waits.
     /// No call changes its job or its limits.
     ///
     /// Names of headers are hashed with fixed keys. If strangers choose the names, they can choose
-    /// them so that the headers are read slowly (see docs/BENCHMARKS.md): take `with_hasher` there.
+    /// them so that the headers are read slowly (see docs/BENCHMARKS.md): use `with_hasher` for
+    /// these.
     pub fn new(alloc: Global, job: &Job, limits: Limits) -> Result<Engine, AllocError>
         ensures all { IfOk result (λ engine. (bytes : List ℕ) (ending : EndOfSource) →
             streams_left engine ending bytes
@@ -239,7 +240,7 @@ impl Engine {
         self.writer.run_writer()
     }
 
-    /// Returns whether the run is over. Each piece is taken whole then, and changes nothing.
+    /// Returns whether the run is over. If so, each piece is taken whole and changes nothing.
     pub(crate) fn is_over(&self) -> bool
         ensures over { result ≡ not (is_running self.now) }
         ensures takes { result ≡ true → (piece : List ℕ) →
@@ -248,7 +249,7 @@ impl Engine {
         self.writer.ended().is_some()
     }
 
-    /// Takes a byte. Before it nothing is kept back.
+    /// Takes `byte`. Before it nothing is kept back.
     #[inline(always)]
     pub(crate) fn take(&mut self, byte: u8)
         requires room { LeavesRoom self.old }
@@ -267,13 +268,14 @@ impl Engine {
         );
     }
 
-    /// Takes bytes of `piece` until it is used up or output or messages wait, and returns how many:
-    /// at least one, unless it is empty. Nothing may wait before. What waits then, and what is
-    /// still to be written after it, is what was to be written before: how the input is cut changes
-    /// nothing. What waits became known with the last byte that it took, and so did a fatal fault.
-    /// All that is known waits, but for the held syllable: a run that breaks off then has
-    /// no message left to write, and of the output at most this syllable and the last text. After a
-    /// fatal fault or the end it takes the whole piece and changes nothing.
+    /// Takes bytes of `piece` until it is used up or output or messages wait, and returns how many
+    /// bytes it took: at least one, unless `piece` is empty. Nothing may wait before. The bytes
+    /// that wait then and those still to be written after them are together those that were to be
+    /// written before: how the input is cut changes nothing. The bytes that wait became known with
+    /// the last byte taken, and so did a fatal fault. All that is known waits, but for the held
+    /// syllable: a run that breaks off then has no message left to write, and of the output at most
+    /// this syllable and the last text. After a fatal fault or the end it takes the whole piece and
+    /// changes nothing.
     pub fn feed(&mut self, piece: &[u8]) -> usize
         requires waits { NothingWaits self.old }
         ensures takes { TakesFront self.old piece.now result self.new }
@@ -319,7 +321,7 @@ impl Engine {
         self.writer.messages()
     }
 
-    /// Drops what waits, which was taken. What is still to be written stays.
+    /// Drops the bytes that wait, once they were taken. What is still to be written stays.
     pub fn taken(&mut self)
         ensures forgets { self.new ≡ record self.old { output = []; messages = [] } }
         ensures left { (bytes : List ℕ) (ending : EndOfSource) →
@@ -328,9 +330,9 @@ impl Engine {
         self.writer.clear();
     }
 
-    /// Ends the input, and returns how the run ended. What waits then is the last. Nothing may wait
-    /// before. Called again, or after a fatal fault, it changes nothing and returns the same
-    /// status.
+    /// Ends the input, and returns the status of the run. The last bytes of the run wait then.
+    /// Nothing may wait before. Called again, or after a fatal fault, it changes nothing and
+    /// returns the same status.
     pub fn end(&mut self) -> Status
         requires waits { NothingWaits self.old }
         ensures { IsEnded self.old Whole result self.new }
@@ -351,9 +353,9 @@ impl Engine {
         self.writer.finish().status()
     }
 
-    /// Ends the run of an input whose source has failed, and returns how it ended. What waits then
-    /// is the last. Nothing may wait before. Called again, or after a fatal fault, it changes
-    /// nothing and returns the same status.
+    /// Ends the run of an input whose source has failed, and returns the status of the run. The
+    /// last bytes of the run wait then. Nothing may wait before. Called again, or after a fatal
+    /// fault, it changes nothing and returns the same status.
     pub fn broken(&mut self) -> Status
         requires waits { NothingWaits self.old }
         ensures { IsEnded self.old Broken result self.new }
@@ -365,9 +367,9 @@ impl Engine {
         self.writer.finish().status()
     }
 
-    /// Begins again, as a new engine for the same job under the same limits does, wherever it
-    /// stands. What waits is forgotten: nothing waits then, and the engine runs. It asks for no
-    /// memory, and hashes the names of headers as before.
+    /// Begins again, as a new engine for the same job under the same limits does, whatever it has
+    /// read. The bytes that wait are dropped: nothing waits then, and the engine runs. It does not
+    /// allocate, and hashes the names of headers as before.
     pub fn restart(&mut self)
         ensures all { (job : Job) (limits : Limits) → RunsJob job limits self.old →
             (bytes : List ℕ) (ending : EndOfSource) → streams_left self.new ending bytes
@@ -391,9 +393,9 @@ impl Engine {
         self.writer.ended().is_none()
     }
 
-    /// Returns the fatal fault that stopped the run, with its place: from the byte or the end that
-    /// makes it known until `restart`. It is the one that the last message reports. There is none
-    /// while the run goes on, nor after an input that was read to its end or whose source failed.
+    /// Returns the fatal fault that stopped the run, with its place. It is known from the byte or
+    /// the end that makes it so until `restart`, and the last message reports it. Returns `None`
+    /// while the run goes on, and after an input that was read to its end or whose source failed.
     pub fn fault(&self) -> Option<Fault>
         ensures fault { result ≡ fault_of self.now }
         ensures known { result ≡ (streams_left self.now Broken []).fault }

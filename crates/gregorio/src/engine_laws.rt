@@ -1,4 +1,4 @@
-//! Laws of engines: what is written from their beginning, that nothing is kept back, and that what
+//! Laws of engines: what they write from the beginning, that nothing is kept back, and that what
 //! they save is a state. Each function's contract is a law, and its body calls other laws or does
 //! nothing.
 
@@ -25,7 +25,7 @@ use crate::engine::Engine;
 use crate::saved_alike::an_engine_may_run;
 use gabc_score::ScoreStage;
 
-/// Law: an engine that has taken nothing will write what a run writes of its whole input.
+/// Law: an engine that has taken nothing will write the streams of a run over its whole input.
 #[inline(always)]
 pub(crate) fn what_begins_is_written_whole()
     ensures { (job : Job) (limits : Limits) (s : EngineState) → HasBegun job limits s →
@@ -42,7 +42,8 @@ pub(crate) fn what_begins_is_written_whole()
     gabc_score::stage_laws::texts_are_read_in_full();
 }
 
-/// Law: nothing is kept back but the held syllable, and no fault while it runs.
+/// Law: nothing is kept back but the held syllable, and no fault is kept back while the engine
+/// runs.
 #[inline(always)]
 pub(crate) fn nothing_is_kept_back(engine: &Engine)
     ensures prompt { IsPrompt engine.now.written.format (streams_left engine.now Broken []) }
@@ -58,7 +59,8 @@ pub(crate) fn nothing_is_kept_back(engine: &Engine)
     let _ = engine.writer.ended();
 }
 
-/// Law: the texts that a stage over a score reports in the body are read as it says.
+/// Law: the texts that a stage over a score reports in the body are read as it reports, if they are
+/// in UTF-8.
 fn texts_of_a_score_are_read(score: &ScoreStage)
     requires body { score.now.part ≡ Body }
     requires texts { IsUtf8 (held_text score.now.before (held_of score.now))
@@ -71,7 +73,7 @@ fn texts_of_a_score_are_read(score: &ScoreStage)
     gabc_score::kept_laws::what_is_reported_is_kept_again();
 }
 
-/// Law: what an engine that runs saves are fields that may be those of a state.
+/// Law: the fields that an engine saves while it runs meet the conditions of a state.
 pub(crate) fn saved_fields_are_those_of_a_state(engine: &Engine)
     requires runs { is_running engine.now ≡ true }
     ensures { AreStateFields (state_of engine.now) }
@@ -84,7 +86,7 @@ pub(crate) fn saved_fields_are_those_of_a_state(engine: &Engine)
     let _ = (alterations.clef(), alterations.alters());
 }
 
-/// Law: the texts that an engine saves are read as it says.
+/// Law: the texts that an engine saves are read as its state says.
 fn saved_texts_are_read(engine: &Engine)
     requires runs { is_running engine.now ≡ true }
     requires fields { AreStateFields (state_of engine.now) }
@@ -97,7 +99,7 @@ fn saved_texts_are_read(engine: &Engine)
     }
 }
 
-/// Law: what an engine that runs saves is a state.
+/// Law: the bytes that an engine saves while it runs are a state.
 pub(crate) fn what_is_saved_is_a_state(engine: &Engine)
     requires runs { is_running engine.now ≡ true }
     ensures { AreOfState (state_of engine.now) }
@@ -106,7 +108,7 @@ pub(crate) fn what_is_saved_is_a_state(engine: &Engine)
     saved_texts_are_read(engine);
 }
 
-/// Law: after its headers an engine that runs stands in the body.
+/// Law: after its headers an engine that runs is in the body.
 pub(crate) fn the_body_comes_after_the_headers(engine: &Engine)
     requires runs { is_running engine.now ≡ true }
     requires after { IsInHeaders engine.now.heads.progress → ⊥ }

@@ -14,12 +14,13 @@ use crate::rooms::most_waiting;
 use gabc_places::valid_front;
 
 impl Engine {
-    /// Takes bytes of `piece` until it is used up or what waits leaves no room for what one byte
-    /// more may bring, and returns how many: at least one of a piece with bytes, if nothing waits
-    /// before. How much room there is, no clause says: where something waits it may take none. What
-    /// the bytes bring waits then, after what waited before, and all that is known of them waits,
-    /// but for the syllable that is held. It stops after the byte that makes a fatal fault known.
-    /// After such a fault or the end it takes the whole piece and changes nothing.
+    /// Takes bytes of `piece` until it is used up or the waiting bytes leave no room for the output
+    /// and messages of one byte more, and returns how many bytes it took: at least one of a piece
+    /// with bytes, if nothing waits before. How much room there is, no clause says: if something
+    /// waits, it may take none. The output and messages of these bytes wait then, after those that
+    /// waited before, and all that is known of them waits, but for the held syllable. It stops
+    /// after the byte that makes a fatal fault known. After such a fault or the end it takes the
+    /// whole piece and changes nothing.
     pub fn fill(&mut self, piece: &[u8]) -> usize
         ensures takes { TakesFront self.old piece.now result self.new }
         ensures fault { is_running self.old ≡ true → is_running self.new ≡ false →
@@ -31,7 +32,7 @@ impl Engine {
             return piece.len();
         }
         while count < piece.len() && self.has_room() {
-            // As many bytes as may wait are looked at together for whether they are UTF-8.
+            // As many bytes as may wait are tested for UTF-8 at once.
             let most = most_waiting(self.score().limits()).min(piece.len() - count);
             count += self.fill_part(&piece[count..count + most]);
         }
@@ -39,8 +40,8 @@ impl Engine {
         count
     }
 
-    /// Takes bytes of `part` until it is used up or what waits leaves no room for what one byte
-    /// more may bring, and returns how many, at least one.
+    /// Takes bytes of `part` until it is used up or the waiting bytes leave no room for the output
+    /// and messages of one byte more, and returns how many bytes it took, at least one.
     fn fill_part(&mut self, part: &[u8]) -> usize
         requires room { LeavesRoom self.old }
         requires running { is_running self.old ≡ true }
@@ -50,7 +51,7 @@ impl Engine {
     {
         let text = valid_front(part);
         if text.is_empty() {
-            // It begins within a character, or with what is none.
+            // The part begins within a character, or with bytes that are not UTF-8.
             self.take(part[0]);
             return 1;
         }
@@ -62,7 +63,7 @@ impl Engine {
     }
 
     /// Takes bytes of `piece` after the first `count`, and returns how many: a run of syllables, if
-    /// `text`, the front of `piece` that is UTF-8, can be cut there and one follows, or else one
+    /// `text`, the front of `piece` that is UTF-8, can be cut there and a run follows, or else one
     /// byte.
     #[inline(always)]
     fn take_next(&mut self, piece: &[u8], text: &str, count: usize) -> usize
@@ -85,16 +86,15 @@ impl Engine {
         1
     }
 
-    /// Returns whether a syllable is held, and nothing of the next one is kept: a run begins
-    /// nowhere else.
+    /// Returns whether a syllable is held, and nothing of the next one is kept: only there a run
+    /// begins.
     #[inline(always)]
     fn is_between(&self) -> bool {
         self.score().held().is_some() && self.score().reading().is_empty()
     }
 
-    /// Takes whole syllables from the front of `text`, and returns how many bytes. What they bring
-    /// waits then, after what waited before. Of those that it could take it may leave some to
-    /// `take`.
+    /// Takes whole syllables from the front of `text`, and returns how many bytes it took. Their
+    /// output waits then, after what waited before. It may stop early, and `take` takes the rest.
     #[inline(always)]
     fn take_run(&mut self, text: &str) -> usize
         requires { is_running self.old ≡ true }
@@ -113,7 +113,8 @@ impl Engine {
         run.bytes
     }
 
-    /// Returns whether the run goes on, and there is room for what one byte more may bring.
+    /// Returns whether the run goes on, and there is room for the output and messages of one byte
+    /// more.
     #[inline(always)]
     fn has_room(&self) -> bool
         ensures room { result ≡ true → LeavesRoom self.now }

@@ -1,4 +1,4 @@
-//! What is written of findings, and how a run ends by what was found.
+//! The lines of findings, and the status of a run by its findings.
 
 ghost use Rattle.std.specs.Prelude.{◌≡◌, ◌+◌, ◌≤◌, length};
 ghost use Rattle.std.specs.List.{list_any};
@@ -9,7 +9,7 @@ use gabc_score::Score;
 use gabc_write::message_line;
 use gregorio_jobs::{Input, Status};
 
-/// Returns what messages call the input.
+/// Returns the name of the input in messages.
 pub(crate) fn input_name(input: &Input) -> &str
     ensures { result.now ≡ name_of_input input.now }
 {
@@ -19,14 +19,14 @@ pub(crate) fn input_name(input: &Input) -> &str
     }
 }
 
-/// Returns whether a message reports `finding`: of a warning only if `all_warnings` are wanted.
+/// Returns whether a message reports `finding`: a warning only if `all_warnings`.
 pub fn is_shown(all_warnings: bool, finding: Finding) -> bool
     ensures { result ≡ shown all_warnings finding }
 {
     all_warnings || finding.code.severity() != Severity::Warning
 }
 
-/// Puts the line of a finding, if it is written.
+/// Puts the line of `finding` into `out`, if it is shown. Messages call the input `name`.
 pub(crate) fn put_finding<S: Put>(name: &str, all_warnings: bool, finding: Finding, out: &mut S)
     ensures put { out.new ≡ S.taken out.old (shown_line name.now all_warnings finding) }
     ensures short { length (shown_line name.now all_warnings finding) ≤ length name.now + 128 }
@@ -52,7 +52,8 @@ fn has_errors(findings: &[Finding]) -> bool
         .any(|f| f.code.severity() == Severity::Error)
 }
 
-/// Returns the status of a run with this score, by whether it was cut short.
+/// Returns the status of a run with the score `score`. `broken` says whether its source failed and
+/// no fault stops it.
 pub(crate) fn status_by(score: &Score, broken: bool) -> Status
     ensures { result ≡ status_with_findings score.now broken }
 {

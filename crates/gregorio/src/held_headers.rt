@@ -1,4 +1,4 @@
-//! The text of the headers so far, read again by a stage.
+//! The text of the headers so far, which a stage reads again.
 
 ghost use Rattle.std.specs.Prelude.{◌≡◌, ◌↔◌, ◌≤◌, ◌<◌, ◌^◌, length, true, IsTrue, Ok};
 ghost use Rattle.std.specs.List.{list_any};
@@ -13,16 +13,16 @@ use crate::findings::is_error;
 use gabc_headers::{HeadEvent, HeaderStage};
 use gabc_places::{Char, Place, Room, Stage};
 
-/// What a text of headers gives beside the stage that holds it.
+/// The place after a text of headers, and whether it has errors.
 #[derive(Clone, Copy, PartialEq, Eq)]
 pub(crate) struct HeldHeaders {
-    /// The place of the character after it.
+    /// The place of the character after the text.
     pub(crate) place: Place,
-    /// Whether an error is found in it.
+    /// Whether an error is found in the text.
     pub(crate) has_error: bool,
 }
 
-/// Returns whether an error is found.
+/// Returns whether `event` is an error.
 fn is_error_event(event: HeadEvent) -> bool
     ensures { result ≡ error_event event }
 {
@@ -32,7 +32,7 @@ fn is_error_event(event: HeadEvent) -> bool
     }
 }
 
-/// Returns whether an error is found among these.
+/// Returns whether an error is among `events`.
 fn has_error(events: &[HeadEvent]) -> bool
     ensures { result ≡ list_any error_event events.now }
 {
@@ -40,7 +40,7 @@ fn has_error(events: &[HeadEvent]) -> bool
 }
 
 /// Pushes `x` into `heads`, and returns whether an error is found with it. `events` has room for
-/// what the stage emits.
+/// the events of a character.
 fn push_character(heads: &mut HeaderStage, x: Char, events: &mut Room<HeadEvent>) -> bool
     requires { 2 ≤ events.old.limit }
     ensures room { events.new.limit ≡ events.old.limit }
@@ -53,8 +53,8 @@ fn push_character(heads: &mut HeaderStage, x: Char, events: &mut Room<HeadEvent>
     has_error(events.slice())
 }
 
-/// Pushes the characters of `text` into `heads`, which stands before the first one, and returns
-/// what they give. `events` has room for what is emitted of one.
+/// Pushes the characters of `text` into `heads`, which is before the first one. Returns the place
+/// after them, and whether an error is found. `events` has room for the events of a character.
 fn push_text(heads: &mut HeaderStage, text: &str, events: &mut Room<HeadEvent>) -> HeldHeaders
     requires fresh { heads.old ≡ fresh_stage heads.old.limits heads.old.hasher }
     requires short { length text.now < 2 ^ 63 }
@@ -79,9 +79,9 @@ fn push_text(heads: &mut HeaderStage, text: &str, events: &mut Room<HeadEvent>) 
     given
 }
 
-/// Reads `text` with `heads`, which stands before its first character. Returns whether its end
-/// alone stops it and it gives what `told` says. `events` has room for what is emitted of a
-/// character.
+/// Reads `text` with `heads`, which is before its first character. Returns whether the headers go
+/// on after it, and the place after it and its errors are those of `told`. `events` has room for
+/// the events of a character.
 pub(crate) fn holds_text(
     heads: &mut HeaderStage,
     text: &str,
@@ -104,8 +104,8 @@ pub(crate) fn holds_text(
     given == told
 }
 
-/// Reads the line `%%` with `heads`, which stands before the first character of a text. `events`
-/// has room for what is emitted of a character.
+/// Reads the line `%%` with `heads`, which is before the first character of a text. `events` has
+/// room for the events of a character.
 pub(crate) fn read_mark(heads: &mut HeaderStage, events: &mut Room<HeadEvent>)
     requires fresh { heads.old ≡ fresh_stage heads.old.limits heads.old.hasher }
     requires room { 2 ≤ events.old.limit }

@@ -13,7 +13,7 @@ use crate::source_ending::SourceEnding;
 use gabc_places::Put;
 use gregorio_jobs::Status;
 
-/// Puts what waits, and forgets it.
+/// Puts the waiting output into `out` and the waiting messages into `messages`, and drops them.
 pub(crate) fn put_waiting<O: Put, M: Put>(engine: &mut Engine, out: &mut O, messages: &mut M)
     ensures out { out.new ≡ O.taken out.old engine.old.output }
     ensures messages { messages.new ≡ M.taken messages.old engine.old.messages }
@@ -24,7 +24,7 @@ pub(crate) fn put_waiting<O: Put, M: Put>(engine: &mut Engine, out: &mut O, mess
     engine.taken();
 }
 
-/// Ends a run, and puts what is written then. Returns how it ended.
+/// Ends a run by `ending`, and puts its last output and messages. Returns the status of the run.
 pub(crate) fn end_by<O: Put, M: Put>(
     engine: &mut Engine,
     ending: SourceEnding,
@@ -44,12 +44,13 @@ pub(crate) fn end_by<O: Put, M: Put>(
 }
 
 impl Engine {
-    /// Feeds all of `piece`, and puts what is written at it into `out` and `messages`. Nothing may
-    /// wait before, and nothing waits afterwards. What is put now and what is still to be written
-    /// then are together what was to be written before, whatever follows the piece and however the
-    /// input ends: how it is cut into pieces changes nothing. All that is known is put, but for the
-    /// held syllable. After a fatal fault or the end it puts nothing, and changes nothing. An end
-    /// that takes less than all is left as its `put` leaves it.
+    /// Feeds all of `piece`, and puts the output and messages of it into `out` and `messages`.
+    /// Nothing may wait before, and nothing waits afterwards. The bytes put by this call and those
+    /// still to be written then are together those that were to be written before, whatever follows
+    /// the piece and however the input ends: how it is cut into pieces changes nothing. All that is
+    /// known is put, but for the held syllable. After a fatal fault or the end it puts nothing, and
+    /// changes nothing. If `out` or `messages` takes less than all, it is left as its `put` leaves
+    /// it.
     pub fn feed_all<O: Put, M: Put>(&mut self, piece: &[u8], out: &mut O, messages: &mut M)
         requires waits { NothingWaits self.old }
         ensures waits { NothingWaits self.new }
@@ -70,9 +71,9 @@ impl Engine {
     }
 
     /// Reads `input`, the whole rest of the input, and puts all that is still to be written into
-    /// `out` and `messages`. Returns how the run ended. Nothing may wait before, and nothing waits
-    /// afterwards: the run is over then, as after `end`. An end that takes less than all is left as
-    /// its `put` leaves it; `ByteCounter`s count what there is.
+    /// `out` and `messages`. Returns the status of the run. Nothing may wait before, and nothing
+    /// waits afterwards: the run is over then, as after `end`. If `out` or `messages` takes less
+    /// than all, it is left as its `put` leaves it; a `ByteCounter` counts all bytes.
     pub fn run_over<O: Put, M: Put>(
         &mut self,
         input: &[u8],

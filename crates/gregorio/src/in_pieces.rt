@@ -10,10 +10,10 @@ use crate::source_ending::SourceEnding;
 use gabc_places::Put;
 use gregorio_jobs::Status;
 
-/// Law: however an input is cut into `pieces`, and however it ends, `engine` writes of them what it
-/// writes of the whole input, and ends with the same status and the same fault. Of an engine that
-/// has begun just now that is what `compile` writes. Nothing may wait before, and nothing waits
-/// afterwards: the run is over then, as after `end`.
+/// Law: however an input is cut into `pieces`, and whichever `ending` it has, `engine` writes of
+/// them what it writes of the whole input, and ends with the same status and the same fault. An
+/// engine that has taken nothing writes what `compile` writes. Nothing may wait before, and nothing
+/// waits afterwards: the run is over then, as after `end`.
 pub fn an_input_may_come_in_pieces<O: Put, M: Put>(
     engine: &mut Engine,
     pieces: &[&[u8]],

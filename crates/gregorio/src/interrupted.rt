@@ -18,8 +18,8 @@ use gregorio_jobs::{Job, Status};
 use std::alloc::Global;
 use std::mem;
 
-/// Feeds `piece`, and puts what is written at it. If the run goes on, it is saved into `buf`, and
-/// an engine that is restored takes its place.
+/// Feeds `piece`, and puts its output and messages. If the run goes on, it is saved into `buf`, and
+/// a restored engine takes its place.
 fn feed_and_restore<O: Put, M: Put>(
     alloc: Global,
     engine: &mut Engine,
@@ -72,12 +72,12 @@ fn feed_pieces<O: Put, M: Put>(
     Ok(())
 }
 
-/// Runs over `pieces`, saved and restored after each: however the input is cut into them and
-/// however it ends, such a run writes the output and the messages and ends with the status of a run
-/// without a break. They are put into `out` and `messages`. That it saves and restores stands in
-/// its body, and in no clause: the promise stands on `restored_laws::a_restored_run_goes_on` and
-/// `restored_laws::what_is_saved_stands`. `buf` is for its states. The error is that of too little
-/// memory.
+/// Law: however an input is cut into `pieces` and however it ends, a run that is saved and restored
+/// after each of them writes the output and the messages and ends with the status of a run without
+/// a break. They are put into `out` and `messages`. That it saves and restores is in its body, and
+/// in no clause: the promise rests on `restored_laws::a_restored_run_goes_on` and
+/// `restored_laws::what_is_saved_stands`. `buf` has room for its states. The error is `K0`, if
+/// memory cannot be allocated.
 pub fn a_run_may_be_interrupted<O: Put, M: Put>(
     alloc: Global,
     job: &Job,

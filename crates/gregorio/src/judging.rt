@@ -1,5 +1,5 @@
-//! Bytes of another run: whether they are a saved state. They are read in memory of their own, no
-//! larger than their texts need, whatever limits they name.
+//! The judgement whether bytes of another run are a saved state. They are read in memory of their
+//! own, no larger than their texts need, whatever limits they name.
 
 ghost use Rattle.std.specs.Prelude.{◌≡◌, ◌≢◌, ◌↔◌, ◌<◌, ◌≤◌, ◌^◌, length, IfErr, IfOk, IsTrue};
 ghost use Rattle.std.specs.Str.{chars};
@@ -19,7 +19,8 @@ use gregorio_state::{Phase, ScoreFields, StateFields};
 use std::alloc::Global;
 use std::hash::DefaultHasher;
 
-/// Returns limits that are no larger than `limits`, under which headers of `text` may be as long.
+/// Returns limits that are no larger than `limits`, under which headers may be as long as `text`,
+/// if they may be so under `limits`.
 fn limits_for(limits: Limits, text: &str) -> Limits
     ensures { IsEnough limits (length text.now) result }
 {
@@ -29,7 +30,7 @@ fn limits_for(limits: Limits, text: &str) -> Limits
 }
 
 /// Returns limits that are no larger than `limits`, under which the texts of `fields` are read as
-/// under those: a syllable may have as many bytes as the longer of them.
+/// under `limits`: a syllable may have as many bytes as the longer of them.
 fn limits_of_texts(limits: Limits, fields: &ScoreFields<'_>) -> Limits
     ensures { IsEnoughFor (score_of fields.now) limits result }
 {
@@ -50,8 +51,8 @@ fn own_memory(alloc: Global) -> Result<Memory, StateFault>
     }
 }
 
-/// Returns whether `text`, that of the headers of `state`, is read as the state says. The error is
-/// `K0`, where there is no memory.
+/// Returns whether `text`, the headers of `state`, is read as the state says. Fails with `K0` if
+/// memory cannot be allocated.
 fn are_headers_read(
     alloc: Global,
     state: &StateFields<'_>,
@@ -77,8 +78,8 @@ fn are_headers_read(
     Ok(is_read)
 }
 
-/// Returns whether the texts of `fields`, those of the score of `state`, are read as they say. The
-/// error is `K0`, where there is no memory.
+/// Returns whether the texts of `fields`, the score of `state`, are read as they say. Fails with
+/// `K0` if memory cannot be allocated.
 fn is_score_read(
     alloc: Global,
     state: &StateFields<'_>,
@@ -102,7 +103,8 @@ fn is_score_read(
     }
 }
 
-/// Returns whether the texts of `state` are read as it says.
+/// Returns whether the texts of `state` are read as it says. Fails with `K0` if memory cannot be
+/// allocated.
 fn is_read(
     alloc: Global,
     state: &StateFields<'_>,
@@ -118,8 +120,8 @@ fn is_read(
     }
 }
 
-/// Returns why the fields of a state that is not one of the wanted job are not restored: `K2` where
-/// they are those of a state, else `K1`; or `K0`, where there is no memory to judge them.
+/// Returns the fault of restoring `state`, which is not one of the wanted job: `K2` if its fields
+/// are those of a state, else `K1`; or `K0`, if memory to judge them cannot be allocated.
 pub(crate) fn judge(alloc: Global, state: &StateFields<'_>, hasher: DefaultHasher) -> StateFault
     requires fields { AreStateFields (fields_of state.now) }
     ensures none { result ≡ StateFault.K1 → AreOfState (fields_of state.now) → ⊥ }

@@ -1,5 +1,5 @@
-//! Laws of the definitions that contracts speak of. Each function's contract is a law; its body
-//! calls the laws below that it stands on.
+//! Laws of the definitions that contracts use. Each function's contract is a law; its body calls
+//! the laws below that it rests on.
 
 ghost use Rattle.std.specs.Prelude.{◌≡◌, ℕ, ◌≤◌, List, [], length, true, false, IsSome, None, Some};
 ghost use Rattle.std.specs.Io.KnownBytes.{Appends};
@@ -79,9 +79,8 @@ pub fn a_stopped_run_writes_what_its_prefix_writes()
     gabc_score::laws::a_stopped_score_is_that_of_its_prefix();
 }
 
-/// Law: larger limits change nothing if neither the headers nor a syllable were too long: what
-/// is read, or is stopped for another reason, is read so under limits that are no less, if the
-/// input may be as long.
+/// Law: larger limits change nothing if neither the headers nor a syllable were too long: the
+/// outcome is the same under limits that are no less, if the limit of the input is the same.
 pub fn larger_limits_change_nothing()
     ensures { (limits larger : Limits) (ending : SourceEnding) (bytes : List ℕ) →
         AreNoLess limits larger → limits.input ≡ larger.input →

@@ -1,4 +1,4 @@
-//! What a run makes of its input.
+//! The outcome of a run.
 
 ghost use Rattle.std.specs.Prelude.{◌≡◌, IfOk};
 ghost use Rattle.gregorio.specs.Outcome.{outcome_of, ending_by, is_cut_short as cut_short, status_of};
@@ -11,16 +11,17 @@ use gregorio_jobs::Status;
 use std::alloc::{AllocError, Global};
 use std::hash::DefaultHasher;
 
-/// What a run makes of its input: the score, and whether it was cut short since the source failed.
+/// The outcome of a run: its score, and whether it was cut short since the source failed.
 #[derive(Drop)]
 pub struct Outcome {
     /// The score as far as it was read.
     pub score: Score,
-    /// Whether the source failed.
+    /// Whether the source failed, and no fault stopped the run.
     pub broken: bool,
 }
 
-/// Returns how a text ended: at the fault that stopped it, or else as the source did.
+/// Returns the end of a text: the fault that stopped it, if there is one, or else the end of the
+/// source.
 fn ending_of(ending: SourceEnding, fault: Option<Fault>) -> gabc_score::InputEnding
     ensures { result ≡ ending_by ending fault }
 {
@@ -43,9 +44,9 @@ fn is_cut_short(ending: SourceEnding, fault: Option<Fault>) -> bool
 
 impl Outcome {
     /// Reads the score of `bytes` under `limits`. The bytes are a whole input, or those that came
-    /// before its source failed, as `ending` says. It fails only for want of memory. The names of
-    /// headers are hashed with a fixed key: if strangers write the bytes and `limits.header` is
-    /// large, take `of_with_hasher`.
+    /// before its source failed, as `ending` says. Fails only if memory cannot be allocated. The
+    /// names of headers are hashed with a fixed key: if strangers write the bytes and
+    /// `limits.header` is large, use `of_with_hasher`.
     pub fn of(
         alloc: Global,
         bytes: &[u8],
@@ -76,7 +77,7 @@ impl Outcome {
         Ok(Outcome { score, broken })
     }
 
-    /// Returns how the run ends.
+    /// Returns the status of the run.
     pub fn status(&self) -> Status
         ensures { result ≡ status_of self.now }
     {

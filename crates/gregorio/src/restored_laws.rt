@@ -1,5 +1,5 @@
-//! Laws of a run that goes on from its saved state. Each function's contract is a law, and its body
-//! makes the calls and calls the laws that it stands on.
+//! Laws of a run that resumes from its saved state. Each function's contract is a law, and its body
+//! makes the calls and calls the laws that it rests on.
 
 ghost use Rattle.std.specs.Prelude.{◌≡◌, ◌+◌, ◌*◌, ◌≤◌, List, ℕ, length, max, true, IfErr, IfOk};
 ghost use Rattle.gregorio_state.specs.Conditions.{AreStateFields};
@@ -20,7 +20,7 @@ use gabc_places::Limits;
 use gregorio_jobs::Job;
 use std::alloc::Global;
 
-/// Law: no bytes are those of the fields of two saved states.
+/// Law: the bytes of a saved state have its fields alone: two states with the same bytes are one.
 pub fn bytes_are_of_one_state(bytes: &[u8])
     ensures { (one other : StateFields) → AreStateFields one → AreStateFields other →
         bytes.now ≡ state_bytes one → bytes.now ≡ state_bytes other → one ≡ other }
@@ -28,8 +28,8 @@ pub fn bytes_are_of_one_state(bytes: &[u8])
     let _ = gregorio_state::read(bytes);
 }
 
-/// Law: the bytes that an engine saves stand for what it will still write, and for nothing else: a
-/// run that stands after them, in another process too, writes that of whatever follows.
+/// Law: the bytes that an engine saves stand for all that it will still write, and for nothing
+/// else: a run that resumes from them, in another process too, writes that of whatever follows.
 pub fn what_is_saved_stands(engine: &Engine, job: &Job, limits: Limits, bytes: &[u8])
     requires runs { is_running engine.now ≡ true }
     requires job { RunsJob job.now limits engine.now }
@@ -46,9 +46,9 @@ pub fn what_is_saved_stands(engine: &Engine, job: &Job, limits: Limits, bytes: &
     engines_that_save_the_same_agree();
 }
 
-/// Law: a run that is saved and restored goes on as the saved one: the engine that is restored for
-/// the same job, under the same limits, from what `engine` saves into `buf` writes the same of
-/// whatever follows, and ends alike. Restoring fails only for want of memory.
+/// Law: a restored run goes on as the saved one: the engine that is restored for the same job,
+/// under the same limits, from the state that `engine` saves into `buf` writes the same of whatever
+/// follows, and ends alike. Restoring fails only if memory cannot be allocated.
 pub fn a_restored_run_goes_on(
     alloc: Global,
     engine: &Engine,

@@ -1,4 +1,4 @@
-//! A run that goes on from its saved state.
+//! A run that resumes from its saved state.
 
 ghost use Rattle.std.specs.Prelude.{◌≡◌, ◌↔◌, ◌<◌, ◌≤◌, ◌^◌, length, true, Err, IfErr, IfOk, IfSome, IsTrue};
 ghost use Rattle.std.specs.Hash.DefaultHasher.{initial};
@@ -43,7 +43,7 @@ fn is_of_job(state: &StateFields<'_>, job: &Job, limits: Limits) -> bool
     state.limits == limits && state.format == job.format && state.all_warnings == job.all_warnings
 }
 
-/// Returns an empty room for what a stage of headers emits of a character.
+/// Returns an empty room for the events that a stage of headers emits of a character.
 pub(crate) fn head_room(memory: &Memory) -> Result<Room<HeadEvent>, StateFault>
     ensures room { IfOk result (λ room. 2 ≤ room.limit) }
     ensures fault { IfErr result (λ fault. fault ≡ StateFault.K0) }
@@ -69,9 +69,9 @@ pub(crate) fn fresh_heads(
     }
 }
 
-/// Returns a stage of headers that holds `text`, the text of the headers of `state`. The error is
-/// `K1` if the text does not end there, or gives another place or other errors, and `K0` if there
-/// is no memory.
+/// Returns a stage of headers that holds `text`, the text of the headers of `state`. Fails with
+/// `K1` if the headers do not go on after it, or its end or its errors are others than the state
+/// says, and with `K0` if memory cannot be allocated.
 fn heads_holding(
     memory: &Memory,
     state: &StateFields<'_>,
@@ -140,7 +140,7 @@ fn fresh_writer_of(memory: &Memory, job: &Job, limits: Limits) -> Result<RunWrit
     }
 }
 
-/// Returns what is in force, as `fields` report it.
+/// Returns the clef and the alterations in force, as `fields` report them.
 fn force_of(fields: &ScoreFields<'_>) -> Alterations
     requires { IfSome fields.now.clef (λ c. (1 ≤ c.line) × (c.line ≤ 5)) }
     ensures { result ≡ (score_of fields.now).in_force }
@@ -151,7 +151,8 @@ fn force_of(fields: &ScoreFields<'_>) -> Alterations
     alterations
 }
 
-/// Returns the writer of a run of `job` that has written what stands before what `state` reports.
+/// Returns the writer of a run of `job` that has written all that comes before the texts in
+/// `state`.
 fn writer_of(
     memory: &Memory,
     job: &Job,
@@ -194,7 +195,7 @@ fn decoder_of(state: &StateFields<'_>) -> Decoder
     decoder
 }
 
-/// Returns the writer of scores that goes on with `score` as `state` reports, a state of `job`.
+/// Returns the writer of scores that resumes with `score` as `state` reports, a state of `job`.
 fn score_writer_of(
     memory: &Memory,
     job: &Job,
@@ -224,7 +225,7 @@ fn score_writer_of(
     }
 }
 
-/// Returns the engine of `job` under `limits` that goes on with `heads` and `score` as `state`
+/// Returns the engine of `job` under `limits` that resumes with `heads` and `score` as `state`
 /// reports, a state of `job`.
 fn engine_with(
     memory: &Memory,
@@ -261,8 +262,8 @@ fn engine_with(
     }
 }
 
-/// Returns an engine that goes on in the headers, of which `state` has read `text`, a state of
-/// `job` under `limits`. Its errors are those of `restore`.
+/// Returns an engine that resumes in the headers, of which `state` has read `text`, a state of
+/// `job` under `limits`. Fails as `restore` does.
 fn engine_in_headers(
     memory: &Memory,
     job: &Job,
@@ -288,8 +289,8 @@ fn engine_in_headers(
     }
 }
 
-/// Returns an engine that goes on in the score as `fields` of `state` say, a state of `job` under
-/// `limits`. Its errors are those of `restore`.
+/// Returns an engine that resumes in the score as `fields` of `state` say, a state of `job` under
+/// `limits`. Fails as `restore` does.
 fn engine_in_score(
     memory: &Memory,
     job: &Job,
@@ -316,17 +317,17 @@ fn engine_in_score(
 }
 
 impl Engine {
-    /// Returns an engine that goes on where the run stood whose saved state is `bytes`, as
-    /// `save_into` wrote it. It runs, nothing waits, and it saves these bytes. The format of `job`,
-    /// whether it wants warnings, and `limits` have to be those of that run. The name of the input
-    /// is that of `job`: it stands in no state.
+    /// Returns an engine that resumes the run whose saved state is `bytes`, as `save_into` wrote
+    /// it. It runs, nothing waits, and it saves these bytes. The format of `job`, whether it
+    /// reports warnings, and `limits` have to be those of that run. The name of the input is that
+    /// of `job`: no state has it.
     ///
-    /// The error is K0 for want of memory, whenever that is met; else K1 exactly if `bytes` are no
-    /// saved state; else K2: the state is one of another format, of other limits, or of a run that
-    /// wants warnings while `job` does not, or the other way round. The texts of a state of another
-    /// run are read in memory of their own, which is no larger than they need, though no clause
-    /// counts it: only for one of `job` under `limits` is that of an engine asked for. Names of
-    /// headers are hashed as in `new`.
+    /// Fails with K0 if memory cannot be allocated, whenever that is met; else with K1 exactly if
+    /// `bytes` are no saved state; else with K2: the state is one of another format, of other
+    /// limits, or of a run that reports warnings while `job` does not, or the other way round. The
+    /// texts of a state of another run are read in memory of their own, which is no larger than
+    /// they need, though no clause counts it: the memory of an engine is allocated only for a state
+    /// of `job` under `limits`. Names of headers are hashed as in `new`.
     pub fn restore(
         alloc: Global,
         job: &Job,

@@ -1,4 +1,4 @@
-//! How much memory an engine takes, which is reserved when it is made.
+//! The amount of memory of an engine, which is reserved when it is made.
 
 ghost use Rattle.std.specs.Prelude.{◌≡◌, ◌+◌, ◌*◌, ◌^◌, ◌<◌, ◌≤◌, [], IfOk};
 ghost use Rattle.gregorio.specs.machine.RunWriter.{syllable_room as room_of_syllable, room_without_notes as room_of_no_notes, heads_room as room_of_heads, most_waiting as most_before_a_step, out_room};
@@ -11,8 +11,8 @@ use std::alloc::{AllocError, Global};
 /// The most lines that one byte or the end adds.
 const LINES: usize = 128;
 
-/// Returns how many bytes a syllable may have in this `format`, whose canonical text has at most
-/// `limit` bytes.
+/// Returns the number of bytes reserved for a syllable in the format `format`, whose canonical text
+/// has at most `limit` bytes.
 fn syllable_room(format: Format, limit: usize) -> usize
     requires { limit < 2 ^ 32 }
     ensures { result ≡ room_of_syllable format limit }
@@ -23,8 +23,8 @@ fn syllable_room(format: Format, limit: usize) -> usize
     }
 }
 
-/// Returns how many bytes a syllable without notes may have in this `format`, whose canonical text
-/// has at most `limit` bytes.
+/// Returns the number of bytes reserved for a syllable without notes in the format `format`, whose
+/// canonical text has at most `limit` bytes.
 fn room_without_notes(format: Format, limit: usize) -> usize
     requires { limit < 2 ^ 32 }
     ensures { result ≡ room_of_no_notes format limit }
@@ -35,8 +35,8 @@ fn room_without_notes(format: Format, limit: usize) -> usize
     }
 }
 
-/// Returns how many bytes the headers may have in this `format`, whose canonical lines have at most
-/// `limit` bytes.
+/// Returns the number of bytes reserved for the headers in the format `format`, whose canonical
+/// lines have at most `limit` bytes.
 fn heads_room(format: Format, limit: usize) -> usize
     requires { limit < 2 ^ 32 }
     ensures { result ≡ room_of_heads format limit }
@@ -47,15 +47,15 @@ fn heads_room(format: Format, limit: usize) -> usize
     }
 }
 
-/// Returns how many bytes of the output, and as many of the messages, may wait before a step: as
-/// many as the headers may have under `limits`, at most 65,536.
+/// Returns the number of bytes of the output, and likewise of the messages, that may wait before a
+/// step: the limit of the headers, at most 65,536.
 pub(crate) fn most_waiting(limits: Limits) -> usize
     ensures { result ≡ most_before_a_step limits }
 {
     (limits.header as usize).min(65_536)
 }
 
-/// Returns how many bytes of the output can wait in this `format` under `limits`.
+/// Returns the number of bytes reserved for the output in the format `format` under `limits`.
 pub(crate) fn output_room(format: Format, limits: Limits) -> usize
     ensures { result ≡ out_room format limits + most_before_a_step limits }
 {
@@ -68,7 +68,7 @@ pub(crate) fn output_room(format: Format, limits: Limits) -> usize
 /// The most bytes of an engine beside its texts: of its small rooms and its two slots.
 const SMALL: usize = 4096;
 
-/// Returns memory for an engine of `job` under `limits`, which is asked for at once.
+/// Returns memory for an engine of `job` under `limits`, reserved at once.
 pub(crate) fn memory_for(alloc: Global, job: &Job, limits: Limits) -> Result<Memory, AllocError> {
     let name = input_name(&job.input).len();
     let kept = limits.header as usize + 2 * limits.syllable as usize + SMALL;
@@ -82,7 +82,7 @@ pub(crate) fn memory_for(alloc: Global, job: &Job, limits: Limits) -> Result<Mem
 }
 
 /// Returns an empty room in `memory` for the lines of messages that call the input by a name of
-/// `len` bytes: for those of a step, and for `waiting` bytes before it.
+/// `len` bytes: for those of a step, and for `waiting` bytes before them.
 pub(crate) fn message_room(
     memory: &Memory,
     len: usize,

@@ -16,11 +16,10 @@ use gregorio_jobs::{Job, Status};
 use std::alloc::Global;
 use std::hash::DefaultHasher;
 
-/// How many bytes one read asks for at most.
+/// The most bytes that one read asks for.
 const PIECE: usize = 16_384;
 
-/// Sends `output` to `out`, and then `lines` to `messages`. Where the output's sink fails, no
-/// message is sent.
+/// Sends `output` to `out`, and then `lines` to `messages`. If `out` fails, no message is sent.
 fn send_both<O: Sink, M: Sink>(
     output: &[u8],
     lines: &[u8],
@@ -44,7 +43,7 @@ fn send_both<O: Sink, M: Sink>(
     Ok(())
 }
 
-/// Sends what waits: the output, and then the messages.
+/// Sends the bytes that wait: the output, and then the messages.
 fn send_waiting<O: Sink, M: Sink>(
     engine: &mut Engine,
     out: &mut O,
@@ -130,7 +129,7 @@ fn feed_source<S: Source, O: Sink, M: Sink>(
     Ok(SourceEnding::Whole)
 }
 
-/// Ends the run of an input that stopped so, and returns how it ended.
+/// Ends the run of an input that ended or failed, as `ending` says. Returns the status of the run.
 fn end_by(engine: &mut Engine, ending: SourceEnding) -> Status
     requires waits { NothingWaits engine.old }
     ensures { streams_left engine.old ending []
@@ -142,7 +141,7 @@ fn end_by(engine: &mut Engine, ending: SourceEnding) -> Status
     }
 }
 
-/// Runs `engine` on `source`, and sends what it writes. Returns how the run ended.
+/// Runs `engine` on `source`, and sends what it writes. Returns the status of the run.
 fn run<S: Source, O: Sink, M: Sink>(
     engine: &mut Engine,
     limits: Limits,
@@ -167,11 +166,11 @@ fn run<S: Source, O: Sink, M: Sink>(
 }
 
 /// Reads a score from `source`, at most one byte more than `limits.input`, writes it in the format
-/// of `job` to `out`, and its messages to `messages`. Returns how it went. The ends that `job`
-/// names are not opened. At `WriteFault` each sink holds a prefix of its text; at `NoMemory`
-/// nothing was read or written. Names of headers are hashed with a fixed key: where strangers write
-/// the score and `limits.header` is large, take `compile_with_hasher` (`docs/BENCHMARKS.md` has
-/// what chosen names cost).
+/// of `job` to `out`, and its messages to `messages`. Returns the status of the run. The files that
+/// `job` names are not opened. At `WriteFault` each sink has a prefix of its text; at `NoMemory`
+/// nothing was read or written. Names of headers are hashed with a fixed key: if strangers write
+/// the score and `limits.header` is large, use `compile_with_hasher` (`docs/BENCHMARKS.md` has the
+/// cost of chosen names).
 pub fn compile<S: Source, O: Sink, M: Sink>(
     alloc: Global,
     job: &Job,

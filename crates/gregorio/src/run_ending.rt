@@ -1,11 +1,11 @@
-//! How a run ended.
+//! The ways in which a run ends.
 
 ghost use Rattle.std.specs.Prelude.{◌≡◌};
 
 use gabc_places::Fault;
 use gregorio_jobs::Status;
 
-/// How a run ended.
+/// The way in which a run ended.
 #[derive(Clone, Copy)]
 pub(crate) enum RunEnding {
     /// The input was read to its end, and no error was found.
@@ -21,7 +21,7 @@ pub(crate) enum RunEnding {
 impl RunEnding {
     ghost use Rattle.gregorio.specs.witness.Engine.{fault_of_ending, status_of_ending};
 
-    /// Returns the status of a run that ended so.
+    /// Returns the status of a run with this ending.
     pub(crate) fn status(self) -> Status
         ensures { result ≡ status_of_ending self }
     {
@@ -33,7 +33,7 @@ impl RunEnding {
         }
     }
 
-    /// Returns the fault that stopped the run, if one did.
+    /// Returns the fault that stopped the run, if there is one.
     pub(crate) fn fault(self) -> Option<Fault>
         ensures { result ≡ fault_of_ending self }
     {

@@ -1,4 +1,4 @@
-//! How a run can end. The contract of the function is a law.
+//! The ways in which a run can end. The contract of the function is a law.
 
 ghost use Rattle.std.specs.Prelude.{◌≡◌, List, ℕ, true};
 ghost use Rattle.gregorio.specs.declared.source_ending.SourceEnding.{SourceEnding};

@@ -1,4 +1,4 @@
-//! What a run writes, in rooms that are reserved.
+//! The writer of a run, with reserved rooms for its output and its messages.
 
 ghost use Rattle.std.specs.Prelude.{◌≡◌, ◌+◌, ◌*◌, ◌^◌, ◌<◌, ◌≤◌, ℕ, [], IfOk, Some, true, length, string_bytes, encode_utf8_all};
 ghost use Rattle.gabc_headers.specs.Canonical.{canonical_heads};
@@ -40,13 +40,13 @@ pub(crate) struct RunWriter {
     all_warnings: bool,
     /// Whether the headers were written.
     headed: bool,
-    /// How many syllables were written. It saturates.
+    /// The number of syllables written, which saturates.
     count: u64,
-    /// What is in force after them, in a dump.
+    /// The clef and the alterations in force after these syllables, in a dump.
     alterations: Alterations,
     /// Whether an error was found.
     errors: bool,
-    /// How the run ended, if it is over.
+    /// The ending of the run, if it is over.
     ended: Option<RunEnding>,
     out: Room<u8>,
     messages: Room<u8>,
@@ -75,7 +75,8 @@ impl Model for RunWriter {
 }
 
 impl RunWriter {
-    /// Returns a writer that has written nothing, and reserves in `memory` what it ever takes.
+    /// Returns a writer that has written nothing, and reserves in `memory` all the memory that it
+    /// needs.
     pub(crate) fn with_limits(
         memory: &Memory,
         job: &Job,
@@ -106,8 +107,8 @@ impl RunWriter {
         })
     }
 
-    /// Drops what was written and what waits, as a new writer has written nothing. The memory
-    /// stays reserved.
+    /// Begins again as a new writer, which has written nothing, and drops the bytes that wait. The
+    /// memory stays reserved.
     pub(crate) fn restart(&mut self)
         ensures { self.new ≡ record self.old {
           written = begun_again self.old.written;
@@ -123,7 +124,7 @@ impl RunWriter {
         self.clear();
     }
 
-    /// Goes on in the headers, in which an error was found or not.
+    /// Resumes in the headers. `errors` says whether an error was found in them.
     pub(crate) fn go_on_in_headers(&mut self, errors: bool)
         ensures { self.new
             ≡ record self.old { written = record self.old.written { errors = errors } } }
@@ -131,8 +132,8 @@ impl RunWriter {
         self.errors = errors;
     }
 
-    /// Goes on after the headers and `count` syllables that were written, after which `alterations`
-    /// are in force. An error was found or not.
+    /// Resumes after the headers and `count` syllables that were written, after which `alterations`
+    /// are in force. `errors` says whether an error was found.
     pub(crate) fn go_on_after(&mut self, count: u64, alterations: Alterations, errors: bool)
         ensures { self.new ≡ record self.old {
           written = record self.old.written {
@@ -163,7 +164,8 @@ impl RunWriter {
         self.all_warnings
     }
 
-    /// Returns what is in force after the syllables that were written, in a dump.
+    /// Returns the clef and the alterations in force after the syllables that were written, in a
+    /// dump.
     pub(crate) fn alterations(&self) -> &Alterations
         ensures { result.now ≡ self.now.written.force }
     {
@@ -184,7 +186,7 @@ impl RunWriter {
         self.headed
     }
 
-    /// Returns how the run ended, if it is over.
+    /// Returns the ending of the run, if it is over.
     pub(crate) fn ended(&self) -> Option<RunEnding>
         ensures { result ≡ self.now.written.ended }
     {
@@ -212,7 +214,7 @@ impl RunWriter {
         }
     }
 
-    /// Writes the message of a finding, if it is shown.
+    /// Writes the message of `finding`, if it is shown, and notes whether it is an error.
     pub(crate) fn found(&mut self, finding: Finding)
         requires { Fits self.old.messages (line_room self.old.written.name) }
         ensures writes { self.new ≡ past_output self.old (Found finding) }
@@ -229,7 +231,7 @@ impl RunWriter {
         self.errors = self.errors || is_error(finding);
     }
 
-    /// Ends the run at `fault`: writes its message, and what stands after the syllables.
+    /// Ends the run at `fault`: writes its message, and the text after the syllables.
     pub(crate) fn fault(&mut self, fault: Fault)
         requires line { Fits self.old.messages (line_room self.old.written.name) }
         requires last { Fits self.old.out last_room }
@@ -277,7 +279,8 @@ impl RunWriter {
         }
     }
 
-    /// Returns whether it takes the syllables of a run: after the headers and before the end.
+    /// Returns whether the writer takes the syllables of a run: after the headers and before the
+    /// end.
     #[inline(always)]
     pub(crate) fn takes_runs(&self) -> bool
         ensures { result ≡ true → TakesRuns self.now.written }
@@ -285,7 +288,8 @@ impl RunWriter {
         self.headed && self.ended.is_none()
     }
 
-    /// Returns whether it takes a syllable of a run whose canonical text has at most `len` bytes.
+    /// Returns whether there is room for a syllable of a run whose canonical text has at most `len`
+    /// bytes.
     #[inline(always)]
     fn has_room(&self, len: usize) -> bool
         ensures { result ≡ true → (n : ℕ) → n ≤ len → TakesText self.now n }
@@ -301,7 +305,7 @@ impl RunWriter {
     }
 
     /// Writes `count` syllables, whose canonical texts are one after another in `text`, but for the
-    /// LF before the first, if that `starts` a word.
+    /// LF before the first, if that begins a word, as `starts` says.
     #[inline(always)]
     fn put_joined(&mut self, starts: bool, text: &[u8], count: u64)
         requires { TakesJoinedText self.old (length text.now + 1) }
@@ -315,7 +319,7 @@ impl RunWriter {
         self.out.append(text);
     }
 
-    /// Writes the lines of the syllable that `syllable` spells, in a dump: of its `text`, of its
+    /// Writes the lines of the syllable spelled by `syllable`, in a dump: of its `text`, of its
     /// `translation` with its brackets, and of its snippets.
     fn dump(&mut self, syllable: SpelledSyllable<'_>, text: &[u8], translation: &[u8])
         requires dump { self.old.written.format ≡ Dump }
@@ -337,8 +341,8 @@ impl RunWriter {
         );
     }
 
-    /// Writes what stands after the syllables, which are the `whole` score or not, if the headers
-    /// were written.
+    /// Writes the text after the syllables, if the headers were written. `whole` says whether the
+    /// syllables are those of the whole score.
     fn last(&mut self, whole: bool)
         requires { Fits self.old.out last_room }
         ensures writes { self.new ≡ with_last self.old whole }
@@ -355,7 +359,7 @@ impl RunWriter {
         }
     }
 
-    /// Ends the run of an input that is read to its end: writes what stands after the syllables.
+    /// Ends the run of an input that is read to its end: writes the text after the syllables.
     pub(crate) fn end(&mut self)
         requires { Fits self.old.out last_room }
         ensures writes { self.new ≡ past_output self.old End }
@@ -369,8 +373,8 @@ impl RunWriter {
         });
     }
 
-    /// Ends the run, if it is not over, as one whose source has failed: writes what stands after
-    /// the syllables. Returns how the run ended.
+    /// Ends the run, if it is not over, as one whose source has failed: writes the text after the
+    /// syllables. Returns the ending of the run.
     pub(crate) fn cease(&mut self) -> RunEnding
         requires { Fits self.old.out last_room }
         ensures writes { self.new ≡ past_end self.old }
@@ -411,7 +415,7 @@ impl RunWriter {
 }
 
 /// Writes the syllables of a run: joined in canonical form, each by itself in a dump. A dump leaves
-/// one of which it is not known where its translation begins.
+/// a syllable if it is not known where its translation begins.
 impl Give for RunWriter {
     ghost use Rattle.gregorio.specs.machine.OutputsOfARun.{past_both, past_none};
     ghost use Rattle.gregorio.specs.machine.RunWriter.{TakesJoinedText, past_syllables};

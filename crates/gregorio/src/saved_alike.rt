@@ -1,7 +1,7 @@
-//! The law by which a saved state stands for what is still written: two engines that save the same
-//! write the same of whatever follows. It speaks of what engines show, since the engine whose state
-//! some bytes are may be gone. Each function's contract is a law, and its body calls the laws that
-//! it stands on.
+//! The law by which a saved state stands for all that is still written: two engines that save the
+//! same write the same of whatever follows. It is about the views of engines, since the engine that
+//! saved a state may be gone. Each function's contract is a law, and its body calls the laws that
+//! it rests on.
 
 ghost use Rattle.std.specs.Prelude.{◌≡◌, List, ℕ, true};
 ghost use Rattle.gregorio.specs.declared.source_ending.SourceEnding.{SourceEnding};
@@ -15,7 +15,7 @@ use gabc_write::saved_alike::{
     what_goes_on_alike_is_written_alike, what_is_saved_alike_goes_on_alike,
 };
 
-/// Law: an engine that runs shows a state in which an engine may run.
+/// Law: the view of an engine that runs is a state in which an engine can run.
 pub fn an_engine_may_run(engine: &Engine)
     requires { is_running engine.now ≡ true }
     ensures { CanRun engine.now }
@@ -24,9 +24,10 @@ pub fn an_engine_may_run(engine: &Engine)
     gabc_score::stage_laws::a_stage_is_reachable(engine.writer.score());
 }
 
-/// Law: two engines that run, call their inputs the same and save the same write the same of
-/// whatever follows, and end alike: all by which a run goes on stands in its state. It speaks of
-/// what engines show, since one of the two may be gone; each that runs may run so.
+/// Law: two engines that run, have the same name for their inputs and save the same write the same
+/// of whatever follows, and end alike: the state has all by which a run goes on. The law is about
+/// the views of engines, since one of the two may be gone; the view of each engine that runs is
+/// such a state.
 pub fn engines_that_save_the_same_agree()
     ensures { (one other : EngineState) → CanRun one → CanRun other →
         one.written.name ≡ other.written.name → state_of one ≡ state_of other →

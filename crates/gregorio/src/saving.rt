@@ -1,4 +1,4 @@
-//! The state of a run, saved.
+//! The saved state of a run.
 
 ghost use Rattle.std.specs.Prelude.{◌≡◌, ◌++◌, ◌+◌, ◌-◌, ◌*◌, ◌^◌, ◌<◌, ◌≤◌, ◌||◌, [], length, drop, encode_utf8_all, max, min, true, IfOk, IsOk, OnErr, OnOk};
 ghost use Rattle.std.specs.Option.{option_map, unwrap_or};
@@ -42,7 +42,7 @@ impl PutText for HeldSyllable<'_> {
 }
 
 impl<'a> HeldSyllable<'a> {
-    /// Returns the syllable that `stage` holds.
+    /// Returns the held syllable of `stage`.
     pub(crate) fn of(stage: &'a ScoreStage) -> HeldSyllable<'a>
         ensures { text_when_held result.first (option_map (λ s. unplaced_of s.now) result.syllable)
             ≡ held_text stage.now.before (held_of stage.now) }
@@ -55,7 +55,8 @@ impl<'a> HeldSyllable<'a> {
 }
 
 impl HeldSyllable<'_> {
-    /// Returns the number of bytes of its text; it saturates at the last value of a `usize`.
+    /// Returns the number of bytes of its canonical text, which saturates at the last value of a
+    /// `usize`.
     fn len(&self) -> usize
         ensures { result
             ≡ min (length (text_when_held self.now.first
@@ -67,7 +68,7 @@ impl HeldSyllable<'_> {
     }
 }
 
-/// Returns what a run reads that has read the text `headers` of its headers.
+/// Returns the phase of a run that has read the text `headers` of its headers.
 fn in_headers(headers: &str) -> Phase<'_>
     ensures { phase_of result ≡ InHeaders (encode_utf8_all (chars headers.now)) }
 {
@@ -75,7 +76,7 @@ fn in_headers(headers: &str) -> Phase<'_>
 }
 
 impl Engine {
-    /// Returns how many syllables are held.
+    /// Returns the number of held syllables, 0 or 1.
     fn held_count(&self) -> u32
         ensures { result ≡ held_count (held_of self.now.score) }
     {
@@ -85,7 +86,7 @@ impl Engine {
         }
     }
 
-    /// Returns what it reports of the score, without the held text, which has `held` bytes.
+    /// Returns the fields of the score, without the held text, which has `held` bytes.
     fn score_fields(&self, held: usize) -> ScoreFields<'_>
         requires body { self.now.score.part ≡ Body }
         requires syllables { (score_fields self.now.written.force self.now.score).syllables
@@ -125,7 +126,7 @@ impl Engine {
         }
     }
 
-    /// Returns what it reads, without the held text, which has `held` bytes.
+    /// Returns the phase of the run, without the held text, which has `held` bytes.
     fn phase(&self, held: usize) -> Phase<'_>
         requires runs { is_running self.now ≡ true }
         requires state { AreStateFields (state_of self.now) }
@@ -165,8 +166,8 @@ impl Engine {
         }
     }
 
-    /// Returns how many bytes the saved state of the run has. The run may not be over, and nothing
-    /// may wait.
+    /// Returns the length of the saved state of the run in bytes. The run may not be over, and
+    /// nothing may wait.
     pub fn state_len(&self) -> usize
         requires runs { is_running self.now ≡ true }
         requires waits { NothingWaits self.now }
@@ -180,14 +181,14 @@ impl Engine {
         fields.len_holding(&held)
     }
 
-    /// Writes the saved state of the run to the front of `buf`, and returns how many bytes it has;
-    /// the rest of `buf` is unchanged. The error is that of a `buf` that has fewer bytes than the
-    /// state, and then it is unchanged. With 128 bytes and the limit of the headers, or 128 and
-    /// twice that of a syllable, whichever is more, it is not too short. What is written is a
-    /// state: its fields meet their conditions, and its texts are read as it says. The headers in
-    /// it give its place and its errors; or the held text, read by itself, is one syllable of which
-    /// it is the canonical text, and the kept text is kept again, with what the state says open
-    /// after it. The run may not be over, and nothing may wait.
+    /// Writes the saved state of the run to the front of `buf`, and returns its length in bytes;
+    /// the rest of `buf` is unchanged. Fails if `buf` has fewer bytes than the state, and then
+    /// `buf` is unchanged. It does not fail if `buf` has 128 bytes more than the limit of the
+    /// headers, and than twice the limit of a syllable. The bytes written are a state: its fields
+    /// meet their conditions, and its texts are read as it says. Its headers have the place and the
+    /// errors that it reports; or the held text, read by itself, is one syllable of which it is the
+    /// canonical text, and the kept text is kept again, with the brackets and the comment open
+    /// after it that the state reports. The run may not be over, and nothing may wait.
     pub fn save_into(&self, buf: &mut [u8]) -> Result<usize, TooShort>
         requires runs { is_running self.now ≡ true }
         requires waits { NothingWaits self.now }

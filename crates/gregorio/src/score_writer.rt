@@ -1,4 +1,4 @@
-//! What a run does with what a stage of headers emits.
+//! The writer of a score, which takes the events of a stage of headers.
 
 ghost use Rattle.std.specs.Prelude.{◌≡◌, ℕ, Bool, List, [], ◌∷◌, take, true, false, None, IfOk, IfSome};
 ghost use Rattle.std.specs.List.{All};
@@ -28,7 +28,7 @@ use gregorio_jobs::Job;
 use std::alloc::AllocError;
 use std::marker::Model;
 
-/// Reads the score after a stage of headers, and writes what it gives.
+/// Reads the score after a stage of headers, and writes it.
 #[derive(Drop)]
 pub(crate) struct ScoreWriter {
     pub(crate) score: ScoreStage,
@@ -46,7 +46,7 @@ impl Model for ScoreWriter {
     ghost invariant = { λ w. IsScoreWriter w.score w.events w.writer };
 }
 
-/// Writes what `event` of `score` brings. A stop or the end ends the run.
+/// Writes the text of `event` of `score`. A stop or the end ends the run.
 #[inline(never)]
 fn write_event(writer: &mut RunWriter, score: &ScoreStage, event: &ScoreEvent)
     requires { HasRoomFor score.now.limits writer.old (output_of_event score.now event.now ∷ []) }
@@ -63,7 +63,7 @@ fn write_event(writer: &mut RunWriter, score: &ScoreStage, event: &ScoreEvent)
     }
 }
 
-/// Writes what `events` of `score` bring.
+/// Writes the texts of `events` of `score`.
 #[inline(always)]
 fn write_events(writer: &mut RunWriter, score: &ScoreStage, events: &[ScoreEvent])
     requires { HasRoomFor score.now.limits writer.old (outputs_of_events score.now events.now) }
@@ -78,7 +78,7 @@ fn write_events(writer: &mut RunWriter, score: &ScoreStage, events: &[ScoreEvent
 }
 
 impl ScoreWriter {
-    /// Returns a writer before the headers, and reserves in `memory` what it ever takes.
+    /// Returns a writer before the headers, and reserves in `memory` all the memory that it needs.
     pub(crate) fn with_limits(
         memory: &Memory,
         job: &Job,
@@ -108,7 +108,7 @@ impl ScoreWriter {
         }
     }
 
-    /// Begins a score, as a new writer does. It keeps its job, its limits and its memory.
+    /// Begins a new score, as a new writer does. It keeps its job, its limits and its memory.
     pub(crate) fn restart(&mut self)
         ensures fresh { self.new.writer.written ≡ begun_again self.old.writer.written }
         ensures part { self.new.score.part ≡ ScorePart.Heads }
@@ -121,7 +121,7 @@ impl ScoreWriter {
         self.writer.restart();
     }
 
-    /// Returns a writer that goes on with `score` and `writer`, whose run goes on, and reserves the
+    /// Returns a writer that resumes with `score` and `writer`, whose run goes on, and reserves the
     /// room of its events in `memory`.
     pub(crate) fn resume(
         memory: &Memory,
@@ -147,8 +147,8 @@ impl ScoreWriter {
         }
     }
 
-    /// Takes `event` of `heads`, and writes what follows from it: first the headers, if it says
-    /// that they are whole.
+    /// Takes `event` of `heads`, and writes the texts that follow from it: first the headers, if it
+    /// says that they are whole.
     pub(crate) fn push(&mut self, event: HeadEvent, heads: &HeaderStage)
         requires room { FitsEvents self.old false (event ∷ []) }
         requires book { IsShortBook self.old.score.limits heads.now.book }
@@ -163,7 +163,7 @@ impl ScoreWriter {
         self.pass(event);
     }
 
-    /// Passes `event` on to the score, and writes what that gives.
+    /// Passes `event` on to the score, and writes the texts of its events.
     #[inline(always)]
     pub(crate) fn pass(&mut self, event: HeadEvent)
         requires { FitsEvents self.old false (event ∷ []) }
@@ -177,7 +177,7 @@ impl ScoreWriter {
         write_events(&mut self.writer, &self.score, self.events.slice());
     }
 
-    /// Begins the body after `item`, the last character of the headers, if these are written.
+    /// Begins the body after `item`, the last character of the headers, if the headers are written.
     pub(crate) fn begin_body(&mut self, item: Result<Char, Fault>)
         requires front { self.old.writer.written.headed ≡ true → IsInFront self.old.score }
         ensures { BeginsBody item self.old self.new }
@@ -192,10 +192,10 @@ impl ScoreWriter {
         self.score.go_to(x.place.saturating_after(x.c));
     }
 
-    /// Takes whole syllables from the front of `text`, of which the first character stands at `at`,
-    /// and returns how far it went. At their characters it writes syllables and nothing else. From
-    /// then on it writes what it would write had each of the characters been passed on. Of those
-    /// that it could take it may leave some to `pass`.
+    /// Takes whole syllables from the front of `text`, of which the first character is at `at`, and
+    /// returns how far it went. At their characters it writes syllables and nothing else. From then
+    /// on it writes what it would write had each of the characters been passed on. It may stop
+    /// early, and `pass` takes the rest.
     #[inline(always)]
     pub(crate) fn take_run(&mut self, at: Place, text: &str) -> Run
         requires { TakesRuns self.old.writer.written }
@@ -211,8 +211,8 @@ impl ScoreWriter {
             .take_run(at, text, &mut self.events, &mut self.writer)
     }
 
-    /// Ends the inputs, and returns how the run ended. If neither a stop nor the end has come, the
-    /// source has failed.
+    /// Ends the inputs, and returns the ending of the run. If neither a stop nor the end has come,
+    /// the source has failed.
     pub(crate) fn finish(&mut self) -> RunEnding
         requires room { FitsEvents self.old true [] }
         ensures writes { WritesLast self.old self.new result }
@@ -248,7 +248,7 @@ impl ScoreWriter {
         self.writer.headed()
     }
 
-    /// Returns how the run ended, if it is over.
+    /// Returns the ending of the run, if it is over.
     pub(crate) fn ended(&self) -> Option<RunEnding>
         ensures ended { result ≡ self.now.writer.written.ended }
         ensures over { IfSome result (λ how.

@@ -18,7 +18,7 @@ use gabc_places::{Memory, Room};
 use gabc_score::{Before, Openers, ScoreEvent, ScoreStage, Spans};
 use gregorio_state::{PutText, ScoreFields, StateFields};
 
-/// Returns what stands before the held syllable of `fields`.
+/// Returns the context of the held syllable of `fields`.
 fn before_held(fields: &ScoreFields<'_>) -> Before
     requires { length fields.now.held.now ≤ fields.now.canonical }
     ensures { result ≡ before_held (score_of fields.now) }
@@ -36,7 +36,7 @@ fn before_held(fields: &ScoreFields<'_>) -> Before
     }
 }
 
-/// Returns the places of what is open.
+/// Returns the places of the open brackets of `fields`.
 fn openers(fields: &ScoreFields<'_>) -> Openers
     ensures { result ≡ openers_reported (score_of fields.now) }
 {
@@ -46,7 +46,7 @@ fn openers(fields: &ScoreFields<'_>) -> Openers
     }
 }
 
-/// Returns an empty room in `memory` for what a stage finds in a text that it reads again.
+/// Returns an empty room in `memory` for the events of a text that is read again.
 fn event_room(memory: &Memory) -> Result<Room<ScoreEvent>, StateFault>
     ensures room { IfOk result (λ room. room ≡ record { items = []; limit = 16 }) }
     ensures fault { IfErr result (λ fault. fault ≡ StateFault.K0) }
@@ -75,7 +75,7 @@ fn stage_after(
     }
 }
 
-/// Returns whether `text` is the canonical text of the syllable that `stage` holds.
+/// Returns whether `text` is the canonical text of the held syllable of `stage`.
 fn is_held_text(stage: &ScoreStage, text: &str) -> bool
     ensures { IsTrue result ↔ held_text stage.now.before (held_of stage.now) ≡ text.now }
 {
@@ -84,8 +84,8 @@ fn is_held_text(stage: &ScoreStage, text: &str) -> bool
     comparison.is_same()
 }
 
-/// Holds the syllable of which `fields` have the text, if they have one. Returns whether the text
-/// is read so.
+/// Reads the held text of `fields` as one syllable, which `stage` holds then; without such a text,
+/// does nothing. Returns whether the text is read as `fields` say.
 fn hold(stage: &mut ScoreStage, fields: &ScoreFields<'_>, room: &mut Room<ScoreEvent>) -> bool
     requires held { IsHeldWithin stage.old.limits.syllable (score_of fields.now) }
     requires stands { IsResumed stage.old.limits (score_of fields.now) stage.old }
@@ -105,7 +105,8 @@ fn hold(stage: &mut ScoreStage, fields: &ScoreFields<'_>, room: &mut Room<ScoreE
     is_held_text(stage, fields.held)
 }
 
-/// Returns whether `stage`, which is in the body, has read of a syllable what `fields` say.
+/// Returns whether `stage`, which is in the body, reports the kept text, the brackets and the
+/// comment of `fields`.
 fn has_read(stage: &ScoreStage, fields: &ScoreFields<'_>) -> bool
     requires { stage.now.part ≡ Body }
     ensures { IsTrue result ↔ HasRead (score_of fields.now) stage.now }
@@ -115,8 +116,8 @@ fn has_read(stage: &ScoreStage, fields: &ScoreFields<'_>) -> bool
         && stage.in_comment() == Some(fields.in_comment)
 }
 
-/// Reads the text that is kept of a syllable, at the place of `state`. Returns whether it is read
-/// as `fields` say.
+/// Reads the kept text of `fields`, after which the next character is at the place of `state`.
+/// Returns whether it is read as `fields` say.
 fn read_kept(stage: &mut ScoreStage, state: &StateFields<'_>, fields: &ScoreFields<'_>) -> bool
     requires fields { AreScoreFields (fields_of state.now) (score_of fields.now) }
     requires place { IsPlace state.now.place }
@@ -163,8 +164,8 @@ fn read_texts(
 }
 
 /// Returns a stage over a score in `memory` that reports what `fields` say, the fields of the score
-/// of `state`. The error is `K1` if a text of them is not read as they say, under the limits of the
-/// state, and `K0` if there is no memory.
+/// of `state`. Fails with `K1` if a text of them is not read as they say, under the limits of the
+/// state, and with `K0` if memory cannot be allocated.
 pub(crate) fn set_down(
     memory: &Memory,
     state: &StateFields<'_>,

@@ -1,6 +1,6 @@
-//! How a source stops.
+//! The ways in which a source stops.
 
-/// How a source stopped: it ended, or it failed.
+/// The way in which a source stopped: it ended, or it failed.
 #[derive(Clone, Copy, Debug, PartialEq, Eq)]
 pub enum SourceEnding {
     /// It ended.

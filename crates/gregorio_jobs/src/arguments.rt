@@ -23,10 +23,10 @@ pub(crate) const STDOUT: &str = "stdout";
 pub(crate) const WARNINGS: &str = "warnings";
 /// The flag `-h`: the help line is wanted.
 pub(crate) const HELP: &str = "help";
-/// The word that is no option: the file that is read.
+/// The argument that is no option: the file that is read.
 pub(crate) const FILE: &str = "file";
 
-/// The option with this letter. It takes a value.
+/// Returns the option with the letter `letter`. It takes a value.
 fn option<'a>(alloc: Global, id: &'a str, letter: char) -> Arg<'a>
     ensures rule { rule_of result ≡ option_rule id.entry.now letter }
     ensures local { result.global ≡ false }
@@ -34,7 +34,7 @@ fn option<'a>(alloc: Global, id: &'a str, letter: char) -> Arg<'a>
     Arg::new(alloc, id).short(letter).action(ArgAction::Set)
 }
 
-/// The flag with this letter.
+/// Returns the flag with the letter `letter`.
 fn flag<'a>(alloc: Global, id: &'a str, letter: char) -> Arg<'a>
     ensures rule { rule_of result ≡ flag_rule id.entry.now letter }
     ensures local { result.global ≡ false }
@@ -42,7 +42,7 @@ fn flag<'a>(alloc: Global, id: &'a str, letter: char) -> Arg<'a>
     Arg::new(alloc, id).short(letter).action(ArgAction::SetTrue)
 }
 
-/// The word that is no option.
+/// Returns the argument that is no option.
 fn file_argument<'a>(alloc: Global) -> Arg<'a>
     ensures rule { rule_of result ≡ file_rule }
     ensures local { result.global ≡ false }
@@ -50,7 +50,7 @@ fn file_argument<'a>(alloc: Global) -> Arg<'a>
     Arg::new(alloc, FILE).action(ArgAction::Set)
 }
 
-/// The command, with no argument yet.
+/// Returns the command, with no argument yet.
 fn bare_command<'a>(alloc: Global) -> Command<'a>
     ensures { app_of result ≡ without_rules gregorio_command }
 {
@@ -59,7 +59,7 @@ fn bare_command<'a>(alloc: Global) -> Command<'a>
         .disable_help_flag(true)
 }
 
-/// The command of the program.
+/// Returns the command of the program.
 pub(crate) fn command<'a>(alloc: Global) -> Result<Command<'a>, AllocError>
     ensures { IfOk result (λ c. app_of c ≡ gregorio_command) }
 {

@@ -1,20 +1,19 @@
-//! What a run is to do, and how it ends.
+//! The jobs of runs, and their statuses.
 
 ghost use Rattle.std.specs.Prelude.{◌≡◌};
 
 use crate::name::Name;
 
-/// What a run writes.
+/// The format of the output.
 #[derive(Clone, Copy, Debug, PartialEq, Eq)]
 pub enum Format {
     /// Canonical GABC.
     Gabc,
-    /// A listing of what was read: a line for each header, syllable, neume, note, sign and NABC
-    /// part.
+    /// A listing of the score: a line for each header, syllable, neume, note, sign and NABC part.
     Dump,
 }
 
-/// Where the score comes from.
+/// The source of the score.
 #[derive(Debug, Drop)]
 pub enum Input {
     /// Standard input.
@@ -23,7 +22,7 @@ pub enum Input {
     File(Name),
 }
 
-/// Where the output goes.
+/// The target of the output.
 #[derive(Debug, Drop)]
 pub enum Output {
     /// Standard output.
@@ -32,15 +31,15 @@ pub enum Output {
     File(Name),
 }
 
-/// What a run is to do: the format, the ends, the file for messages (standard error if there is
-/// none), and whether warnings are written too.
+/// The job of a run: its format, its input and output, its file for messages, and whether warnings
+/// are written.
 #[derive(Debug, Drop)]
 pub struct Job {
     /// The format of the output.
     pub format: Format,
-    /// Where the score comes from.
+    /// The source of the score.
     pub input: Input,
-    /// Where the output goes.
+    /// The target of the output.
     pub output: Output,
     /// The file for messages; standard error if there is none.
     pub messages: Option<Name>,
@@ -48,7 +47,7 @@ pub struct Job {
     pub all_warnings: bool,
 }
 
-/// What the words of a command line want: the help line, or a run.
+/// The meaning of a command line: the help line, or a run.
 #[derive(Debug, Drop)]
 pub enum Plan {
     /// The help line.
@@ -57,7 +56,7 @@ pub enum Plan {
     Run(Job),
 }
 
-/// How a run ended.
+/// The status with which a run ended.
 #[derive(Clone, Copy, Debug, PartialEq, Eq)]
 pub enum Status {
     /// The input was read to its end, and no error was found.
@@ -70,7 +69,7 @@ pub enum Status {
     ReadFault,
     /// A sink failed.
     WriteFault,
-    /// There was no memory: nothing was written.
+    /// Memory could not be allocated: nothing was written.
     NoMemory,
 }
 

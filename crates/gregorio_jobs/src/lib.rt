@@ -1,5 +1,5 @@
-//! Reads the words of a command line, and says what they want: a run's job, the help line, or a
-//! refusal. Has the statuses with which a run ends.
+//! Reads the arguments of a command line, and says what they ask for: a run's job, the help line,
+//! or a refusal. Has the statuses with which a run ends.
 #![tactic(auto)]
 
 mod arguments;

@@ -5,7 +5,7 @@ ghost use Rattle.std.specs.Prelude.{◌≡◌, IfOk};
 use std::alloc::{AllocError, Global};
 use std::marker::Model;
 
-/// The name of a file, as it was given. Contracts see its text.
+/// The name of a file, as it was given. In contracts it is its text.
 #[derive(Debug, Drop)]
 pub struct Name {
     text: String,

@@ -1,4 +1,4 @@
-//! Why words are no job.
+//! The reasons for which arguments are no job.
 
 ghost use Rattle.std.specs.Prelude.{◌≡◌};
 ghost use Rattle.gregorio_jobs.specs.declared.refusal.Refusal.TheVariants.{O0};
@@ -6,19 +6,19 @@ ghost use Rattle.gregorio_jobs.specs.declared.refusal.Refusal.TheVariants.{O0};
 use std::alloc::AllocError;
 use thiserror::Error;
 
-/// Why the words are no job. Its text is what the program says of it.
+/// The reason for which arguments are no job. Its text is the message of the program.
 #[derive(Clone, Copy, Debug, PartialEq, Eq, Error)]
 pub enum Refusal {
-    /// There was no memory to read the words.
+    /// Memory cannot be allocated.
     #[error("O0: no memory")]
     O0,
-    /// The words are none that the command takes.
+    /// The command does not take these arguments.
     #[error("O1: arguments not understood")]
     O1,
     /// No format is given.
     #[error("O2: -F is needed")]
     O2,
-    /// The format is none that is known.
+    /// The format is unknown.
     #[error("O3: -F takes gabc or dump")]
     O3,
     /// Standard input and a file are both to be read.
@@ -38,7 +38,7 @@ pub enum Refusal {
 impl Refusal {
     ghost use Rattle.gregorio_jobs.specs.Refusal.{code_of};
 
-    /// Returns the exit status of the program: 5 without memory, and else 3.
+    /// Returns the exit status of the program: 5 if memory cannot be allocated, else 3.
     pub fn code(self) -> u8
         ensures { result ≡ code_of self }
     {

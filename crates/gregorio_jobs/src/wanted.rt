@@ -1,4 +1,4 @@
-//! What the words of a command line want.
+//! The meaning of a command line.
 
 ghost use Rattle.std.specs.Prelude.{◌≡◌, ◌≢◌, option_map};
 ghost use Rattle.clap.specs.Words.{kind_of, found_of, rows_of};
@@ -16,7 +16,7 @@ use clap::error::ErrorKind;
 use clap::parser::ValueSource;
 use std::alloc::Global;
 
-/// Why words were refused that the command does not take.
+/// Returns the refusal of arguments that the command does not take.
 fn refused_by(error: &clap::Error) -> Refusal
     ensures { result ≡ refused_by_kind (kind_of error.now) }
 {
@@ -26,21 +26,21 @@ fn refused_by(error: &clap::Error) -> Refusal
     }
 }
 
-/// Whether a value stands among the words, and is no default.
+/// Returns whether a value is given by the arguments, and is no default.
 fn is_from_words(source: Option<ValueSource>) -> bool
     ensures { result ≡ from_words source }
 {
     matches!(source, Some(ValueSource::CommandLine))
 }
 
-/// Whether the words give an argument.
+/// Returns whether the arguments give the one with the name `id`.
 fn is_used(matches: &ArgMatches<'_>, id: &str) -> bool
     ensures { result ≡ is_used_in id.now (rows_of (found_of matches.now)) }
 {
     is_from_words(matches.value_source(id))
 }
 
-/// The format with this name.
+/// Returns the format with the name `name`; `O2` if there is no name, and `O3` if it is unknown.
 fn format_of(name: Option<&str>) -> Result<Format, Refusal>
     ensures { result ≡ format_by (option_map (λ w. w.now) name.entry) }
 {
@@ -52,7 +52,8 @@ fn format_of(name: Option<&str>) -> Result<Format, Refusal>
     }
 }
 
-/// What is read: standard input or this file.
+/// Returns the input: standard input if `stdin`, or the file `file`. Fails with `O4` if it is both,
+/// and with `O5` if it is neither.
 fn input_of(alloc: Global, stdin: bool, file: Option<&str>) -> Result<Input, Refusal>
     ensures { result ≢ Err O0
         → result ≡ input_by stdin (option_map (λ w. w.now) file.entry) }
@@ -65,7 +66,8 @@ fn input_of(alloc: Global, stdin: bool, file: Option<&str>) -> Result<Input, Ref
     }
 }
 
-/// Where the output goes, where a file is read or not.
+/// Returns the output: the file `file`, or standard output. Fails with `O6` if `stdout` asks for
+/// both, and with `O7` if neither is named although a file is read, as `reads_file` says.
 fn output_of(
     alloc: Global,
     file: Option<&str>,
@@ -83,7 +85,7 @@ fn output_of(
     }
 }
 
-/// The file for the messages, if one is named.
+/// Returns the file for the messages, if one is named.
 fn messages_of(alloc: Global, file: Option<&str>) -> Result<Option<Name>, Refusal>
     ensures { result ≢ Err O0 → result ≡ Ok (option_map (λ w. w.now) file.entry) }
 {
@@ -93,7 +95,7 @@ fn messages_of(alloc: Global, file: Option<&str>) -> Result<Option<Name>, Refusa
     }
 }
 
-/// What words want that the command takes, by their matches.
+/// Returns the plan of arguments that the command takes, by their matches.
 fn plan_by(alloc: Global, matches: &ArgMatches<'_>) -> Result<Plan, Refusal>
     ensures { result ≢ Err O0 → result ≡ answer (argument_values (rows_of (found_of matches.now))) }
 {
@@ -115,10 +117,11 @@ fn plan_by(alloc: Global, matches: &ArgMatches<'_>) -> Result<Plan, Refusal>
     }))
 }
 
-/// Returns what `words`, those after the program's name, want: the help line where `-h` is there,
-/// else the job of the words. Returns `O1` where the command takes no such words, else the first of
-/// `O2` to `O7` that applies, and `O0` where there is no memory. `-h` hides `O2` to `O7`. Which
-/// words the command takes is `clap`'s statement, and exact for this command.
+/// Returns the plan of `words`, the arguments after the program's name: the help line if `-h` is
+/// among them, else the job. Fails with `O1` if the command does not take these arguments, else
+/// with the first of `O2` to `O7` that applies, and with `O0` if memory cannot be allocated. `-h`
+/// hides `O2` to `O7`. Which arguments the command takes is `clap`'s statement, and exact for this
+/// command.
 pub fn plan(alloc: Global, words: &Words) -> Result<Plan, Refusal>
     ensures { result ≢ Err O0 → result ≡ wants words.now }
 {

@@ -1,11 +1,11 @@
-//! The words of a command line.
+//! The arguments of a command line.
 
 ghost use Rattle.std.specs.Prelude.{◌≡◌, [], ◌∷◌, ◌++◌, OnOk, OnErr};
 
 use std::alloc::{AllocError, Global};
 use std::marker::Model;
 
-/// The words after the program's name, in order. Contracts see a list of texts.
+/// The arguments after the program's name, in order. In contracts they are a list of texts.
 #[derive(Debug, Drop)]
 pub struct Words {
     alloc: Global,
@@ -23,7 +23,7 @@ impl Model for Words {
 impl Words {
     ghost use Rattle.std.specs.Prelude.{map, string_bytes};
 
-    /// Returns a list with no word in it.
+    /// Returns an empty list.
     pub fn new(alloc: Global) -> Words
         ensures { result ≡ [] }
     {
@@ -33,7 +33,7 @@ impl Words {
         }
     }
 
-    /// Adds `word` at the end. Where there is no memory for it, the words stay as they were.
+    /// Adds `word` at the end. If memory for it cannot be allocated, the list is unchanged.
     pub fn push(&mut self, word: &str) -> Result<(), AllocError>
         ensures ok { OnOk result (self.new ≡ self.old ++ word.now ∷ []) }
         ensures err { OnErr result (self.new ≡ self.old) }
@@ -43,7 +43,7 @@ impl Words {
         Ok(())
     }
 
-    /// The words as a slice.
+    /// Returns the arguments as a slice.
     pub(crate) fn as_slice(&self) -> &[String]
         ensures { map string_bytes result.now ≡ self.now }
     {

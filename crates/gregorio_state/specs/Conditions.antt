@@ -1,8 +1,8 @@
--- What holds of the fields of a saved state by themselves. That a text is read as it says stands
--- with the engine that reads it: that the text of the headers ends there and gives this place and
--- these errors; that the held text is a whole syllable, given back when it is read; that the kept
--- text is given back, holds no whole syllable, and is inside what the openers say; that no comment
--- is open after an unpaired `$`.
+-- The conditions of the fields of a saved state by themselves. The engine that reads a state has
+-- those of its texts: that the headers go on after their text, with this place and these errors;
+-- that the held text is a whole syllable, and again its canonical text when it is read; that the
+-- kept text is kept again, has no whole syllable, and leaves the openers open; that no comment is
+-- open after an unpaired `$`.
 use Rattle.std.specs.Prelude.{◌≡◌, ◌↔◌, ℕ, ◌+◌, ◌<◌, ◌≤◌, List, [], ◌∷◌, length, Bool, true, false, None, IfSome}
 use Rattle.gabc_places.specs.DecoderReports.{MayBeReported}
 use Rattle.gabc_places.specs.Limits.{AreLimits}
@@ -27,14 +27,16 @@ pub record AreCounts (s : StateFields) (f : ScoreFields) : Type 0 where
   pub canonical : 2 + length f.held ≤ f.canonical
   pub below : f.canonical < s.input_limit
 
--- nothing stands before the first syllable: no span is open, and nothing is in force
+-- nothing comes before the first syllable: no span is open, no note or clef has come, and nothing
+-- is in force
 pub record IsAtOutset (f : ScoreFields) : Type 0 where
   pub eu : f.in_eu ≡ false
   pub nlba : f.in_nlba ≡ false
   pub sounded : f.sounded ≡ false
   pub in_force : f.in_force ≡ nothing_in_force
 
--- What stands before the held syllable. What is in force is tracked for a dump alone.
+-- The context of the held syllable. The clef and the alterations in force are tracked for a dump
+-- alone.
 pub record AreBeforeHeld (format : Format) (f : ScoreFields) : Type 0 where
   pub line : IfSome f.in_force.clef (λ c. (1 ≤ c.line) × (c.line ≤ 5))
   pub heights : length f.in_force.alters ≡ 15
@@ -42,20 +44,20 @@ pub record AreBeforeHeld (format : Format) (f : ScoreFields) : Type 0 where
   pub outset : f.syllables ≤ 1 → IsAtOutset f
   pub untracked : format ≡ formats.Gabc → f.in_force ≡ nothing_in_force
 
--- the held text is empty exactly where no syllable is whole; that of the first one begins with LF
+-- the held text is empty exactly if no syllable is whole; that of the first one begins with LF
 pub record IsHeldWithin (limit : ℕ) (f : ScoreFields) : Type 0 where
   pub is_text : IsText f.held
   pub short : length f.held ≤ limit
   pub none : f.held ≡ [] ↔ f.syllables ≡ 0
   pub first : f.syllables ≡ 1 → BeginsWithLf f.held
 
--- each opener is a place before the next one, and the inner one stands after the `(`
+-- each opener is a place before the next one, and the inner one comes after the `(`
 pub record AreOpeners (next : Place) (f : ScoreFields) : Type 0 where
   pub notes : IfSome f.notes_opener (LiesBefore next)
   pub inner : IfSome f.inner_opener (LiesBefore next)
   pub in_order : AreInOrder f.notes_opener f.inner_opener
 
--- no comment is open directly after a CR, or inside what an inner opener opens
+-- no comment is open directly after a CR, or inside an inner opener
 pub record MayBeInComment (after_cr : Bool) (f : ScoreFields) : Type 0 where
   pub cr : after_cr ≡ true → f.in_comment ≡ false
   pub inner : f.in_comment ≡ true → f.inner_opener ≡ None

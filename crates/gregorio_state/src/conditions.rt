@@ -1,4 +1,4 @@
-//! What holds of the fields of a saved state by themselves.
+//! The conditions that the fields of a saved state have to meet by themselves.
 
 ghost use Rattle.std.specs.Prelude.{◌≡◌, ◌↔◌, ◌≤◌, length, IsTrue, IfSome};
 ghost use Rattle.std.specs.List.{list_all};
@@ -30,7 +30,7 @@ fn is_text(text: &str) -> bool
     is_plain(text)
 }
 
-/// Returns whether `text` is within `limit`, or one `%` that begins a line is above it.
+/// Returns whether `text` has at most `limit` bytes, or one byte more, a `%` that begins a line.
 fn is_within_headers(limit: u32, text: &str) -> bool
     requires { 64 ≤ limit }
     ensures { IsTrue result ↔ IsWithinHeaders limit text.now }
@@ -39,7 +39,7 @@ fn is_within_headers(limit: u32, text: &str) -> bool
     text.len() <= limit || matches!(&text.as_bytes()[limit - 1..], [b'\n', b'%'])
 }
 
-/// Returns whether `place` stands before `other`.
+/// Returns whether `place` comes before `other`.
 fn is_earlier(place: Place, other: Place) -> bool
     ensures { IsTrue result ↔ IsEarlier place other }
 {
@@ -53,7 +53,7 @@ fn lies_before(next: Place, opener: Place) -> bool
     1 <= opener.line && 1 <= opener.column && is_earlier(opener, next)
 }
 
-/// Returns whether `inner` stands after `notes`, where both are there.
+/// Returns whether `inner` comes after `notes`, if both are there.
 fn are_in_order(notes: Option<Place>, inner: Option<Place>) -> bool
     ensures { IsTrue result ↔ AreInOrder notes inner }
 {
@@ -116,15 +116,16 @@ impl ScoreFields<'_> {
         self.clef.is_none() && are_none(&self.alters)
     }
 
-    /// Returns whether nothing stands before the held syllable.
+    /// Returns whether nothing comes before the held syllable: no span is open, no note or clef has
+    /// come, and nothing is in force.
     fn is_at_outset(&self) -> bool
         ensures { IsTrue result ↔ IsAtOutset (score_of self.now) }
     {
         !self.in_eu && !self.in_nlba && !self.sounded && self.has_nothing_in_force()
     }
 
-    /// Returns whether what stands before the held syllable is possible in a run that writes
-    /// `format`.
+    /// Returns whether the fields of the context of the held syllable are possible in a run that
+    /// writes `format`.
     fn is_before_held(&self, format: Format) -> bool
         ensures { IsTrue result ↔ AreBeforeHeld format (score_of self.now) }
     {
@@ -138,7 +139,7 @@ impl ScoreFields<'_> {
             && tracked
     }
 
-    /// Returns whether the held text is possible, where a syllable has at most `limit` bytes.
+    /// Returns whether the held text is possible, if a syllable has at most `limit` bytes.
     fn is_held_within(&self, limit: u32) -> bool
         ensures { IsTrue result ↔ IsHeldWithin limit (score_of self.now) }
     {
@@ -148,7 +149,7 @@ impl ScoreFields<'_> {
             && (self.syllables != 1 || begins_with_lf(self.held))
     }
 
-    /// Returns whether the openers are possible where the next character stands at `next`.
+    /// Returns whether the openers are possible, if the next character is at `next`.
     fn are_openers(&self, next: Place) -> bool
         ensures { IsTrue result ↔ AreOpeners next (score_of self.now) }
     {
@@ -157,7 +158,8 @@ impl ScoreFields<'_> {
             && are_in_order(self.notes_opener, self.inner_opener)
     }
 
-    /// Returns whether a comment may be open as the fields say.
+    /// Returns whether `in_comment` is possible. `after_cr` says whether the last character is a
+    /// CR.
     fn may_be_in_comment(&self, after_cr: bool) -> bool
         ensures { IsTrue result ↔ MayBeInComment after_cr (score_of self.now) }
     {
@@ -197,7 +199,7 @@ impl StateFields<'_> {
         is_text(headers) && is_within_headers(self.limits.header, headers)
     }
 
-    /// Returns whether what is read, with its fields, is possible in this state.
+    /// Returns whether the phase, with its fields, is possible in this state.
     fn has_phase(&self) -> bool
         ensures { IsTrue result
             ↔ ArePhaseFields (fields_of self.now) (phase_of self.now.phase) }
@@ -208,8 +210,8 @@ impl StateFields<'_> {
         }
     }
 
-    /// Returns whether the fields meet the conditions of a saved state that they decide by
-    /// themselves.
+    /// Returns whether the fields meet those conditions of a saved state that need no text to be
+    /// read.
     pub fn is_possible(&self) -> bool
         ensures { IsTrue result ↔ AreStateFields (fields_of self.now) }
     {

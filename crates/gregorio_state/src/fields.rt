@@ -4,12 +4,12 @@ use gabc_neumes::{Alter, Clef};
 use gabc_places::{Limits, Place};
 use gregorio_jobs::Format;
 
-/// Where a run that reads the score stands in it.
+/// The state of a run in the score.
 #[derive(Clone, Copy, Debug)]
 pub struct ScoreFields<'a> {
     /// The number of NABC lines under each GABC snippet.
     pub nabc_lines: u8,
-    /// The macros that are defined: the bit `d` stands for that of the digit `d`.
+    /// The defined macros: the bit `d` says that the macro of the digit `d` is defined.
     pub macros: u16,
     /// The number of whole syllables.
     pub syllables: u32,
@@ -19,27 +19,29 @@ pub struct ScoreFields<'a> {
     pub in_eu: bool,
     /// Whether the span that `<nlba>` opens is open before the last whole syllable.
     pub in_nlba: bool,
-    /// Whether a note or a clef stands before the last whole syllable in GABC.
+    /// Whether a note or a clef comes before the last whole syllable in GABC.
     pub sounded: bool,
-    /// The clef in force before the last whole syllable, if there is one.
+    /// The clef in force before the last whole syllable, if there is one. It is tracked for a dump
+    /// alone: in canonical form it is `None`.
     pub clef: Option<Clef>,
     /// The alterations in force before the last whole syllable, of each height from 0 to 14,
-    /// without the `b` of the clef.
+    /// without the `b` of the clef. They are tracked for a dump alone: in canonical form there are
+    /// none.
     pub alters: [Alter; 15],
-    /// The canonical text of the last whole syllable; it is empty where there is none.
+    /// The canonical text of the last whole syllable; it is empty if there is none.
     pub held: &'a str,
     /// Whether a comment is open.
     pub in_comment: bool,
-    /// The place of the `(` of the notes that are read.
+    /// The place of the `(` of the current notes.
     pub notes_opener: Option<Place>,
-    /// The place of the `<` or `[` of a tag, a raw part, a translation or a raw bracket of GABC
-    /// that is read.
+    /// The place of the `<` or `[` of the current tag, raw part, translation or raw bracket of
+    /// GABC.
     pub inner_opener: Option<Place>,
     /// The kept text of the syllable that is read.
     pub kept: &'a str,
 }
 
-/// What a run reads when it is saved.
+/// The part of the input in which a run is saved.
 #[derive(Clone, Copy, Debug)]
 pub enum Phase<'a> {
     /// The headers: their text so far, with its comments.
@@ -48,16 +50,16 @@ pub enum Phase<'a> {
     Score(ScoreFields<'a>),
 }
 
-/// What a saved state says of a run.
+/// The fields of a saved state.
 #[derive(Clone, Copy, Debug)]
 pub struct StateFields<'a> {
     /// The format of the output.
     pub format: Format,
     /// Whether warnings are reported.
     pub all_warnings: bool,
-    /// How much the run reads and keeps.
+    /// The limits of the run.
     pub limits: Limits,
-    /// How many bytes of the input are taken.
+    /// The number of bytes taken of the input.
     pub taken: u32,
     /// The place of the next character.
     pub place: Place,
@@ -67,6 +69,6 @@ pub struct StateFields<'a> {
     pub after_cr: bool,
     /// Whether an error was found.
     pub has_error: bool,
-    /// What it reads.
+    /// The part of the input that is read, with its fields.
     pub phase: Phase<'a>,
 }

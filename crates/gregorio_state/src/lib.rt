@@ -1,5 +1,5 @@
-//! The fields of a saved state, and its bytes: written, and read. It runs nothing, and asks for no
-//! memory.
+//! The fields of a saved state, and its bytes: written, and read. The crate runs nothing, and does
+//! not allocate.
 #![tactic(auto)]
 
 mod conditions;

@@ -54,7 +54,7 @@ fn u64_at(bytes: &[u8]) -> Option<(u64, &[u8])>
     Some((u64::from_be_bytes(*number), rest))
 }
 
-/// Returns the flag that `number` is: 0, or 1 where it is set.
+/// Returns the flag with the number `number`: 0, or 1 if it is set.
 fn flag_of(number: u8) -> Option<bool>
     ensures read { result ≡ flag_of number }
     ensures written { IfSome result (λ flag. number ∷ [] ≡ flag_bytes flag) }
@@ -100,16 +100,17 @@ fn format_at(bytes: &[u8]) -> Option<(Format, &[u8])>
     Some((format, rest))
 }
 
-/// Which spans are open.
+/// The open spans.
 #[derive(Clone, Copy)]
 pub(crate) struct OpenSpans {
-    /// Whether that of `<eu>` is.
+    /// Whether the span of `<eu>` is open.
     pub(crate) eu: bool,
-    /// Whether that of `<nlba>` is.
+    /// Whether the span of `<nlba>` is open.
     pub(crate) nlba: bool,
 }
 
-/// Returns which spans are open by their number: 1 for that of `<eu>`, and 2 for that of `<nlba>`.
+/// Returns the open spans with the number `number`: 1 for that of `<eu>` and 2 for that of
+/// `<nlba>`, added up.
 fn spans_of(number: u8) -> Option<OpenSpans>
     ensures read { result ≡ spans_of number }
     ensures written { IfSome result (λ spans. number ≡ spans_number spans.eu spans.nlba) }
@@ -123,7 +124,7 @@ fn spans_of(number: u8) -> Option<OpenSpans>
     }
 }
 
-/// Reads which spans are open.
+/// Reads the open spans.
 #[tactic(auto, unfolding(crate::specs::machine::Reading::spans_at))]
 fn spans_at(bytes: &[u8]) -> Option<(OpenSpans, &[u8])>
     ensures read { Gives (λ x. (x.0, x.1.now)) result (spans_at bytes.now) }
@@ -146,7 +147,7 @@ fn place_at(bytes: &[u8]) -> Option<(Place, &[u8])>
     Some((Place { line, column }, rest))
 }
 
-/// Reads the place of an opener; the line 0 and the column 0 are none.
+/// Reads the place of an opener; the line 0 and the column 0 mean that there is none.
 #[tactic(auto, unfolding(crate::specs::machine::Reading::opener_at))]
 fn opener_at(bytes: &[u8]) -> Option<(Option<Place>, &[u8])>
     ensures read { Gives (λ x. (x.0, x.1.now)) result (opener_at bytes.now) }
@@ -160,8 +161,8 @@ fn opener_at(bytes: &[u8]) -> Option<(Option<Place>, &[u8])>
     }
 }
 
-/// Returns the clef of the letter `letter`, 1 for a c and 2 for an f, with its `b` and its line;
-/// none where all of these are 0.
+/// Returns the clef of the letter `letter`, 1 for a c and 2 for an f, with its `b` and its line; no
+/// clef if all of these are 0.
 fn clef_of(letter: u8, flat: bool, line: u8) -> Option<Option<Clef>>
     ensures read { result ≡ clef_of letter flat line }
     ensures written { IfSome result
@@ -196,7 +197,7 @@ fn clef_at(bytes: &[u8]) -> Option<(Option<Clef>, &[u8])>
     Some((clef, rest))
 }
 
-/// Returns the text that `bytes` are in UTF-8.
+/// Returns `bytes` as a text, if they are UTF-8.
 fn text_of(bytes: &[u8]) -> Option<&str>
     ensures read { Gives (λ text. text.now) result (text_of bytes.now) }
     ensures written { IfSome result (λ text. text.now ≡ bytes.now) }
@@ -221,7 +222,7 @@ fn text_at(bytes: &[u8]) -> Option<(&str, &[u8])>
     Some((text, rest))
 }
 
-/// Reads the bytes of a character that is not whole: their number, and they.
+/// Reads the bytes of a character that is not whole: their number, and the bytes.
 #[tactic(auto, unfolding(crate::specs::machine::Reading::pending_at, crate::specs::machine::Reading::front_at))]
 fn pending_at(bytes: &[u8]) -> Option<(&[u8], &[u8])>
     ensures read { Gives (λ x. (x.0.now, x.1.now)) result (pending_at bytes.now) }
@@ -246,7 +247,7 @@ fn alter_of(number: u8) -> Option<Alter>
     }
 }
 
-/// Returns what follows `GSAV` and the version 3.
+/// Returns the bytes after `GSAV` and the version 3.
 #[tactic(auto, unfolding(crate::specs::machine::Reading::after_tag))]
 fn after_tag(bytes: &[u8]) -> Option<&[u8]>
     ensures read { Gives (λ rest. rest.now) result (after_tag bytes.now) }
@@ -279,7 +280,7 @@ fn alters_at(bytes: &[u8]) -> Option<([Alter; 15], &[u8])>
     Some((alters, rest))
 }
 
-/// Returns the limits of these numbers, where they are in their range.
+/// Returns the limits of these numbers of bytes, if they are in their ranges.
 fn limits_of(header: u32, syllable: u32, input: u32) -> Option<Limits>
     ensures read { Gives (λ limits. (limits.header, limits.syllable, limits.input)) result
         (limits_of header syllable input) }
@@ -308,7 +309,7 @@ fn limits_at(bytes: &[u8]) -> Option<(Limits, &[u8])>
     Some((limits, rest))
 }
 
-/// Reads where a run stands in the score, from all of `bytes`.
+/// Reads the fields of the score from all of `bytes`.
 #[tactic(auto, unfolding(crate::specs::machine::Reading::score_of_bytes))]
 fn score_of_bytes(bytes: &[u8]) -> Option<ScoreFields<'_>>
     ensures read { Gives score_of result (score_of_bytes bytes.now) }
@@ -355,7 +356,7 @@ fn last_text(bytes: &[u8]) -> Option<&str>
     if rest.is_empty() { Some(text) } else { None }
 }
 
-/// Reads what a run reads, with its fields, from all of `bytes`.
+/// Reads the phase, with its fields, from all of `bytes`.
 fn phase_of_bytes(bytes: &[u8]) -> Option<Phase<'_>>
     ensures read { Gives phase_of result (phase_of_bytes bytes.now) }
     ensures written { IfSome result (λ phase. bytes.now ≡ phase_bytes (phase_of phase)) }
@@ -373,7 +374,7 @@ fn phase_of_bytes(bytes: &[u8]) -> Option<Phase<'_>>
     }
 }
 
-/// Reads the fields of a state from all of `bytes`, whatever holds of them.
+/// Reads the fields of a state from all of `bytes`, and tests none of their conditions.
 #[tactic(auto, unfolding(crate::specs::machine::Reading::state_of_bytes))]
 fn state_of_bytes(bytes: &[u8]) -> Option<StateFields<'_>>
     ensures read { Gives fields_of result (state_of_bytes bytes.now) }
@@ -402,10 +403,9 @@ fn state_of_bytes(bytes: &[u8]) -> Option<StateFields<'_>>
     })
 }
 
-/// Reads the fields of a saved state from all of `bytes`. Returns `None` where the bytes are those
-/// of no fields that meet the conditions of a saved state; what a text of them says when it is read
-/// is not looked at. Bytes are those of one state at most, and no byte is left over. The texts are
-/// borrowed from `bytes`.
+/// Reads the fields of a saved state from all of `bytes`. Returns `None` if the bytes are those of
+/// no fields that meet the conditions of a saved state; the texts are not read for it. Bytes are
+/// those of one state at most, and no byte is left over. The texts are borrowed from `bytes`.
 pub fn read(bytes: &[u8]) -> Option<StateFields<'_>>
     ensures some { IfSome result
         (λ s. (bytes.now ≡ state_bytes (fields_of s)) × AreStateFields (fields_of s)) }

@@ -2,7 +2,7 @@
 
 use thiserror::Error;
 
-/// A buffer has fewer bytes than what is to be written into it.
+/// The fault of a buffer that has fewer bytes than the text to be written into it.
 #[derive(Clone, Copy, Debug, PartialEq, Eq, Error)]
 #[error("the buffer is too short")]
 pub struct TooShort;

@@ -40,7 +40,7 @@ fn put_u64<S: Put>(number: u64, out: &mut S)
     out.put(&number.to_be_bytes());
 }
 
-/// Puts `flag`: 0, or 1 where it is set.
+/// Puts `flag`: 0, or 1 if it is set.
 fn put_flag<S: Put>(flag: bool, out: &mut S)
     ensures { out.new ≡ S.taken out.old (flag_bytes flag) }
 {
@@ -57,7 +57,7 @@ fn len_of<T: PutText>(text: &T) -> usize
     counter.count()
 }
 
-/// Puts the length of `text` and `text`.
+/// Puts the length of `text` in bytes, and `text`.
 fn put_text<T: PutText, S: Put>(text: &T, out: &mut S)
     requires { length (T.text text.now) < 2 ^ 32 }
     ensures { out.new ≡ S.taken out.old (text_bytes (T.text text.now)) }
@@ -74,7 +74,7 @@ fn put_place<S: Put>(place: Place, out: &mut S)
     put_u64(place.column, out);
 }
 
-/// Puts the place `opener`, or the line 0 and the column 0 where there is none.
+/// Puts the place `opener`, or the line 0 and the column 0 if there is none.
 fn put_opener<S: Put>(opener: Option<Place>, out: &mut S)
     ensures { out.new ≡ S.taken out.old (opener_bytes opener) }
 {
@@ -94,7 +94,7 @@ fn number_of_format(format: Format) -> u8
     }
 }
 
-/// Puts `clef`: 1 for a c and 2 for an f, its `b`, its line; or 0 three times where there is none.
+/// Puts `clef`: 1 for a c and 2 for an f, its `b`, its line; or 0 three times if there is none.
 fn put_clef<S: Put>(clef: Option<Clef>, out: &mut S)
     ensures { out.new ≡ S.taken out.old (clef_bytes clef) }
 {
@@ -128,7 +128,7 @@ fn put_alters<S: Put>(alters: &[Alter], out: &mut S)
     }
 }
 
-/// Returns the number of the spans that are open: 1 for that of `<eu>`, and 2 for that of `<nlba>`.
+/// Returns the number of the open spans: 1 for that of `<eu>` and 2 for that of `<nlba>`, added up.
 fn number_of_spans(eu: bool, nlba: bool) -> u8
     ensures { result ≡ spans_number eu nlba }
 {
@@ -136,8 +136,8 @@ fn number_of_spans(eu: bool, nlba: bool) -> u8
 }
 
 impl ScoreFields<'_> {
-    /// Puts the fields in their order, with `held` for the held text. Each text has to have less
-    /// than 2 ^ 32 bytes.
+    /// Puts the fields in their order, with `held` as the held text. Each text has to have less
+    /// than 2^32 bytes.
     fn write<H: PutText, S: Put>(&self, held: &H, out: &mut S)
         requires held { length (H.text held.now) < 2 ^ 32 }
         requires kept { length self.now.kept.now < 2 ^ 32 }
@@ -171,8 +171,8 @@ impl Phase<'_> {
         }
     }
 
-    /// Puts 0 and the text of the headers, or 1 and the fields of the score with `held` for the
-    /// held text. Each text has to have less than 2 ^ 32 bytes.
+    /// Puts 0 and the text of the headers, or 1 and the fields of the score with `held` as the held
+    /// text. Each text has to have less than 2^32 bytes.
     fn write<H: PutText, S: Put>(&self, held: &H, out: &mut S)
         requires { AreShort (phase_holding (H.text held.now) (phase_of self.now)) }
         ensures { out.new
@@ -202,7 +202,7 @@ impl StateFields<'_> {
         self.write_holding(&held, out);
     }
 
-    /// Puts the bytes of the state with `held` for the held text.
+    /// Puts the bytes of the state with `held` as the held text.
     fn write_holding<H: PutText, S: Put>(&self, held: &H, out: &mut S)
         requires { AreStateFields (holding (H.text held.now) (fields_of self.now)) }
         ensures { out.new
@@ -224,8 +224,8 @@ impl StateFields<'_> {
         self.phase.write(held, out);
     }
 
-    /// Writes the bytes of the state with `held` for the held text to the front of `buf`, as many
-    /// as there is room for.
+    /// Writes the bytes of the state with `held` as the held text to the front of `buf`, as many as
+    /// fit.
     fn fill<H: PutText>(&self, held: &H, buf: &mut [u8])
         requires { AreStateFields (holding (H.text held.now) (fields_of self.now)) }
         ensures { buf.new
@@ -234,9 +234,9 @@ impl StateFields<'_> {
         self.write_holding(held, &mut BufferFiller { buf, len: 0 });
     }
 
-    /// Writes the bytes of the state to the front of `buf`, and returns how many they are. The
-    /// error is that of a `buf` that has fewer bytes than the state, and then it is unchanged. The
-    /// fields have to meet the conditions of a saved state.
+    /// Writes the bytes of the state to the front of `buf`, and returns their number. Fails if
+    /// `buf` has fewer bytes than the state, and then `buf` is unchanged. The fields have to meet
+    /// the conditions of a saved state.
     pub fn save_into(&self, buf: &mut [u8]) -> Result<usize, TooShort>
         requires { AreStateFields (fields_of self.now) }
         ensures written { OnOk result (buf.new ≡ state_bytes (fields_of self.now)
@@ -250,9 +250,9 @@ impl StateFields<'_> {
         self.save_holding(&held, buf)
     }
 
-    /// Writes the bytes of the state as `save_into` does, with the text `held` for the held text of
-    /// the fields, which is not read. The fields with that text have to meet the conditions of a
-    /// saved state. A `buf` that is as long as `len` can return is not too short.
+    /// Writes the bytes of the state as `save_into` does, with the text `held` in place of the held
+    /// text of the fields, which is not read. The fields with that text have to meet the conditions
+    /// of a saved state. It does not fail if `buf` is as long as `len` can return.
     pub fn save_holding<H: PutText>(&self, held: &H, buf: &mut [u8]) -> Result<usize, TooShort>
         requires { AreStateFields (holding (H.text held.now) (fields_of self.now)) }
         ensures written { OnOk result (
@@ -274,9 +274,9 @@ impl StateFields<'_> {
         Ok(len)
     }
 
-    /// Returns the number of bytes of the state: at most 128, and with them the limit of the
-    /// headers or twice that of a syllable, whichever is more. The fields have to meet the
-    /// conditions of a saved state.
+    /// Returns the number of bytes of the state: at most the limit of the headers or twice the
+    /// limit of a syllable, whichever is more, and 128. The fields have to meet the conditions of a
+    /// saved state.
     pub fn len(&self) -> usize
         requires { AreStateFields (fields_of self.now) }
         ensures len { result ≡ length (state_bytes (fields_of self.now)) }
@@ -287,9 +287,9 @@ impl StateFields<'_> {
         self.len_holding(&held)
     }
 
-    /// Returns the number of bytes of the state as `len` does, with the text `held` for the held
-    /// text of the fields, which is not read. The fields with that text have to meet the conditions
-    /// of a saved state.
+    /// Returns the number of bytes of the state as `len` does, with the text `held` in place of the
+    /// held text of the fields, which is not read. The fields with that text have to meet the
+    /// conditions of a saved state.
     pub fn len_holding<H: PutText>(&self, held: &H) -> usize
         requires { AreStateFields (holding (H.text held.now) (fields_of self.now)) }
         ensures len { result
