@@ -128,7 +128,7 @@ struct gregorio_node {
 /* How a picture looks, and which messages stand in it. */
 struct gregorio_picture_options {
   uint32_t version;  /* 1 */
-  uint32_t width;    /* in thousandths of a staff space: 0 for 72000, and at least 12000 is taken */
+  uint32_t width;    /* in thousandths of a staff space: less than 12000 is 12000, 0 is 72000 */
   uint32_t messages; /* 0 for none, 1 for errors and faults, 2 for warnings too */
   uint32_t reserved; /* 0 */
 };

@@ -36,7 +36,7 @@ pub use ending::InputEnding;
 pub use events::BodyEvent;
 pub use kept_text::LentSyllable;
 pub use score::Score;
-pub use slice::text_at;
+pub use slice::text_in;
 pub use snippets::{Snippet, Snippets};
 pub use syllable::{Position, Syllable};
 pub use syllables::{Syllables, position_by};

@@ -17,7 +17,7 @@ pub(crate) fn slice_of(kept: &str, span: Span) -> &[u8]
 
 /// Returns the text of `span` in `kept`. A span that does not begin and end between characters of
 /// `kept` has none.
-pub fn text_at(kept: &str, span: Span) -> &str
+pub fn text_in(kept: &str, span: Span) -> &str
     ensures { result.now ≡ text_at span kept.now }
 {
     if span.from > span.to || !kept.is_char_boundary(span.from) || !kept.is_char_boundary(span.to) {

@@ -2,7 +2,7 @@
 
 use crate::canonical::canonical_len;
 use crate::kept_text::LentSyllable;
-use crate::slice::{slice_of, text_at};
+use crate::slice::{slice_of, text_in};
 use crate::snippets::Snippets;
 use gabc_places::{Memory, Span};
 use gabc_text::TextView;
@@ -75,7 +75,7 @@ impl Syllable {
     pub fn text_at(&self, span: Span) -> &str
         ensures { result.now ≡ text_at span (string_bytes self.now.kept) }
     {
-        text_at(self.kept.as_str(), span)
+        text_in(self.kept.as_str(), span)
     }
 
     /// Returns whether it begins a word.

@@ -10,7 +10,7 @@ use crate::nabc_nodes::nabc_nodes;
 use crate::note_nodes::gabc_nodes;
 use crate::placing::offset;
 use crate::text_nodes::text_nodes;
-use gabc_body::{Position, Snippet, Spans, Syllable, text_at};
+use gabc_body::{Position, Snippet, Spans, Syllable, text_in};
 use gabc_neumes::Alterations;
 use gabc_nodes::{Kind, Node};
 use gabc_places::Span;
@@ -110,7 +110,7 @@ fn snippet_nodes(
         b: 0,
         c: 0,
     })?;
-    let text = text_at(kept, snippet.span);
+    let text = text_in(kept, snippet.span);
     let base = offset(snippet.span.from) as usize;
     if snippet.line == 0 {
         gabc_nodes(text, base, alterations, out)?;
@@ -157,7 +157,7 @@ fn add_inside(
 {
     let SyllableSlices { kept, snippets, .. } = syllable;
     let to = text_len(syllable);
-    text_nodes(text_at(kept, Span { from: 0, to }), out)?;
+    text_nodes(text_in(kept, Span { from: 0, to }), out)?;
     if to < kept.len() {
         return add_notes(kept, snippets, alterations, out);
     }

@@ -159,6 +159,6 @@ fn main(rt: HostRuntime) -> io::Result<()> {
 /// Prints the arguments of the program.
 fn usage(rt: &HostRuntime) -> io::Result<()> {
     println!(rt;
-        "usage: run_largest gabc|dump|tree FILE, or run_largest whole|stage fixed|random FILE"
+        "usage: run_largest gabc|dump|tree|draw FILE, or run_largest whole|stage fixed|random FILE"
     )
 }

@@ -231,7 +231,7 @@ fn check_file(rt: &HostRuntime, path: &str, lines: Lines) -> io::Result<()> {
             continue;
         }
         count = count.saturating_add(1);
-        if lines.agree(rt, path, number, line)? {
+        if lines.agree(rt, path, number.saturating_add(1), line)? {
             agreed = agreed.saturating_add(1);
         }
     }

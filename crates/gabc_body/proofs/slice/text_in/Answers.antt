@@ -3,7 +3,7 @@ use Rattle.std.specs.Str.{IsCharBoundary}
 use Rattle.std.proofs.lemmas.Bool.{le-leb, lt-ltb}
 use Rattle.gabc_places.specs.declared.place.Span.{Span}
 use Rattle.gabc_body.specs.Syllable.{begins_character, is_seam, slice, text_at}
-use Rattle.gabc_body.proofs.slice.text_at.Goals as goal
+use Rattle.gabc_body.proofs.slice.text_in.Goals as goal
 
 begins : (b : ℕ) → (128 ≤ b → 192 ≤ b) → begins_character b ≡ true
 begins b h = grind (arith, lt-ltb)
