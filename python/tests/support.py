@@ -6,6 +6,7 @@ import pty
 import re
 import resource
 import shutil
+import signal
 import subprocess
 import sys
 import tempfile
@@ -19,6 +20,8 @@ SCORE = "name: Kyrie;\n%%\n(c4) Ky(f)ri(gfg)e(e.) (::)\n"
 CANONICAL = "name: Kyrie;\n%%\n(c4)\nKy(f)ri(gfg)e(e.)\n(::)\n"
 FAULTY = "name: Kyrie;\n%%\n(c4) Ky(g5)ri(g)\n"
 NOBODY = 65534
+# A shell has ignored it what it runs in the background, and a command keeps what is ignored.
+signal.signal(signal.SIGINT, signal.default_int_handler)
 
 
 def has(module: str) -> bool:

@@ -9,14 +9,20 @@ import subprocess
 import sys
 import time
 import unittest
+from collections.abc import Iterator
 from pathlib import Path
 
 from support import CANONICAL, FAULTY, SCORE, InFolder, has
 
 # At so many moments each command is interrupted; with GREGORIO_LONG=1 forty.
 MOMENTS = 40 if os.environ.get("GREGORIO_LONG") else 3
-# How long a command may go on after a signal, in seconds, on a machine that does little else.
+# How long a command may go on after a signal, in seconds, and how often one that takes longer is
+# tried again at the same moment: others may have had the processors. What does not end at once ends
+# late each time.
 PATIENCE = 2.0
+TRIES = 5
+# How long what is killed may take to be gone on a busy machine, in seconds.
+MOST_TO_GO = 60.0
 _COMMANDS: dict[str, tuple[str, ...]] = {
     "check": ("check", "--output-format", "lines", "s"),
     "rules": ("check", "--rules", "--output-format", "lines", "s"),
@@ -39,6 +45,29 @@ _NEED = {
     "page": (("page",), "uvicorn"),
     "watch": (("show", "--watch", "-o", "page.html", "s"), "watchdog"),
 }
+# A process begins when the one that made it has ended already, and prints a line if it goes on.
+_ORPHAN = """
+import os, time
+from multiprocessing import get_context
+from gregorio_chant.work.ending import end_with_parent
+def outlive(parent):
+    while os.getppid() == parent:
+        time.sleep(0.001)
+    end_with_parent()
+    print("it goes on", flush=True)
+get_context("fork").Process(target=outlive, args=(os.getpid(),)).start()
+os._exit(0)
+"""
+# Signals come when all is done, while a thread is still there that blocks none.
+_LATE = """
+import os, signal, threading
+from gregorio_chant.work.ending import end_at_signals, leave_signals
+end_at_signals()
+threading.Thread(target=threading.Event().wait, daemon=True).start()
+leave_signals()
+for it in (signal.SIGINT, signal.SIGTERM, signal.SIGHUP):
+    os.kill(os.getpid(), it)
+"""
 # The bit of SIGTERM in the masks of /proc.
 _TERM = 1 << (signal.SIGTERM - 1)
 
@@ -77,8 +106,9 @@ class Signals(InFolder):
         for number in range(80):
             self.put(f"s/{number:03}.gabc", FAULTY.replace(" ", "  ") if number % 4 == 0 else SCORE)
 
-    def interrupt(self, words: tuple[str, ...], number: signal.Signals, wait: float) -> None:
-        """Sends a signal so long after the command has begun, and looks at what is left."""
+    def interrupt(self, words: tuple[str, ...], number: signal.Signals, wait: float) -> float:
+        """Sends a signal so long after the command has begun, and looks at what is left. Returns
+        how long the command went on, in seconds; 0 if it had done all before."""
         run = subprocess.Popen(
             [sys.executable, "-m", "gregorio_chant", *words],
             stdin=subprocess.PIPE,
@@ -100,12 +130,14 @@ class Signals(InFolder):
         self.assertNotIn(b"Exception", told, words)
         if run.returncode not in (0, 1, 4):
             self.assertEqual(run.returncode, 128 + number, (words, wait, told))
-            self.assertLess(seconds, PATIENCE, (words, wait))
-        end = time.monotonic() + 5
+        else:
+            seconds = 0.0
+        end = time.monotonic() + MOST_TO_GO
         while (left := processes_of(run.pid)) and time.monotonic() < end:
             time.sleep(0.01)
         self.assertEqual(left, [], words)
         self.check_files()
+        return seconds
 
     def check_files(self) -> None:
         for it in Path(".").rglob("*"):
@@ -124,9 +156,21 @@ class Signals(InFolder):
 
     def try_all(self, words: tuple[str, ...]) -> None:
         for moment in range(MOMENTS):
-            self.fill()
             wait = self.chance.uniform(0, 0.6) if moment else self.chance.uniform(0, 0.05)
-            self.interrupt(words, signal.SIGINT if moment % 2 == 0 else signal.SIGTERM, wait)
+            number = signal.SIGINT if moment % 2 == 0 else signal.SIGTERM
+            self.assertLess(min(self.times(words, number, wait)), PATIENCE, (words, wait))
+
+    def times(
+        self, words: tuple[str, ...], number: signal.Signals, wait: float
+    ) -> Iterator[float]:
+        """Yields how long the command went on each time that it was interrupted so, until that is
+        soon enough."""
+        for _ in range(TRIES):
+            self.fill()
+            seconds = self.interrupt(words, number, wait)
+            yield seconds
+            if seconds < PATIENCE:
+                return
 
     def test_commands(self) -> None:
         for name, words in _COMMANDS.items():
@@ -139,6 +183,20 @@ class Signals(InFolder):
                 with self.subTest(name):
                     self.try_all(words)
 
+    def ran(self, script: str) -> tuple[int, bytes, bytes]:
+        """Runs a script, and returns its status, and what it and the processes that it made wrote,
+        once all have ended."""
+        run = subprocess.run([sys.executable, "-c", script], capture_output=True, timeout=60)
+        return run.returncode, run.stdout, run.stderr
+
+    def test_parent_that_has_ended(self) -> None:
+        """A process ends with the one that made it, also if it begins only after that."""
+        self.assertEqual(self.ran(_ORPHAN), (0, b"", b""))
+
+    def test_after_everything(self) -> None:
+        """Once all is done no signal changes the status."""
+        self.assertEqual(self.ran(_LATE), (0, b"", b""))
+
     def test_before_anything(self) -> None:
         """SIGTERM ends the command also while Python begins, and what was ignored is ignored."""
         run = subprocess.Popen(
@@ -149,7 +207,7 @@ class Signals(InFolder):
         run.terminate()
         self.assertEqual(
             (
-                run.communicate(timeout=20)[1],
+                run.communicate(timeout=60)[1],
                 run.returncode in (-signal.SIGTERM, 128 + signal.SIGTERM),
             ),
             (b"", True),
@@ -163,7 +221,7 @@ class Signals(InFolder):
             )
         finally:
             signal.signal(signal.SIGINT, ignored)
-        while not catches_signals(run):
+        while run.poll() is None and not catches_signals(run):
             time.sleep(0.001)
         run.send_signal(signal.SIGINT)
         self.assertEqual(run.communicate(SCORE.encode())[0], SCORE.encode())

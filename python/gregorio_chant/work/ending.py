@@ -42,8 +42,11 @@ def end_at_signals() -> None:
 
 def leave_signals() -> None:
     """Leaves signals unheard from now on: all is done, and Python, while it ends, would not do with
-    them what is wanted here."""
+    them what is wanted here. What this thread has blocked another one may still get, which ends a
+    moment after it was joined: so they are ignored too."""
     signal.pthread_sigmask(signal.SIG_BLOCK, _SIGNALS)
+    for it in _SIGNALS:
+        signal.signal(it, signal.SIG_IGN)
 
 
 def leave_interrupts() -> None:
@@ -54,14 +57,16 @@ def leave_interrupts() -> None:
 
 
 def end_with_parent() -> None:
-    """Has this process killed when the one that made it ends, however that ends. Only Linux can do
-    so."""
+    """Has this process of `multiprocessing` killed when the one that made it ends, however that
+    ends, and ends it if that has ended already. Only Linux can do so."""
     if sys.platform == "linux":
         import ctypes
+        from multiprocessing import parent_process
 
-        parent = os.getppid()
         ctypes.CDLL(None).prctl(_SET_SIGNAL_AT_END_OF_PARENT, signal.SIGKILL)
-        if os.getppid() != parent:
+        # Whoever asks for the number of a parent that has ended gets that of another process.
+        parent = parent_process()
+        if parent is not None and os.getppid() != parent.pid:
             os._exit(1)
 
 
