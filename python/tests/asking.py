@@ -3,9 +3,32 @@ refuse."""
 from __future__ import annotations
 
 import http.client
+import random
 import socket
 
 from support import InFolder
+
+# How long an answer may take on a busy machine, in seconds: no test asks how long one takes.
+MOST_TIME = 300.0
+
+
+def free_port() -> int:
+    """Returns a port of this machine that is free. It is none of those that a system gives to
+    whoever asks for any: one of these may be taken before it is used."""
+    while True:
+        port = random.randrange(20_000, 30_000)
+        with socket.socket() as it:
+            try:
+                it.bind(("127.0.0.1", port))
+            except OSError:
+                continue
+            return port
+
+
+def status_in(answer: socket.socket) -> int:
+    """Returns the status of an answer, in whatever pieces it comes."""
+    with answer.makefile("rb") as lines:
+        return int(lines.readline().split(b" ")[1])
 
 
 def foreign(port: int) -> list[dict[str, str]]:
@@ -39,7 +62,7 @@ class Asking(InFolder):
         self, method: str, path: str, body: bytes | None = None, **headers: str
     ) -> tuple[int, bytes, http.client.HTTPMessage]:
         """Makes a request, and returns the status, the body and the headers of the answer."""
-        asked = http.client.HTTPConnection("127.0.0.1", self.port, timeout=60)
+        asked = http.client.HTTPConnection("127.0.0.1", self.port, timeout=MOST_TIME)
         asked.request(
             method, path, body, {name.replace("_", "-"): it for name, it in headers.items()}
         )
@@ -59,6 +82,10 @@ class Asking(InFolder):
 
     def status_of(self, asked: bytes) -> int:
         """Sends these bytes, and returns the status of the answer that comes with no more."""
-        with socket.create_connection(("127.0.0.1", self.port), timeout=20) as it:
+        with self.connected() as it:
             it.sendall(asked)
-            return int(it.recv(1_000).split(b" ")[1])
+            return status_in(it)
+
+    def connected(self) -> socket.socket:
+        """Returns a connection to the server."""
+        return socket.create_connection(("127.0.0.1", self.port), timeout=MOST_TIME)

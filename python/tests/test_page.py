@@ -5,6 +5,7 @@ from __future__ import annotations
 import json
 import posixpath
 import re
+import select
 import signal
 import socket
 import subprocess
@@ -12,12 +13,13 @@ import sys
 import time
 import unittest
 from base64 import b64decode
+from contextlib import suppress
 from pathlib import Path
 from typing import Any
 from urllib.parse import urlsplit
 from xml.etree import ElementTree as Xml
 
-from asking import Asking, foreign
+from asking import MOST_TIME, Asking, foreign, free_port, status_in
 from drawn import HOSTILE
 from pages import block
 from support import EXAMPLES, FAULTY, SCORE, InFolder, command, has, without
@@ -61,7 +63,7 @@ class Serving(Asking):
         """Ends the server as Control-C does: it has said nothing but its address."""
         is_ended = server.poll() is not None
         server.send_signal(signal.SIGINT)
-        self.assertEqual(server.communicate(timeout=20), (b"", b""))
+        self.assertEqual(server.communicate(timeout=MOST_TIME), (b"", b""))
         self.assertEqual(server.returncode, 143 if is_ended else 130)
 
     def answer(self, score: bytes, **headers: str) -> Any:
@@ -263,20 +265,14 @@ class Serving(Asking):
 
     def test_loopback_alone(self) -> None:
         """No other address of this machine leads to it."""
-        table = Path("/proc/net/tcp").read_text()
-        listening = [
-            line.split()[1] for line in table.split("\n")[1:] if line and line.split()[3] == "0A"
-        ]
-        self.assertEqual(
-            [it for it in listening if it.endswith(f":{self.port:04X}")],
-            [f"0100007F:{self.port:04X}"],
-        )
-        self.assertNotIn(
-            f":{self.port:04X}",
-            Path("/proc/net/tcp6").read_text() if Path("/proc/net/tcp6").exists() else "",
-        )
+        end = f":{self.port:04X}"
+        tables = (it for it in map(Path, ("/proc/net/tcp", "/proc/net/tcp6")) if it.exists())
+        rows = [line.split() for table in tables for line in table.read_text().splitlines()]
+        # Who is not listening may have this port at another address.
+        listening = [row[1] for row in rows if row[3] == "0A" and row[1].endswith(end)]
+        self.assertEqual(listening, [f"0100007F{end}"])
         with self.assertRaises(ConnectionRefusedError):
-            socket.create_connection(("127.0.0.2", self.port), timeout=20)
+            socket.create_connection(("127.0.0.2", self.port), timeout=MOST_TIME)
 
     def test_nothing_is_kept(self) -> None:
         self.answer(FAULTY.encode())
@@ -299,14 +295,12 @@ class Serving(Asking):
         self.assertNotIn("unknown-mode", self.codes(score))
 
     def test_at_once(self) -> None:
-        """A long score delays no other answer for long."""
-        score = b"name: a;\n%%\n(c4) " + b"Ky(f)ri(gfg)e(e.) " * 10_000
-        with socket.create_connection(("127.0.0.1", self.port), timeout=60) as slow:
-            slow.sendall(self.head("POST", "/score", Content_Length=str(len(score))) + score)
-            begin = time.monotonic()
-            self.answer(SCORE.encode())
-            self.assertLess(time.monotonic() - begin, 5)
-            self.assertIn(b"200", slow.recv(100))
+        """A long score delays no other answer: a later one comes before its own."""
+        slow = self.asked()
+        self.await_children(1)
+        self.answer(SCORE.encode())
+        self.assertEqual(select.select([slow], [], [], 0)[0], [])
+        self.assertEqual(status_in(slow), 200)
 
     def children(self) -> int:
         """Returns how many processes the server has."""
@@ -315,14 +309,14 @@ class Serving(Asking):
         )
 
     def await_children(self, number: int) -> None:
-        end = time.monotonic() + 10
+        end = time.monotonic() + MOST_TIME
         while self.children() != number and time.monotonic() < end:
             time.sleep(0.01)
         self.assertEqual(self.children(), number)
 
     def asked(self, **headers: str) -> socket.socket:
         """Asks about a score that takes long."""
-        asked = socket.create_connection(("127.0.0.1", self.port), timeout=60)
+        asked = self.connected()
         self.addCleanup(asked.close)
         asked.sendall(
             self.head("POST", "/score", Content_Length=str(len(_LONG)), **headers) + _LONG
@@ -340,7 +334,7 @@ class Serving(Asking):
         other = self.asked(Tab="b")
         self.await_children(2)
         self.assertEqual(self.answer(SCORE.encode(), Tab="a")["name"], "Kyrie")
-        self.assertIn(b" 409 ", first.recv(100))
+        self.assertEqual(status_in(first), 409)
         self.await_children(1)
         other.close()
         self.await_children(0)
@@ -351,12 +345,21 @@ class Serving(Asking):
         self.await_children(16)
         self.assertEqual(self.ask("POST", "/score", SCORE.encode())[0], 503)
 
+    def test_gone_while_it_sends(self) -> None:
+        """Of a tab that goes before all of its score has come nothing is said."""
+        for path in ("/score", "/sounds"):
+            with self.connected() as gone:
+                gone.sendall(self.head("POST", path, Content_Length="1000") + b"name: a;")
+        self.answer(SCORE.encode())
+
     def test_ended_while_it_draws(self) -> None:
-        self.asked()
+        """It ends at once, and before it answers."""
+        asked = self.asked()
         self.await_children(1)
-        begin = time.monotonic()
         self.server.terminate()
-        self.assertEqual((self.server.wait(20), time.monotonic() - begin < 2), (143, True))
+        self.assertEqual(self.server.wait(MOST_TIME), 143)
+        with suppress(ConnectionResetError):
+            self.assertEqual(asked.recv(1), b"")
 
     def test_port(self) -> None:
         taken = command("page", "--port", str(self.port))
@@ -368,9 +371,7 @@ class Serving(Asking):
 
     def test_line_of_the_page(self) -> None:
         """The line of docs/PYTHON.md serves at its port, which is a free one here."""
-        with socket.socket() as free:
-            free.bind(("127.0.0.1", 0))
-            port = free.getsockname()[1]
+        port = free_port()
         words = block("docs/PYTHON.md", "test: page").replace("8080", str(port)).split()
         self.assertEqual(words[:2], ["gregorio-chant", "page"])
         self.start(*words[2:])

@@ -8,7 +8,7 @@ from pathlib import Path
 from typing import Any
 
 from starlette.applications import Starlette
-from starlette.requests import Request
+from starlette.requests import ClientDisconnect, Request
 from starlette.responses import Response
 from starlette.routing import Route
 from starlette.types import ASGIApp
@@ -112,7 +112,7 @@ def app_of(answers: Answers, names: Collection[str]) -> ASGIApp:
             )
         except TooLong:
             return too_long()
-        except GivenUp:
+        except (ClientDisconnect, GivenUp):
             return Response("the score was given up: another one came, or reading it failed\n", 409)
         except TooMany:
             return Response("too many scores are read at this moment\n", 503)

@@ -95,13 +95,14 @@ class Computations:
         making, leaving = asyncio.ensure_future(it.answer()), asyncio.ensure_future(_left(receive))
         try:
             await asyncio.wait((making, leaving), return_when=asyncio.FIRST_COMPLETED)
-            made = making.result() if making.done() else None
         finally:
             leaving.cancel()
             it.end()
             if self._running.get(key) is it:
                 del self._running[key]
             await asyncio.wait((making,))
+        # This is asked for also where nobody waits any more: asyncio writes of an error that is not.
+        made = making.result()
         if made is None:
             raise GivenUp
         return made
