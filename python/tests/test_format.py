@@ -9,7 +9,7 @@ import sys
 import unittest
 from pathlib import Path
 
-from support import CANONICAL, FAULTY, ROOT, SCORE, InFolder, command, scores_of_tables
+from support import CANONICAL, FAULTY, MOST_MEMORY, ROOT, SCORE, InFolder, command, scores_of_tables
 
 from gregorio_chant import Status, compile
 from gregorio_chant.format.formatting import Style, formatted
@@ -320,11 +320,11 @@ class Words(InFolder):
 
 
 # Prints the most memory that `format --check` took for the file that is named, in MB.
-_MEASURED = """
-import resource, sys
+_MEASURED = f"""
+import sys
 from gregorio_chant.format.formatting import Options, format_files
 assert format_files(Options(paths=(sys.argv[1],), checks=True, quiet=True)) == 1
-print(resource.getrusage(resource.RUSAGE_SELF).ru_maxrss // 1024)
+{MOST_MEMORY}print(most_memory() // 1024)
 """
 
 

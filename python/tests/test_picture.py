@@ -12,7 +12,7 @@ from collections.abc import Callable
 from xml.etree import ElementTree as Xml
 
 from drawn import HOSTILE, KINDS, SVG, groups_of, height_of, picture, rows_of, text_with, texts_in
-from support import EXAMPLES, scores_of_tables
+from support import EXAMPLES, MOST_MEMORY, scores_of_tables
 
 import gregorio_chant.pictures.alone
 import gregorio_chant.pictures.glyphs
@@ -361,10 +361,10 @@ class Large(unittest.TestCase):
         """A score of 200 kB takes less than 100 MB, and of a processor less than four times what 15
         seconds a megabyte are: others work beside a test."""
         script = (
-            "import resource, time\nfrom gregorio_chant.pictures.drawing import draw\n"
+            "import time\nfrom gregorio_chant.pictures.drawing import draw\n"
             "data = b'name: x;\\n%%\\n(c4) ' + b'Ky(fgf)ri(gfg/e)e(e.) le(gh)i(f) ' * 5500\n"
             "before = time.process_time()\ndraw(data)\ntaken = time.process_time() - before\n"
-            "print(len(data), taken, resource.getrusage(resource.RUSAGE_SELF).ru_maxrss)"
+            f"{MOST_MEMORY}print(len(data), taken, most_memory())"
         )
         size, seconds, kilobytes = (
             float(it)
