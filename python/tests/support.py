@@ -20,6 +20,13 @@ SCORE = "name: Kyrie;\n%%\n(c4) Ky(f)ri(gfg)e(e.) (::)\n"
 CANONICAL = "name: Kyrie;\n%%\n(c4)\nKy(f)ri(gfg)e(e.)\n(::)\n"
 FAULTY = "name: Kyrie;\n%%\n(c4) Ky(g5)ri(g)\n"
 NOBODY = 65534
+# For a script: the most memory that its process took, in kilobytes. That of `resource` may be that
+# of the process that has made it.
+MOST_MEMORY = """
+def most_memory():
+    with open("/proc/self/status") as status:
+        return next(int(it.split()[1]) for it in status if it.startswith("VmHWM:"))
+"""
 # A shell has ignored it what it runs in the background, and a command keeps what is ignored.
 signal.signal(signal.SIGINT, signal.default_int_handler)
 

@@ -160,9 +160,7 @@ class Signals(InFolder):
             number = signal.SIGINT if moment % 2 == 0 else signal.SIGTERM
             self.assertLess(min(self.times(words, number, wait)), PATIENCE, (words, wait))
 
-    def times(
-        self, words: tuple[str, ...], number: signal.Signals, wait: float
-    ) -> Iterator[float]:
+    def times(self, words: tuple[str, ...], number: signal.Signals, wait: float) -> Iterator[float]:
         """Yields how long the command went on each time that it was interrupted so, until that is
         soon enough."""
         for _ in range(TRIES):

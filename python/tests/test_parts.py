@@ -6,7 +6,7 @@ import random
 import unittest
 from collections.abc import Sequence
 
-from hypothesis import given, settings
+from hypothesis import HealthCheck, given, settings
 from hypothesis import strategies as st
 from made import SCORES
 
@@ -80,7 +80,11 @@ class Alike(unittest.TestCase):
         self.assertLessEqual(len(kept), len(compiled.messages))
         self.assertEqual([it for it in unused if it.place.offset > len(text)], [])
 
-    @settings(max_examples=300_000 if _IS_LONG else 500, deadline=None)
+    @settings(
+        max_examples=300_000 if _IS_LONG else 500,
+        deadline=None,
+        suppress_health_check=[HealthCheck.too_slow],
+    )
     @given(SCORES)
     def test_made_scores(self, score: bytes) -> None:
         self.look_at(text_of(score))
@@ -112,7 +116,11 @@ class Alike(unittest.TestCase):
         spelled = [text[it.begin : it.end] for it in found]
         self.assertEqual(spelled, ["name: a;", "no colon", "nabc-lines: x;"])
 
-    @settings(max_examples=20_000 if _IS_LONG else 300, deadline=None)
+    @settings(
+        max_examples=20_000 if _IS_LONG else 300,
+        deadline=None,
+        suppress_health_check=[HealthCheck.too_slow],
+    )
     @given(
         st.lists(
             st.sampled_from(

@@ -8,7 +8,7 @@ import tempfile
 import unittest
 from pathlib import Path
 
-from hypothesis import given, settings
+from hypothesis import HealthCheck, given, settings
 from hypothesis import strategies as st
 
 from gregorio_chant.format.formatting import difference
@@ -20,7 +20,12 @@ from gregorio_chant.work.files import Content, Reader, read, replace, write
 from gregorio_chant.work.settings import NAME, Finder, SettingsError
 from gregorio_chant.work.streams import printable, printable_lines
 
-_CASES = settings(max_examples=10_000 if os.environ.get("GREGORIO_LONG") else 150, deadline=None)
+# How long hypothesis takes to make a text says how busy the machine is.
+_CASES = settings(
+    max_examples=10_000 if os.environ.get("GREGORIO_LONG") else 150,
+    deadline=None,
+    suppress_health_check=[HealthCheck.too_slow],
+)
 _PARTS = st.sampled_from(
     (
         "a",

@@ -3,8 +3,10 @@ than it checks."""
 from __future__ import annotations
 
 import json
+import os
 import time
 import unittest
+from pathlib import Path
 from typing import Any
 
 from client import Served, span
@@ -12,7 +14,8 @@ from support import FAULTY, ROOT, SCORE
 
 NO_JSON, NO_REQUEST, NO_METHOD, BAD_PARAMETERS = -32700, -32600, -32601, -32602
 NOT_INITIALIZED, CANCELLED = -32002, -32800
-# The longest that the messages of the last text may come after the last keystroke, in seconds.
+# How long the server may work after the last keystroke until the messages of the last text come, in
+# seconds.
 MOST_SECONDS = 3.0
 
 
@@ -52,7 +55,7 @@ class Abuse(Served):
         self.assertEqual([it["code"] for it in self.open(FAULTY)], ["E1"])
         self.ask("shutdown", None)
         self.tell("exit", None)
-        self.assertEqual(self.server.wait(20), 0)
+        self.assertEqual(self.server.wait(60), 0)
         assert self.server.stderr
         self.assertEqual(self.server.stderr.read(), b"")
 
@@ -76,7 +79,7 @@ class Abuse(Served):
             self.error({"id": 9, "method": "textDocument/hover", "params": {}}), NO_REQUEST
         )
         self.tell("exit", None)
-        self.assertEqual(self.server.wait(20), 0)
+        self.assertEqual(self.server.wait(60), 0)
 
     def test_no_requests(self) -> None:
         for it in (
@@ -269,20 +272,30 @@ class Abuse(Served):
 class Typing(Served):
     words = ("--rules",)
 
+    def processor_time(self) -> float:
+        """Returns how long the server has worked, in seconds of a processor: others work beside a
+        test, and it waits for nothing but messages."""
+        state = Path(f"/proc/{self.server.pid}/stat").read_text(encoding="ascii")
+        ticks = state.rpartition(")")[2].split()[11:13]
+        return sum(map(int, ticks)) / os.sysconf("SC_CLK_TCK")
+
     def test_keystrokes(self) -> None:
         """Of 30 keystrokes in 26 kB few are checked, and the messages of the last text come
         soon."""
+        begin = time.monotonic()
         self.open(long_score(26_000))
+        # Ten keys come while one text is checked, however busy the machine is.
+        pause = (time.monotonic() - begin) / 10
         checked: list[int] = []
         for number in range(30):
             self.tell_change({"range": span(2, 5, 2, 5), "text": "a"})
-            time.sleep(0.03)
-        last = time.monotonic()
+            time.sleep(pause)
+        before = self.processor_time()
         self.tell_change({"range": span(2, 5, 2, 5), "text": "<x>"})
         while not checked or checked[-1] != self.version:
             told = self.receive()["params"]
             checked.append(told["version"])
-        seconds = time.monotonic() - last
+        seconds = self.processor_time() - before
         self.assertEqual(checked, sorted(set(checked)))
         self.assertIn("W6", [it["code"] for it in told["diagnostics"]])
         self.assertLess(len(checked), 20)

@@ -62,7 +62,7 @@ class _Computation:
 def _compute(work: Work, sink: int) -> None:
     """Makes an answer in a process of its own, which keeps no connection of the server open."""
     leave_interrupts()
-    # Whoever gives the answer up closes the pipe: to write there ends the process, and says nothing.
+    # Whoever gives the answer up closes the pipe: to write there ends the process in silence.
     for ending in (signal.SIGTERM, signal.SIGPIPE):
         signal.signal(ending, signal.SIG_DFL)
     end_with_parent()
@@ -101,7 +101,7 @@ class Computations:
             if self._running.get(key) is it:
                 del self._running[key]
             await asyncio.wait((making,))
-        # This is asked for also where nobody waits any more: asyncio writes of an error that is not.
+        # An error that nobody asks for, since nobody waits any more, is one of which asyncio writes.
         made = making.result()
         if made is None:
             raise GivenUp
