@@ -118,6 +118,21 @@ def in_terminal(
     return run.wait(), shown.decode().replace("\r\n", "\n")
 
 
+def processes_of(group: int) -> list[str]:
+    """Returns the numbers of the processes of a group that live."""
+    found = []
+    for it in Path("/proc").glob("[0-9]*/stat"):
+        try:
+            state, _, its = (
+                it.read_text(encoding="utf-8", errors="replace").rpartition(")")[2].split()[:3]
+            )
+        except (OSError, ValueError):
+            continue
+        if its == str(group) and state not in "ZX":
+            found.append(it.parent.name)
+    return found
+
+
 def unescaped(column: str) -> bytes:
     """Returns the bytes of a column, in which a backslash begins `\\n`, `\\t`, `\\r`, `\\\\` or
     `\\xNN`."""

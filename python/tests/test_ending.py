@@ -12,7 +12,7 @@ import unittest
 from collections.abc import Iterator
 from pathlib import Path
 
-from support import CANONICAL, FAULTY, SCORE, InFolder, has
+from support import CANONICAL, FAULTY, SCORE, InFolder, has, processes_of
 
 # At so many moments each command is interrupted; with GREGORIO_LONG=1 forty.
 MOMENTS = 40 if os.environ.get("GREGORIO_LONG") else 3
@@ -77,21 +77,6 @@ def catches_signals(process: subprocess.Popen[bytes]) -> bool:
     Python itself begins."""
     status = Path(f"/proc/{process.pid}/status").read_text(encoding="ascii")
     return bool(int(status.partition("SigCgt:")[2].split()[0], 16) & _TERM)
-
-
-def processes_of(group: int) -> list[str]:
-    """Returns the numbers of the processes of a group that live."""
-    found = []
-    for it in Path("/proc").glob("[0-9]*/stat"):
-        try:
-            state, _, its = (
-                it.read_text(encoding="utf-8", errors="replace").rpartition(")")[2].split()[:3]
-            )
-        except (OSError, ValueError):
-            continue
-        if its == str(group) and state not in "ZX":
-            found.append(it.parent.name)
-    return found
 
 
 @unittest.skipUnless(sys.platform == "linux", "it looks into /proc")

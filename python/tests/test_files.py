@@ -13,7 +13,7 @@ import time
 import unittest
 from pathlib import Path
 
-from support import CANONICAL, FAULTY, NOBODY, SCORE, InFolder, command, has
+from support import CANONICAL, FAULTY, NOBODY, SCORE, InFolder, command, has, processes_of
 
 from gregorio_chant.work import files
 
@@ -268,6 +268,9 @@ class Ended(InFolder):
                 time.sleep(0.0002)
             run.send_signal(signal.SIGKILL)
             run.wait()
+            # The system kills those that it made a moment later.
+            while processes_of(run.pid) and time.monotonic() < end:
+                time.sleep(0.001)
             self.assertLessEqual({it.read_bytes() for it in Path("s").glob("*.gabc")}, {old, new})
         # What is left of a run that is over goes, and what another one writes stays.
         left = self.put("s/.gregorio-chant.0123", "half")

@@ -101,7 +101,7 @@ class Computations:
             if self._running.get(key) is it:
                 del self._running[key]
             await asyncio.wait((making,))
-        # An error that nobody asks for, since nobody waits any more, is one of which asyncio writes.
+        # Asked for also if nobody waits any more: asyncio writes of an error that nobody asks for.
         made = making.result()
         if made is None:
             raise GivenUp
