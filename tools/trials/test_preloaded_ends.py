@@ -72,7 +72,7 @@ def test_source_that_never_ends(preloaded: Program, room: Path) -> None:
     """It is read up to the limit and one byte more, and no further."""
     report = str(room / "report")
     with open("/dev/zero", "rb") as given:
-        ran = preloaded.start(GABC, {"REPORT": report}, stdin=given, timeout=300)
+        ran = preloaded.start(GABC, {"REPORT": report}, stdin=given, timeout=1800)
     read, *_ = numbers_of(report)
     assert (ran.status, read, ran.output) == (2, MOST_INPUT + 1, b"")
 

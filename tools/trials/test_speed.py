@@ -41,7 +41,7 @@ def processor_time(words: Sequence[str], given: bytes, count: int = 1) -> float:
     before = resource.getrusage(resource.RUSAGE_CHILDREN)
     none = subprocess.DEVNULL
     for _ in range(count):
-        subprocess.run(words, input=given, stdout=none, stderr=none, timeout=60, check=True)
+        subprocess.run(words, input=given, stdout=none, stderr=none, timeout=300, check=True)
     after = resource.getrusage(resource.RUSAGE_CHILDREN)
     return after.ru_utime + after.ru_stime - before.ru_utime - before.ru_stime
 
@@ -54,9 +54,10 @@ def test_key_of_header_names(program: str) -> None:
     numbers = (number * 2654435761 % (1 << 32) for number in range(one_group.count(b"\n")))
     others = b"".join(b"%08x:;\n" % it for it in numbers)
     words = [program, "-F", "gabc", "-s", "-S"]
-    of_one_group, of_others = (
-        processor_time(words, it + b"%%\n", 20) for it in (one_group, others)
-    )
+    scores = [it + b"%%\n" for it in (one_group, others)]
+    # The least times: what else the machine does only adds to them.
+    took = [[processor_time(words, it, 4) for it in scores] for _ in range(5)]
+    of_one_group, of_others = (min(times) for times in zip(*took))
     assert of_one_group <= 2 * of_others
 
 
