@@ -127,7 +127,7 @@ test("64 MB are read, and their memory is let go", async () => {
   assert.ok(result.output.length > 60e6);
   const isLetGo = () => process.memoryUsage().external - before < 20e6;
   // What is let go is freed some turns later.
-  for (let i = 0; i < 50 && !isLetGo(); i++) {
+  for (let i = 0; i < 400 && !isLetGo(); i++) {
     globalThis.gc();
     await setTimeout(50);
   }

@@ -69,13 +69,13 @@ async function found(kind, path, look) {
 }
 
 for (const kind of BROWSERS) {
-  test(`the tables in ${kind.name}`, { skip: kind.lacks, timeout: 90_000 }, async () => {
+  test(`the tables in ${kind.name}`, { skip: kind.lacks, timeout: 600_000 }, async () => {
     const wanted = { count: runs.length, wrong: [] };
     assert.deepEqual(await found(kind, "/", answers), [wanted, wanted]);
   });
 
   const lacks = kind.lacks || (!existsSync(OF_README) && "the page of the README is not here");
-  test(`the page of the README in ${kind.name}`, { skip: lacks, timeout: 30_000 }, async () => {
+  test(`the page of the README in ${kind.name}`, { skip: lacks, timeout: 300_000 }, async () => {
     assert.equal(await found(kind, "/of-readme", written), "%%\nA(f)\n");
   });
 }

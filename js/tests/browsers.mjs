@@ -5,28 +5,28 @@ import { mkdirSync, mkdtempSync, writeFileSync } from "node:fs";
 import { createServer } from "node:net";
 import { join } from "node:path";
 
-// How long an answer may take, in milliseconds.
-const MOST_TIME = 30_000;
+// How long an answer may take, and a browser until it can be asked, in milliseconds: long enough for a machine that others load.
+const MOST_TIME = 240_000;
 const isThere = (command) => spawnSync(command, ["--version"]).status === 0;
 const PREFERENCES = { "browser.download.folderList": 2, "browser.download.useDownloadDir": true, "datareporting.policy.dataSubmissionEnabled": false };
 
-/** Returns a port that is free. */
+/** Returns a port that is free. It is none of those that the system gives to whoever asks for any: another browser could take one of these before it is used. */
 function freePort() {
   return new Promise((resolve) => {
-    const server = createServer().listen(0, "127.0.0.1", () => {
-      const { port } = server.address();
-      server.close(() => resolve(port));
-    });
+    const port = 20_000 + Math.floor(Math.random() * 10_000);
+    const server = createServer().listen(port, "127.0.0.1", () => server.close(() => resolve(port)));
+    server.on("error", () => resolve(freePort()));
   });
 }
 
 /** Returns what `ask` returns, once it does not throw. */
 async function awaited(ask) {
-  for (let left = 200; ; left -= 1) {
+  const end = Date.now() + MOST_TIME;
+  for (;;) {
     try {
       return await ask();
     } catch (error) {
-      if (left === 0) throw error;
+      if (Date.now() > end) throw error;
       await new Promise((resolve) => setTimeout(resolve, 100));
     }
   }

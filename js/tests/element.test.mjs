@@ -14,9 +14,7 @@ const SCRIPT = `<script type="module" src="${PACKAGE}src/element.js"></script>`;
 // The lines of the README, if the trial has put them here.
 const OF_README = "element.html";
 const KYRIE = "name: Kyrie;\n%%\n(c4) KY(f)ri(gfg)e(e.) (::)";
-const TAKES = 400;
 
-const later = (milliseconds) => new Promise((resolve) => setTimeout(resolve, milliseconds));
 const syllablesOf = (score) => [...tree(score)].filter((it) => it.kind === "syllable").map(({ begin, end }) => `${begin} ${end}`);
 
 // A line for each score, and one before them.
@@ -25,13 +23,28 @@ const EXAMPLES = [
   ...NAMES.map((name) => `<gabc-score src="/scores/${name}"></gabc-score>`),
 ];
 
+// What is asked for below /slow/ is answered only once /go was asked for; /asked is answered once something there was.
+const gate = () => {
+  const it = {};
+  it.opened = new Promise((resolve) => (it.open = resolve));
+  return it;
+};
+let [asked, go] = [gate(), gate()];
+
 /** Returns what a page of this trial asks for, some of it only later. */
 async function contentOf(path) {
   if (path === "/examples") return pageOf(...EXAMPLES);
   if (path === "/strict") return [...pageOf(SCRIPT, `<gabc-score>${KYRIE}</gabc-score>`), `${POLICY}; img-src data:`];
   if (path === "/of-readme") return pageOf("<body>", readFileSync(OF_README));
   if (path === "/") return pageOf("<body>", SCRIPT);
-  if (path.startsWith("/slow/")) await later(TAKES);
+  if (path === "/begin") [asked, go] = [gate(), gate()];
+  if (path === "/asked") await asked.opened;
+  if (path === "/go") go.open();
+  if (["/begin", "/asked", "/go"].includes(path)) return ["text/plain", ""];
+  if (path.startsWith("/slow/")) {
+    asked.open();
+    await go.opened;
+  }
   const name = path.split("/").at(-1);
   return NAMES.includes(name) ? ["text/plain", readFileSync(`${DATA}/${name}`)] : undefined;
 }
@@ -84,7 +97,7 @@ async function allShown() {
 }
 
 for (const kind of BROWSERS) {
-  describe(`the element in ${kind.name}`, { skip: kind.lacks, timeout: 120_000 }, () => {
+  describe(`the element in ${kind.name}`, { skip: kind.lacks, timeout: 600_000 }, () => {
     let server;
     let browser;
 
@@ -249,10 +262,12 @@ for (const kind of BROWSERS) {
         const it = document.createElement("gabc-score");
         for (const name of ["load", "error"]) it.addEventListener(name, () => told.push(name));
         it.src = "/slow/kyrie.gabc";
+        await fetch("/begin", { method: "POST" });
         document.body.append(it);
-        await new Promise((resolve) => setTimeout(resolve, 50));
+        await fetch("/asked", { method: "POST" });
         it.remove();
-        await new Promise((resolve) => setTimeout(resolve, 800));
+        await fetch("/go", { method: "POST" });
+        await new Promise((resolve) => setTimeout(resolve, 400));
         const before = [...told, shown(it).syllables.length];
         await settled(it, () => document.body.append(it));
         return [before, told, shown(it).syllables.length > 0];
@@ -264,11 +279,13 @@ for (const kind of BROWSERS) {
       const found = await run(async () => {
         const it = document.createElement("gabc-score");
         it.src = "/slow/introit.gabc";
+        await fetch("/begin", { method: "POST" });
         document.body.append(it);
-        await new Promise((resolve) => setTimeout(resolve, 50));
+        await fetch("/asked", { method: "POST" });
         await settled(it, () => (it.src = "/scores/kyrie.gabc"));
         const first = shown(it).syllables;
-        await new Promise((resolve) => setTimeout(resolve, 800));
+        await fetch("/go", { method: "POST" });
+        await new Promise((resolve) => setTimeout(resolve, 400));
         return [first, shown(it).syllables];
       });
       const kyrie = syllablesOf(readFileSync(`${DATA}/kyrie.gabc`));

@@ -74,7 +74,7 @@ const timing = `async (at, count) => {
 async function rowsBeside(svg) {
   const wanted = [...new DOMParser().parseFromString(svg, "image/svg+xml").querySelectorAll(".row")];
   const found = () => [...document.querySelectorAll("#own-picture .row")];
-  for (let left = 400; left > 0 && found().length !== wanted.length; left -= 1) await new Promise((resolve) => setTimeout(resolve, 10));
+  for (let left = 6_000; left > 0 && found().length !== wanted.length; left -= 1) await new Promise((resolve) => setTimeout(resolve, 10));
   const written = (row, down) => {
     const it = row.cloneNode(true);
     for (const marked of it.querySelectorAll(".here")) marked.classList.remove("here");
@@ -96,7 +96,7 @@ function watchPolicy() {
 
 /** Returns the text of an element, once it is there. */
 async function awaitText(selector) {
-  for (let left = 200; left > 0 && !document.querySelector(selector); left -= 1) await new Promise((resolve) => setTimeout(resolve, 20));
+  for (let left = 3_000; left > 0 && !document.querySelector(selector); left -= 1) await new Promise((resolve) => setTimeout(resolve, 20));
   return document.querySelector(selector)?.textContent ?? null;
 }
 
@@ -205,7 +205,7 @@ export class Page {
     writeFileSync(path, content);
     const before = await this.seen();
     await this.browser.choose("#file", path);
-    for (let left = 100; left > 0; left -= 1) {
+    for (let left = 1_200; left > 0; left -= 1) {
       const shown = await this.seen();
       // The field has it, and the answer may still be under way.
       if (shown.text !== before.text || shown.state !== before.state) return this.seen();
@@ -217,7 +217,7 @@ export class Page {
   /** Returns a file that was saved, once it has `length` bytes. */
   async saved(name, length) {
     const path = join(this.browser.folder, name);
-    for (let left = 200; left > 0; left -= 1) {
+    for (let left = 1_200; left > 0; left -= 1) {
       if (readdirSync(this.browser.folder).includes(name) && readFileSync(path).length >= length) break;
       await setTimeout(50);
     }

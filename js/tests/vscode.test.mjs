@@ -39,7 +39,7 @@ async function begun(command, ...documents) {
   return host;
 }
 
-describe("the extension without a server", { skip: lacks, timeout: 120_000 }, () => {
+describe("the extension without a server", { skip: lacks, timeout: 600_000 }, () => {
   test("messages with their help, of scores alone", async () => {
     const score = new Document("name:a;\n%%\n(c4) <i>Ky(f)ri</i>(g5)\n");
     const others = [new Document(score.text, { languageId: "plaintext" }), new Document(score.text, { scheme: "git" })];
@@ -246,7 +246,7 @@ function assertProtocol(run) {
   }
 }
 
-describe("the extension with Python's server", { skip: lacks || (!SERVER && "the server is not here"), timeout: 300_000 }, () => {
+describe("the extension with Python's server", { skip: lacks || (!SERVER && "the server is not here"), timeout: 600_000 }, () => {
   const room = mkdtempSync(join(process.cwd(), "server-"));
   writeFileSync(`${room}/tee.mjs`, TEE);
   const command = (file) => [process.execPath, `${room}/tee.mjs`, `${room}/${file}`, ...SERVER];
@@ -365,7 +365,7 @@ function prepare() {
 }
 
 for (const kind of BROWSERS) {
-  describe(`the extension in ${kind.name}`, { skip: lacks || kind.lacks, timeout: 120_000 }, () => {
+  describe(`the extension in ${kind.name}`, { skip: lacks || kind.lacks, timeout: 600_000 }, () => {
     /** Returns what `work` returns of a page of the extension. */
     async function inPage(path, work) {
       const server = await serve(contentOf);

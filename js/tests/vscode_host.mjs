@@ -229,7 +229,7 @@ export class Host {
 }
 
 /** Returns what `ask` returns, once that is something. */
-export async function awaited(ask, milliseconds = 60_000) {
+export async function awaited(ask, milliseconds = 240_000) {
   const begin = Date.now();
   for (;;) {
     const found = await ask();

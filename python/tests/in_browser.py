@@ -25,6 +25,10 @@ from gregorio_chant.pictures.page import leading_to
 from gregorio_chant.pictures.plain import PlainFace
 
 
+# How long what a test waits for may take, in seconds.
+MOST_TIME = 120.0
+
+
 def browser() -> Any:
     """Returns a browser without a window, which keeps a log of its console and of its requests."""
     from selenium import webdriver
@@ -110,9 +114,17 @@ class Browsing(InFolder):
             [it for it in addresses if not it.startswith((self.here, "data:image/"))], []
         )
 
+    def await_address(self, end: str) -> None:
+        """Waits until the page is at an address that ends so."""
+        self.await_(lambda: bool(self.browser.current_url.endswith(end)), f"it is not at {end}")
+
+    def await_sight(self, selector: str) -> None:
+        """Waits until the element stands within the window."""
+        self.await_(lambda: self.is_seen(selector), f"{selector} is not seen")
+
     def await_(self, is_so: Callable[[], bool], what: str) -> None:
-        """Waits until something is so."""
-        end = time.monotonic() + 20
+        """Waits until something is so: on a busy machine a browser takes its time."""
+        end = time.monotonic() + MOST_TIME
         while not is_so():
             self.assertLess(time.monotonic(), end, what)
             time.sleep(0.05)
@@ -134,15 +146,18 @@ class Shown(Browsing):
         self.open("long.gabc", "bad.gabc")
         for _ in range(2):
             self.click("a[href='#p2-m1-at']")
-            self.assertTrue(self.browser.current_url.endswith("#p2-m1-at"))
-            self.assertTrue(self.is_seen("#p2-m1-at"))
+            self.await_address("#p2-m1-at")
+            self.await_sight("#p2-m1-at")
             self.click("#p2-m1-at text")
-            self.assertTrue(self.browser.current_url.endswith("#p2-m1"))
-            self.assertTrue(self.is_seen("#p2-m1"))
+            self.await_address("#p2-m1")
+            self.await_sight("#p2-m1")
         self.assertFalse(self.look("document.querySelectorAll('details')[1].open"))
         self.click("#p2-m1 a")
-        self.assertTrue(self.look("document.querySelectorAll('details')[1].open"))
-        self.assertTrue(self.is_seen("#p2-l3"))
+        self.await_(
+            lambda: bool(self.look("document.querySelectorAll('details')[1].open")),
+            "the source is not open",
+        )
+        self.await_sight("#p2-l3")
         self.assert_quiet()
 
     def test_way_to_a_syllable(self) -> None:
@@ -151,11 +166,8 @@ class Shown(Browsing):
         command("show", "-o", "page.html", "long.gabc")
         self.put("here.html", leading_to("page.html#p1-s900"))
         self.browser.get(Path("here.html").resolve().as_uri())
-        self.await_(
-            lambda: bool(self.browser.current_url.endswith("page.html#p1-s900")),
-            "another page is open",
-        )
-        self.await_(lambda: self.is_seen("#p1-s900"), "the syllable is not seen")
+        self.await_address("page.html#p1-s900")
+        self.await_sight("#p1-s900")
         self.assert_quiet()
 
     def test_hostile(self) -> None:
@@ -204,9 +216,12 @@ class Shown(Browsing):
         command("show", "-o", "pages/", "scores")
         self.browser.get(Path("pages/index.html").resolve().as_uri())
         self.browser.find_element("link text", "in/a b.gabc").click()
-        self.assertEqual(self.look("document.querySelectorAll('svg').length"), 2)
+        self.await_(
+            lambda: bool(self.look("document.querySelectorAll('svg').length") == 2),
+            "the page of the score is not open",
+        )
         self.click(".back a")
-        self.assertTrue(self.browser.current_url.endswith("pages/index.html"))
+        self.await_address("pages/index.html")
         self.assert_quiet()
 
     def test_sings(self) -> None:
@@ -292,8 +307,8 @@ class Shown(Browsing):
             self.look("document.querySelector('.narrow svg').getBoundingClientRect().right"), 360
         )
         self.click("a.narrow")
-        self.assertTrue(self.browser.current_url.endswith("#p1-n-m1-at"))
-        self.assertTrue(self.is_seen("#p1-n-m1-at"))
+        self.await_address("#p1-n-m1-at")
+        self.await_sight("#p1-n-m1-at")
 
     def test_text_has_its_length(self) -> None:
         """Whatever the face, each text is as long as it was laid out."""
@@ -328,7 +343,7 @@ class Written(Browsing):
 
     def stop(self) -> None:
         self.server.send_signal(signal.SIGINT)
-        self.server.communicate(timeout=20)
+        self.server.communicate(timeout=MOST_TIME)
 
     def write(self, text: str) -> None:
         """Writes at the cursor as a keyboard or a paste does."""
@@ -394,18 +409,17 @@ class Written(Browsing):
         self.write(score)
         self.await_seen("character left out", "#messages")
         self.click("#messages button")
-        self.await_(lambda: self.is_seen("#p1-m1-at"), "the mark is not seen")
+        self.await_sight("#p1-m1-at")
         self.await_(
             lambda: score.encode("utf-16-le")[2 * self.cursor() :].startswith(
                 "5)".encode("utf-16-le")
             ),
             "the cursor is elsewhere",
         )
-        self.assertEqual(
-            self.look("document.querySelector('#picture .here title').textContent"), "e: sol"
-        )
+        here = "document.querySelector('#picture .here title')?.textContent"
+        self.await_(lambda: bool(self.look(here) == "e: sol"), "another syllable is marked")
         self.click("#p1-m1-at text")
-        self.assertTrue(self.browser.current_url.endswith("#p1-m1"))
+        self.await_address("#p1-m1")
         self.click("#p1-s2")
         self.await_(
             lambda: score.encode("utf-16-le")[2 * self.cursor() :].startswith(
