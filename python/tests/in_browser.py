@@ -24,7 +24,6 @@ from gregorio_chant.pictures.outlines import SQUARE, Face
 from gregorio_chant.pictures.page import leading_to
 from gregorio_chant.pictures.plain import PlainFace
 
-
 # How long what a test waits for may take, in seconds.
 MOST_TIME = 120.0
 
