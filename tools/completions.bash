@@ -33,8 +33,8 @@ try_bash_of() {
   check "$what: bash: a score or a folder" completes gregorio-chant format '' 'a score.gabc,folder,'
 }
 
-# Prints what a zsh with the completions of the folder $1 shows where a tab stands after the words
-# $2: it runs in a terminal that another zsh makes.
+# Whether a zsh with the completions of the folder $1 shows what the expression $3 finds if a tab is
+# after the words $2: it runs in a terminal that another zsh makes, and has half a minute.
 zsh_shows() {
   mkdir -p -- "$room/rc"
   echo 'setopt no_global_rcs' >"$room/rc/.zshenv"
@@ -56,14 +56,19 @@ zpty inner env TERM=dumb COLUMNS=160 zsh -i
 zpty -r inner line '*ready*' || exit 1
 zpty -n -w inner "$1"$'\t'
 shown=
-for turn in {1..20}; do
+found=1
+for turn in {1..300}; do
   sleep 0.1
   while zpty -rt inner more; do shown+=$more; done
+  if grep -q -e "$2" <<<"$shown"; then
+    found=0
+    break
+  fi
 done
-print -r -- "$shown"
 zpty -d inner
+exit $found
 ASK
-  ZDOTDIR="$room/rc" FOLDER="$1" FILES="$room/apt/files" timeout 30 zsh -f "$room/rc/ask" "$2" 2>/dev/null
+  ZDOTDIR="$room/rc" FOLDER="$1" FILES="$room/apt/files" timeout 60 zsh -f "$room/rc/ask" "$2" "$3" 2>/dev/null
 }
 
 # Tries the completions of both packages, which stand in the folder $2, in zsh.
@@ -74,7 +79,7 @@ try_zsh_of() {
     skip "$what: completions of zsh: there is no zsh"
     return
   fi
-  shows() { grep -q -e "$2" <(zsh_shows "$folder" "$1"); }
+  shows() { zsh_shows "$folder" "$@"; }
   check "$what: zsh: options" shows 'gregorio-canonical -' '^-F  -- write this format'
   check "$what: zsh: a format" shows 'gregorio-canonical -F d' '-F dump'
   check "$what: zsh: a score" shows 'gregorio-canonical -W a' 'score\.gabc'
