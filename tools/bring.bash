@@ -4,20 +4,20 @@
 # Asks apt-get, with all that it writes below the folder `bring_room`.
 bring_apt() {
   apt-get -qq -o APT::Sandbox::User=root -o Debug::NoLocking=1 -o Dir::State::lists="$bring_room/lists" -o Dir::Cache="$bring_room/cache" \
-    -o Acquire::Retries=0 -o Acquire::http::Timeout=5 -o Acquire::https::Timeout=5 -o Acquire::ForceIPv4=true "$@"
+    -o Acquire::Retries=2 -o Acquire::http::Timeout=5 -o Acquire::https::Timeout=5 -o Acquire::ForceIPv4=true "$@"
 }
 
-# Makes the folder $1 ready, with apt's lists: within half a minute, else it fails. It fails too where there is no apt-get, or no network.
+# Makes the folder $1 ready, with apt's lists: within two minutes, else it fails. It fails too where there is no apt-get, or no network.
 begin_bringing() {
   bring_room="$1"
   command -v apt-get >/dev/null && command -v dpkg >/dev/null || return 1
   mkdir -p -- "$bring_room"/{lists,cache/archives}/partial "$bring_room"/{files,packages} || return 1
   export bring_room
   export -f bring_apt
-  timeout 30 bash -c 'bring_apt -o APT::Update::Error-Mode=any update' >/dev/null 2>&1
+  timeout 120 bash -c 'bring_apt -o APT::Update::Error-Mode=any update' >/dev/null 2>&1
 }
 
-# Brings these packages into the folder $1/files, without what they need: within a minute, else it fails.
+# Brings these packages into the folder $1/files, without what they need: within ten minutes, else it fails.
 bring_alone() {
   local file
   bring_room="$1"
@@ -25,13 +25,13 @@ bring_alone() {
   [ -d "$bring_room/lists" ] || begin_bringing "$bring_room" || return 1
   rm -rf -- "$bring_room/packages"
   mkdir -- "$bring_room/packages" || return 1
-  (cd -- "$bring_room/packages" && timeout 60 bash -c 'bring_apt download "$@"' bring "$@") >/dev/null 2>&1 || return 1
+  (cd -- "$bring_room/packages" && timeout 600 bash -c 'bring_apt download "$@"' bring "$@") >/dev/null 2>&1 || return 1
   for file in "$bring_room"/packages/*.deb; do
     dpkg -x "$file" "$bring_room/files" || return 1
   done
 }
 
-# Brings the packages, and what they need and the system lacks, into the folder $1/files: within a minute and a half, else it fails. It fails too where
+# Brings the packages, and what they need and the system lacks, into the folder $1/files: within twelve minutes, else it fails. It fails too where
 # there is no apt-get, or no network.
 bring() {
   local names

@@ -14,7 +14,7 @@ inside() {
 
 # Makes a fresh Debian, and puts the release there. Fails where there can be none.
 make_fresh_root() {
-  [ "$(id -u)" = 0 ] && has_tool debootstrap && timeout 400 debootstrap --variant=minbase "$SUITE" "$system" >"$room/log" 2>&1 || return 1
+  [ "$(id -u)" = 0 ] && has_tool debootstrap && timeout 1200 debootstrap --variant=minbase "$SUITE" "$system" >"$room/log" 2>&1 || return 1
   mkdir "$system/root/release"
   cp -- "$folder"/* "$system/root/release/"
   printf 'APT::Get::Assume-Yes "true";\nAPT::Install-Recommends "false";\nquiet "1";\n' >"$system/etc/apt/apt.conf.d/90trial"

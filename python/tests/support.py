@@ -82,7 +82,7 @@ def command(
         stderr=subprocess.PIPE,
         env={**os.environ, **(environment or {})},
         preexec_fn=bound,
-        timeout=120,
+        timeout=600,
         check=False,
         user=user,
         group=user,

@@ -72,7 +72,7 @@ TRIAL = (
 (fset 'completing-read (lambda (_ items &rest _) (let ((it (car items))) (if (consp it) (car it) it))))
 (defun told () (mapcar (lambda (it) (vector (line-number-at-pos (flymake-diagnostic-beg it)) (car (split-string (flymake-diagnostic-text it) "\\n")))) (flymake-diagnostics)))
 (defun await (count)
-  (let ((end (+ (float-time) 20)))
+  (let ((end (+ (float-time) 60)))
     (while (and (< (float-time) end) (/= count (length (flymake-diagnostics))))
       (accept-process-output nil 0.05) (flymake-start)))
   (told))
@@ -113,7 +113,7 @@ class Emacs(InFolder):
             env={**os.environ, "HOME": str(self.room)},
             stdin=subprocess.DEVNULL,
             capture_output=True,
-            timeout=100,
+            timeout=300,
             check=False,
         )
         if ran.returncode == 77:

@@ -46,12 +46,12 @@ local function messages()
   return found
 end
 local function await(count)
-  vim.wait(20000, function() return #vim.diagnostic.get(0) == count end, 20)
+  vim.wait(60000, function() return #vim.diagnostic.get(0) == count end, 20)
   return messages()
 end
 local function ask(method, params)
   params.textDocument = vim.lsp.util.make_text_document_params()
-  local answers = vim.lsp.buf_request_sync(0, "textDocument/" .. method, params, 20000)
+  local answers = vim.lsp.buf_request_sync(0, "textDocument/" .. method, params, 60000)
   local names = {}
   for _, it in pairs(answers) do
     for _, found in ipairs(it.result) do table.insert(names, found.name or found.label) end
@@ -64,8 +64,8 @@ line(2, "(c4)   Ky(f)ri(g)")
 put("edited", await(0))
 line(2, "   <x>(f)")
 put("edited again", await(2))
-if vim.lsp.buf.format then vim.lsp.buf.format({ timeout_ms = 20000 }) else vim.lsp.buf.formatting_sync(nil, 20000) end
-vim.wait(20000, function() return (vim.diagnostic.get(0)[1] or {}).col == 0 end, 20)
+if vim.lsp.buf.format then vim.lsp.buf.format({ timeout_ms = 60000 }) else vim.lsp.buf.formatting_sync(nil, 60000) end
+vim.wait(60000, function() return (vim.diagnostic.get(0)[1] or {}).col == 0 end, 20)
 put("formatted", messages())
 line(2, "(c4) Ky>(f)ri(g)")
 put("a repair is wanted", await(1))
@@ -79,7 +79,7 @@ local function keep(_, told) shown = told.uri or told.message:match("file:.*") r
 vim.lsp.handlers["window/showDocument"], vim.lsp.handlers["window/showMessage"] = keep, keep
 vim.api.nvim_win_set_cursor(0, { 3, 5 })
 vim.cmd("GregorioShow")
-vim.wait(20000, function() return shown end, 20)
+vim.wait(60000, function() return shown end, 20)
 put("picture", table.concat(vim.fn.readfile(vim.uri_to_fname(shown)), "\\n"):match('<a href="(.-)"'))
 line(2, "(c4) <sp>")
 put("completed", vim.list_slice(ask("completion", { position = { line = 2, character = 9 } }), 1, 2))
@@ -90,7 +90,7 @@ vim.fn.complete = function(column, items) offered = { column, items[1].word, ite
 vim.fn.mode = function() return "i" end
 vim.cmd("startinsert!")
 vim.lsp.omnifunc(1, "")
-vim.wait(20000, function() return offered end, 20)
+vim.wait(60000, function() return offered end, 20)
 put("completed by omnifunc", offered)
 vim.cmd("edit! b.gabc")
 put("another score", await(1))
@@ -118,7 +118,7 @@ class Editing(InFolder):
             env={**os.environ, **homes},
             stdin=subprocess.DEVNULL,
             capture_output=True,
-            timeout=100,
+            timeout=300,
             check=False,
         )
         self.assertEqual(ran.returncode, 0, ran.stderr)

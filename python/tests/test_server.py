@@ -109,17 +109,17 @@ class Serving(Served):
     def test_end(self) -> None:
         self.assertIsNone(self.ask("shutdown", None))
         self.tell("exit", None)
-        self.assertEqual(self.server.wait(20), 0)
+        self.assertEqual(self.server.wait(60), 0)
 
     def test_end_alone(self) -> None:
         self.tell("exit", None)
-        self.assertEqual(self.server.wait(20), 1)
+        self.assertEqual(self.server.wait(60), 1)
 
     def test_client_that_goes(self) -> None:
         self.open(FAULTY)
         assert self.server.stdin
         self.server.stdin.close()
-        self.assertEqual(self.server.wait(20), 1)
+        self.assertEqual(self.server.wait(60), 1)
 
     def test_changes_of_parts(self) -> None:
         self.open("name: a;\r\n%%\r\n(c4) \U0001d11e\ufeff\u00e9(f) b(g)\r\n")

@@ -170,7 +170,7 @@ class Seeded(Served):
             },
         }
         self.put_at_once(opened, {"id": 99, "method": "shutdown"}, {"method": "exit"})
-        out, _ = self.server.communicate(timeout=20)
+        out, _ = self.server.communicate(timeout=60)
         self.assertNotIn(b"publishDiagnostics", out.partition(b'"id":99')[2])
         self.assertEqual(self.server.returncode, 0)
 

@@ -77,7 +77,7 @@ class Pictures(Served):
         self.assertIn(id, Page(page.read_text(encoding="utf-8")).ids)
         self.ask("shutdown", None)
         self.tell("exit", None)
-        self.assertEqual(self.server.wait(20), 0)
+        self.assertEqual(self.server.wait(60), 0)
         self.assertFalse(page.parent.exists())
 
     def test_refused(self) -> None:

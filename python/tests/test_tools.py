@@ -28,7 +28,7 @@ def run(tool: str, *words: str, data: bytes = b"") -> subprocess.CompletedProces
         input=data,
         capture_output=True,
         check=False,
-        timeout=60,
+        timeout=600,
     )
 
 
