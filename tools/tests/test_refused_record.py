@@ -31,6 +31,11 @@ fn second() -> u8
 /// The last number.
 pub const LAST: u8 = 2;
 """
+HIGH = """use Rattle.low.proofs.Lemma.{one_is_two}
+
+again : ⊤
+again = one_is_two
+"""
 FILES = {
     "crates.txt": "# crates\nlow: memchr\nhigh: low\n",
     "crates/low/src/lib.rt": LOW,
@@ -42,7 +47,7 @@ FILES = {
     "crates/high/src/lib.rt": "pub fn two() -> u8 {\n    low::first()\n}\n",
     "crates/high/src/inner/deep.rt": "fn three() {}\n",
     "crates/high/specs/Two.antt": "two : ℕ\n",
-    "crates/high/proofs/Lib.antt": "use Rattle.low.proofs.Lemma.{one_is_two}\n\nagain : ⊤\nagain = one_is_two\n",
+    "crates/high/proofs/Lib.antt": HIGH,
     "crates/high/wrong_bodies.toml": "[two_is_lost]\n",
 }
 
