@@ -3,9 +3,9 @@ know. That are its types, traits and constants; its public functions that the cr
 with their contracts; and those of its definitions and lemmas that these or the crate's own files
 name.
 
-Comments do not count, nor do the bodies of functions below: a proof rests on the contract of what a
-function calls. Nor do functions that a crate below keeps to itself, with what only they name. It
-reads the files as text: what a name may mean counts."""
+Comments do not count, nor the layout of sources, nor the bodies of functions below: a proof rests
+on the contract of what a function calls. Nor do functions that a crate below keeps to itself, with
+what only they name. It reads the files as text: what a name may mean counts."""
 
 from __future__ import annotations
 
@@ -16,7 +16,7 @@ from collections.abc import Iterable, Iterator
 from house.citations import Citations
 from house.files import crates_folder, files_below, read
 from house.proof_files import Declaration
-from house.source import WORD, Function, Source, closing, uncommented
+from house.source import WORD, Function, Source, closing, uncommented, without_layout
 
 Text = tuple[str, str]
 _GHOST_USE = re.compile(
@@ -30,12 +30,11 @@ _HINT = re.compile(r"(?m)^[ \t]*#\[(?:inline|tactic|cold)\b[^\n]*\]\n")
 
 
 def code_of(path: str) -> str:
-    """Returns the text of a file without comments and blank lines."""
+    """Returns the text of a file without comments, and of a source without its layout."""
     text = read(path)
-    if path.endswith(".antt"):
-        lines = (it for it in text.split("\n") if not it.lstrip().startswith("--"))
-    else:
-        lines = (it.rstrip() for it in uncommented(text).split("\n"))
+    if path.endswith(".rt"):
+        return without_layout(text)
+    lines = (it for it in text.split("\n") if not it.lstrip().startswith("--"))
     return "\n".join(it for it in lines if it.strip())
 
 
@@ -83,8 +82,7 @@ def statements_of(source: Source, named: set[str]) -> tuple[str, list[str]]:
     paths = sorted({path for name, path in ghosts if name in words or "◌" in name})
     items = [(words | named if it[0] else words, it[1:]) for it in _USE.findall(shown)]
     uses = {path for known, it in items for name, path in _brought([it], "::") if name in known}
-    lines = (it.rstrip() for it in rest.split("\n"))
-    return "\n".join([*sorted(uses), *paths, *(it for it in lines if it)]), paths
+    return "\n".join([*sorted(uses), *paths, without_layout(rest)]), paths
 
 
 class Resting:
@@ -156,8 +154,8 @@ class Resting:
 
     def of(self, crate: str, below: Iterable[str]) -> list[Text]:
         """Returns all on which the proofs of a crate rest, in parts with their names."""
-        own, crates = self.own(crate), sorted(below)
-        code = "\n".join(text for path, text in own if path.endswith(".rt"))
+        crates = sorted(below)
+        code = "\n".join(uncommented(it.text) for _, it in self.sources(crate))
         named = {*re.findall(WORD, code)}
         stated: list[Text] = []
         paths = [path for _, path in _brought(_GHOST_USE.findall(code), ".")]
@@ -165,7 +163,7 @@ class Resting:
             text, more = statements_of(source, named)
             stated.append((path, text))
             paths += more
-        return [*own, *stated, *self.reached(crate, paths, {*crates})]
+        return [*self.own(crate), *stated, *self.reached(crate, paths, {*crates})]
 
 
 def _text_of(it: Declaration) -> str:

@@ -37,6 +37,16 @@ def uncommented(text: str) -> str:
     return _NO_CODE.sub(lambda it: _blank(it[0]) if it[0].startswith("/") else it[0], text)
 
 
+def without_layout(text: str) -> str:
+    """Returns the text without comments, with one blank for all that parts two words; strings stay
+    as they are."""
+    text, parts, at = uncommented(text), [], 0
+    for it in _NO_CODE.finditer(text):
+        parts += [re.sub(r"\s+", " ", text[at : it.start()]), it[0]]
+        at = it.end()
+    return "".join([*parts, re.sub(r"\s+", " ", text[at:])]).strip()
+
+
 def closing(text: str, at: int) -> int:
     """Returns the place at which the bracket at the place `at` is closed."""
     depth = 0

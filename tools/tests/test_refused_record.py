@@ -45,7 +45,7 @@ FILES = {
     "crates/low/proofs/Lemma.antt": "one_is_two : ⊤\n",
     "crates/low/proofs/Own.antt": "held_is_two : ⊤\n",
     "crates/high/src/lib.rt": "pub fn two() -> u8 {\n    low::first()\n}\n",
-    "crates/high/src/inner/deep.rt": "fn three() {}\n",
+    "crates/high/src/inner/deep.rt": 'fn three() -> &str {\n    "a  b"\n}\n',
     "crates/high/specs/Two.antt": "two : ℕ\n",
     "crates/high/proofs/Lib.antt": HIGH,
     "crates/high/wrong_bodies.toml": "[two_is_lost]\n",
@@ -102,6 +102,7 @@ class RecordTest(RepositoryTest):
             ("crates/low/proofs/Lemma.antt", "⊤", "⊥"),
             ("crates/high/src/lib.rt", "low::first()", "low::first() + 1"),
             ("crates/high/src/inner/deep.rt", "three", "four"),
+            ("crates/high/src/inner/deep.rt", '"a  b"', '"a b"'),
             ("crates/high/specs/Two.antt", "two", "three"),
             ("crates/high/proofs/Lib.antt", "again = one_is_two", "again = tt"),
         ):

@@ -57,8 +57,8 @@ refused = 'ensures'
 GOALS = {"wrong 2": "returns-clause-one", "wrong 3": "loop-1-clause-below", "wrong 1": "returns"}
 # The checksums of these edits, which no change of the tools may change: all records would be void.
 SUMS = (
-    "4a4ba75c94324da25f1220f0420f2d1b2f6d414e85149abf07da9c5161b6c287",
-    "db2399ad579571d70b6240d9ee44c54f37b4fdf268ff17d21c37e21c39624789",
+    "2d3a8edd410d369cd28fe361944c0f116af928181e008db55b0bc7ef7979a0c5",
+    "f404fb2851a276d14ee9e80c873bc7b11db8a7cd58ea408c5b4f7e32ab8e5b50",
 )
 TREE = "e669817c82cefe61a997acae0231264f1d6a0f47c702ad148bd6c62e7539b82b"
 
