@@ -69,7 +69,7 @@ pub none-found : (bs : List ℕ) → IsUtf8 bs → ((i : ℕ) → i ≤ length b
 unfolding encode
 none-found bs u none =
     all-shown bs u (λ before after e. none (length before) (omega (arith, ap length e, length-append before (encode 0xFEFF ++ after)))
-        after (ap (drop (length before)) e ∙ drop_at before (encode 0xFEFF ++ after) (length before) refl))
+    after (ap (drop (length before)) e ∙ drop_at before (encode 0xFEFF ++ after) (length before) refl))
 
 -- no U+FEFF stands before the first
 lacks_before : (bs : List ℕ) (i : ℕ) → i ≤ length bs → ((k : ℕ) → k < i → LacksTextAt (encode 0xFEFF) bs k) → LacksMark (take i bs)
