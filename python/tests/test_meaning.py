@@ -104,14 +104,14 @@ class Meaning(unittest.TestCase):
             self.assertTrue(apart, "a head over a head")
 
     def look_at_custodes(self, rows: tuple[Row, ...]) -> None:
-        """At the end of a row stands the custos of the next row's first note."""
+        """At the end of a row stands the custos of the next note."""
         outlines = Outlines()
-        for row, following in itertools.pairwise(rows):
-            first = next(
-                (it for group in following.groups for it in heads(group.content, outlines)), None
-            )
+        following: int | None = None
+        for row in reversed(rows):
             for sign in _custodes(row):
-                self.assertEqual(sign.y, first and first.y)
+                self.assertEqual(sign.y, following)
+            notes = (it.y for group in row.groups for it in heads(group.content, outlines))
+            following = next(notes, following)
 
     def test_it_can_fail(self) -> None:
         """A score that is not the one that is drawn is found."""
