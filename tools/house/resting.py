@@ -1,7 +1,7 @@
-"""What the proofs of a crate rest on: its own files, and of each crate below it what callers may
-know. That are its types, traits and constants; its public functions that the crate's sources name,
-with their contracts; and those of its definitions and lemmas that these or the crate's own files
-name.
+"""What the proofs of a crate rest on: its own files, and what its functions may know of the crates
+below it. These are the types, traits and constants below; the contracts of the public functions
+below that the crate's sources name; and the definitions and lemmas below that any of these or the
+crate's own files name.
 
 Comments do not count, nor the layout of sources, nor the bodies of functions below: a proof rests
 on the contract of what a function calls. Nor do functions that a crate below keeps to itself, with
@@ -46,8 +46,8 @@ def _is_known(function: Function, named: set[str]) -> bool:
 
 
 def _shown(source: Source, named: set[str]) -> str:
-    """Returns the text of a file without the functions of which a crate whose sources have these
-    names knows nothing, and without the bodies of the others."""
+    """Returns the text of a file without the functions of which a crate whose sources have the
+    names `named` knows nothing, and without the bodies of the others."""
     text, plain = uncommented(source.text), source.plain
     kept, at = [], 0
     for function in source.functions:
@@ -55,8 +55,11 @@ def _shown(source: Source, named: set[str]) -> str:
             continue
         is_open = plain[function.end : function.end + 1] == "{"
         head = plain.rfind("\n", 0, function.begin) + 1
-        kept.append(text[at : function.end if _is_known(function, named) else head])
-        at = (closing(plain, function.end) if is_open else function.end) + 1
+        past = (closing(plain, function.end) if is_open else function.end) + 1
+        # A function that is a constant has its value by its body.
+        end = past if "const " in plain[head : function.begin] else function.end
+        kept.append(text[at : end if _is_known(function, named) else head])
+        at = past
     return "".join([*kept, text[at:]])
 
 

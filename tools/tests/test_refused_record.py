@@ -30,6 +30,11 @@ fn second() -> u8
 
 /// The last number.
 pub const LAST: u8 = 2;
+
+/// Returns the number after the last one.
+pub const fn past() -> u8 {
+    LAST + 1
+}
 """
 HIGH = """use Rattle.low.proofs.Lemma.{one_is_two}
 
@@ -44,7 +49,7 @@ FILES = {
     "crates/low/specs/Inner.antt": "held : ℕ\n",
     "crates/low/proofs/Lemma.antt": "one_is_two : ⊤\n",
     "crates/low/proofs/Own.antt": "held_is_two : ⊤\n",
-    "crates/high/src/lib.rt": "pub fn two() -> u8 {\n    low::first()\n}\n",
+    "crates/high/src/lib.rt": "pub fn two() -> u8 {\n    low::first() + low::past()\n}\n",
     "crates/high/src/inner/deep.rt": 'fn three() -> &str {\n    "a  b"\n}\n',
     "crates/high/specs/Two.antt": "two : ℕ\n",
     "crates/high/proofs/Lib.antt": HIGH,
@@ -96,6 +101,7 @@ class RecordTest(RepositoryTest):
             ("crates/low/src/lib.rt", "result ≡ one", "result ≡ LAST"),
             ("crates/low/src/lib.rt", "pub fn first() -> u8", "pub fn first() -> u16"),
             ("crates/low/src/lib.rt", "u8 = 2", "u8 = 3"),
+            ("crates/low/src/lib.rt", "LAST + 1", "LAST + 2"),
             ("crates/low/src/lib.rt", "specs.One.{one}", "specs.Deep.{two as one}"),
             ("crates/low/specs/One.antt", "= two", "= 2"),
             ("crates/low/specs/Deep.antt", "two : ℕ", "two : ℤ"),
