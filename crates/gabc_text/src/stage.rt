@@ -166,7 +166,7 @@ impl TextStage {
     }
 
     /// Reads the character, which is a letter between tokens, as `read` does, without its tests:
-    /// real scores take 5 % fewer instructions by it.
+    /// long words take 5 % fewer instructions by it, and real scores 2 %.
     fn letter(&mut self, c: char, out: &mut Room<TextEvent>)
         requires fits { Fits out.old 5 }
         requires between { self.old.state ≡ TokenState.Plain }
