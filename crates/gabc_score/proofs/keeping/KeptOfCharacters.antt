@@ -31,11 +31,11 @@ use Rattle.gabc_body.proofs.texts_of_body.SeamsOfCharacters.{size, size_append}
 abbrev kept_now : Reading → ℕ
 kept_now r = size (r.before ++ r.kept)
 
--- at most so many bytes
+-- The kept text of a syllable has at most `n` bytes.
 abbrev IsShort : ℕ → UnplacedSyllable → Type 0
 IsShort n m = length m.kept ≤ n
 
--- at most so many bytes are kept of the syllable that is read, and of each one before it
+-- The kept text of the current syllable, and of each one before it, has at most `n` bytes.
 record Keeps (n : ℕ) (b : BodyRead) : Type 0 where
   now : kept_now b.reading ≤ n
   made : All (IsShort n) b.made
