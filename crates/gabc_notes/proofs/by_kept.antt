@@ -4,3 +4,4 @@ pub mod NotesMacros
 pub mod NotesSound
 pub mod NotesViable
 pub mod NotesWalk
+pub mod SoundsHaveLetters

@@ -1,6 +1,7 @@
 //! The items of a kept text.
 
 ghost use Rattle.std.specs.Prelude.{◌≡◌, ◌≤◌, ◌<◌, codes, length, IfOk, IfSome, IfNone, IsTrue, IsUtf8, None};
+ghost use Rattle.std.specs.List.{list_any};
 ghost use Rattle.std.specs.Str.{chars};
 ghost use Rattle.gabc_patterns.specs.Pattern.{is_in};
 ghost use Rattle.gabc_patterns.specs.Function.{longest_item};
@@ -8,7 +9,7 @@ ghost use Rattle.gabc_places.specs.BoundedList.{Fits, extended_by};
 ghost use Rattle.gabc_notes.specs.FirstNoteOrClef.{is_note_or_clef as note_or_clef, first_note_or_clef as first_of};
 ghost use Rattle.gabc_notes.specs.Items.{items_of, AreItemsOf, AreWithin};
 ghost use Rattle.gabc_notes.specs.Table.{gabc};
-ghost use Rattle.gabc_notes.specs.machine.Items.{IsFirstItem};
+ghost use Rattle.gabc_notes.specs.machine.Items.{IsFirstItem, is_from_a_to_p as from_a_to_p};
 
 use crate::class::class_of;
 use crate::item::{Item, ItemKind, Items};
@@ -213,11 +214,28 @@ fn is_note_or_clef(kind: ItemKind) -> bool
     }
 }
 
+/// Returns whether `c` is a letter from a to p, small or capital.
+fn is_from_a_to_p(c: char) -> bool
+    ensures { result ≡ from_a_to_p c }
+{
+    matches!(c, 'a'..='p' | 'A'..='P')
+}
+
+/// Returns whether `kept` has a letter from a to p: if not, it has neither a note nor a clef.
+fn may_sound(kept: &str) -> bool
+    ensures { result ≡ list_any from_a_to_p (chars kept.now) }
+{
+    kept.chars().any(|c| is_from_a_to_p(c))
+}
+
 /// Returns the kind of the first note or clef among the items of `kept`, as `items_in` returns
 /// them; `None`, if neither is among them. It does not allocate.
 pub fn first_note_or_clef(kept: &str) -> Option<ItemKind>
     ensures { result ≡ first_of (items_of kept.now) }
 {
+    if !may_sound(kept) {
+        return None;
+    }
     for item in items_in(kept) {
         if is_note_or_clef(item.kind) {
             return Some(item.kind);
