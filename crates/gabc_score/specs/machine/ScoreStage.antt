@@ -24,7 +24,7 @@ use Rattle.gabc_body.specs.witness.BodyBuilder.{with_all, code_in, end_fault, en
 use Rattle.gabc_body.specs.witness.Gatherer.{Gathered, nothing_gathered, with_last}
 
 -- The place of the next character, and what was gathered: of the syllables made, those not given
--- yet, of which the last is held. And whether one was borrowed before.
+-- yet, of which the last is held. And whether a syllable is before them.
 pub record HeldScore : Type 0 where
   pub next : Place
   pub gathered : Gathered
