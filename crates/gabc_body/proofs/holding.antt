@@ -1,7 +1,7 @@
 pub mod PartsAreAUnit
 pub mod ScoreHoldsParts
 pub mod SeamsOfText
-pub mod SnippetsAreHeld
+pub mod SnippetsLieInKeptText
 pub mod SpansBetweenCharacters
 pub mod SyllableHoldsPartByPart
 pub mod SyllablesHoldParts

@@ -1,4 +1,4 @@
 pub mod GabcEmitsThroughEnd
 pub mod NabcEmitsThroughEnd
 pub mod SnippetEmitsThroughEnd
-pub mod SnippetsEndAlike
+pub mod GrammarEmitsThroughEnd

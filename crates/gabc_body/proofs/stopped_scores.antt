@@ -1,6 +1,6 @@
 pub mod ClosedWithin
 pub mod NothingIsKeptAtTheEnd
-pub mod PrefixesAreReadAlike
+pub mod PrefixHasTheSameUnits
 pub mod ScoreOfThePrefix
 pub mod StoppedScoreIsThatOfItsPrefix
 pub mod StoppedScores

@@ -2,4 +2,4 @@ pub mod BodyFits
 pub mod SeamsOfCharacters
 pub mod SlicesOfTexts
 pub mod TextEmitsThroughEnd
-pub mod ViewStandsInLongerText
+pub mod LongerTextKeepsView

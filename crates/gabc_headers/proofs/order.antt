@@ -1,3 +1,3 @@
 pub mod FindingsLieBeforeBody
-pub mod FindingsStandInOrder
+pub mod FindingsAreInOrder
 pub mod FoundBeforeAPoint

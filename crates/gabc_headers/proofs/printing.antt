@@ -1,4 +1,4 @@
-pub mod BookStandsAgain
+pub mod BookIsThatOfItsEntries
 pub mod EntriesAreTrimmed
 pub mod LinesOfTexts
 pub mod MarksInTexts

@@ -3,7 +3,7 @@ pub mod BytesThroughADecoder
 pub mod CharactersOfAStage
 pub mod EventsOfAStage
 pub mod HeadersTakeThreeBytes
-pub mod HeldTextGrows
-pub mod HeldTextIsHeldAgain
-pub mod HeldTextIsWithinItsLimit
+pub mod FindingsOfPendingHeadersGrow
+pub mod PendingHeadersRoundTrip
+pub mod PendingHeadersAreWithinLimit
 pub mod MachineTakesText

@@ -1,6 +1,6 @@
 pub mod HeadsByEnding
 pub mod LargerLimits
-pub mod HeldAlike
+pub mod SufficientLimitsGiveSameHeaders
 pub mod MachineEndsAtStop
 pub mod PointsOfStops
 pub mod TextTooLong

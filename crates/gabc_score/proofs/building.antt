@@ -1,5 +1,5 @@
 pub mod CountsOfParts
-pub mod EventsAreHeld
+pub mod EventsAreGatheredInTurn
 pub mod EventsOfSnippets
 pub mod PartsEndLines
 pub mod PartsKeepOn
@@ -9,7 +9,7 @@ pub mod PartsKeepOnly
 pub mod PartsOfKeptNotes
 pub mod PartsOfKeptText
 pub mod PartsOpenOn
-pub mod PartsStandOn
+pub mod PartsTrackPlaces
 pub mod SnippetsTakeCharacters
 pub mod SpansOfParts
 pub mod SyllableEndsLast

@@ -2,7 +2,7 @@ pub mod AnyTextIsRead
 pub mod EndsOfParts
 pub mod KeptAgainIsReported
 pub mod KeptIsKeptAgain
-pub mod OpenersStandAnywhere
+pub mod OpenersCanBeMoved
 pub mod PartsKeepOne
 pub mod PartsTakeCharacters
 pub mod ReadByDefinition

@@ -4,7 +4,7 @@ pub mod NextIsKept
 pub mod OpenersAreReported
 pub mod PartsAreOne
 pub mod PartsReadAgain
-pub mod SameButHeld
+pub mod OutputDiffersOnlyInPendingSyllable
 pub mod ScoresAgree
 pub mod StagesAgree
 pub mod StagesMove

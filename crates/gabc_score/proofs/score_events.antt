@@ -7,11 +7,11 @@ pub mod CountsGoOn
 pub mod FewAndShortAreLent
 pub mod FrontIsFirst
 pub mod HeadersMayCome
-pub mod GivenIsHeld
-pub mod HeldSyllableIsText
-pub mod HeldScoreIsDefinition
-pub mod HeldSyllables
-pub mod HeldWithinLimits
+pub mod OnlyPendingSyllableIsLeft
+pub mod PendingSyllableIsText
+pub mod EmittedScoreMeetsDefinition
+pub mod GivenSyllablesCanBeDropped
+pub mod GatheredStaysWithinLimits
 pub mod LastHasNoNotes
 pub mod MovedStageReportsText
 pub mod NoStopWhereInputsCease
@@ -27,6 +27,6 @@ pub mod TextsAreReadInFull
 pub mod ReportIsWithinLimits
 pub mod WhatIsRead
 pub mod WhatPrecedes
-pub mod UnitsAreHeld
+pub mod PendingSyllableHoldsUnit
 pub mod WholeSyllables
 pub mod GivesOutside

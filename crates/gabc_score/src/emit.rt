@@ -87,21 +87,21 @@ fn give_lent(count: usize, out: &mut Room<ScoreEvent>)
 }
 
 /// Emits the findings of a point, and the held syllable if another has become whole, which is held
-/// from then on. `has_lent` says whether there is a syllable before it. Returns whether a syllable
-/// was emitted.
+/// from then on. `is_preceded` says whether there is a syllable before it. Returns whether a
+/// syllable was emitted.
 pub(crate) fn give_point(
     pair: &mut SlotPair,
-    has_lent: bool,
+    is_preceded: bool,
     found: &mut Room<Finding>,
     out: &mut Room<ScoreEvent>,
 ) -> bool
     requires few { length found.old.items ≤ 9 }
     requires fits { Fits out.old 16 }
-    ensures { GivesPoint has_lent pair.old found.old result pair.new found.new out.old out.new }
+    ensures { GivesPoint is_preceded pair.old found.old result pair.new found.new out.old out.new }
 {
     give_found(found.slice(), out);
     found.clear();
-    let count = pair.rotate(has_lent);
+    let count = pair.rotate(is_preceded);
     give_lent(count, out);
     count > 0
 }
@@ -109,29 +109,29 @@ pub(crate) fn give_point(
 /// Emits the held syllable as the last one, and the fault that stops the score.
 pub(crate) fn give_stop(
     pair: &mut SlotPair,
-    has_lent: bool,
+    is_preceded: bool,
     fault: Fault,
     out: &mut Room<ScoreEvent>,
 )
     requires used { pair.old.used ≢ SlotUse.Lent }
     requires fits { Fits out.old 16 }
-    ensures { let held = placed_after has_lent pair.old.held in
+    ensures { let held = placed_after is_preceded pair.old.held in
         GivesAsLast pair.old (outputs_of [] held ++ Stop fault ∷ []) held 1
         out.old out.new pair.new }
 {
-    let count = pair.give_held(has_lent);
+    let count = pair.give_held(is_preceded);
     give_lent(count, out);
     out.push(ScoreEvent::Stop(fault));
 }
 
 /// Emits the held syllable as the last one, after the source has failed.
-pub(crate) fn give_broken(pair: &mut SlotPair, has_lent: bool, out: &mut Room<ScoreEvent>)
+pub(crate) fn give_broken(pair: &mut SlotPair, is_preceded: bool, out: &mut Room<ScoreEvent>)
     requires used { pair.old.used ≢ SlotUse.Lent }
     requires fits { Fits out.old 16 }
-    ensures { let held = placed_after has_lent pair.old.held in
+    ensures { let held = placed_after is_preceded pair.old.held in
         GivesAsLast pair.old (outputs_of [] held) held 1 out.old out.new pair.new }
 {
-    let count = pair.give_held(has_lent);
+    let count = pair.give_held(is_preceded);
     give_lent(count, out);
 }
 
@@ -139,7 +139,7 @@ pub(crate) fn give_broken(pair: &mut SlotPair, has_lent: bool, out: &mut Room<Sc
 /// `has_last` says whether a last text is a syllable.
 pub(crate) fn give_end(
     pair: &mut SlotPair,
-    has_lent: bool,
+    is_preceded: bool,
     has_last: bool,
     at: Place,
     found: &[Finding],
@@ -149,7 +149,7 @@ pub(crate) fn give_end(
     requires few { length found.now ≤ 8 }
     requires fits { Fits out.old 16 }
     ensures { let g = pair.old.gathered in
-        let made = placed_after has_lent g.made in
+        let made = placed_after is_preceded g.made in
         GivesAsLast pair.old
         (outputs_of (found.now ++ end_findings at has_last (g.eu || g.nlba)) made ++ End ∷ [])
         made 2 out.old out.new pair.new }
@@ -157,7 +157,7 @@ pub(crate) fn give_end(
     give_found(found, out);
     give_code(has_last, at, Code::W9, out);
     give_code(pair.has_open(), at, Code::W11, out);
-    let count = pair.give_all(has_lent);
+    let count = pair.give_all(is_preceded);
     give_lent(count, out);
     out.push(ScoreEvent::End);
 }

@@ -12,7 +12,7 @@ ghost use Rattle.gabc_score.specs.RegularSyllable.{SyllableParts, IsRegularSylla
 ghost use Rattle.gabc_body.specs.Syllable.{UnplacedSyllable, since_close};
 ghost use Rattle.gabc_body.specs.declared.before.Spans.{Spans};
 ghost use Rattle.gabc_body.specs.declared.events.BodyEvent.{BodyEvent};
-ghost use Rattle.gabc_score.specs.machine.Between.{Makes};
+ghost use Rattle.gabc_score.specs.machine.Between.{ReadsAlike};
 ghost use Rattle.gabc_body.specs.SyllablesOfUnits.{characters_in};
 
 /// Law: a regular syllable is read as it is written, wherever it begins, whatever macros are
@@ -88,7 +88,7 @@ pub(crate) fn a_regular_syllable_goes_through()
     ensures { (lines macros : ℕ) (at : Place) (r : SyllableParts) (spans : Spans) →
         IsRegularSyllable lines r → CountsFit at (spelled r) →
         length (encode_utf8_all (spelled r)) < 2 ^ 63 →
-        (m : UnplacedSyllable) × Makes lines macros at r spans m }
+        (m : UnplacedSyllable) × ReadsAlike lines macros at r spans m }
 {
     a_stage_reads_a_regular_syllable_as_it_stands();
     a_regular_syllable_makes_its_spelling();

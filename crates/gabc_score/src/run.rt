@@ -8,7 +8,7 @@ ghost use Rattle.gabc_score.specs.SpelledSyllable.{IsSpelling, Spells};
 ghost use Rattle.gabc_score.specs.machine.RegularLen.{BeginsRegularly, IsPlainByte};
 ghost use Rattle.gabc_body.specs.Syllable.{PlacedSyllable, UnplacedSyllable};
 ghost use Rattle.gabc_score.specs.RegularSyllable.{with_lines};
-ghost use Rattle.gabc_score.specs.machine.Run.{EndsRun, GoesBefore, IsFound, IsSamePair, IsSpelledBy, IsSteady, SpellsFound, StandsBetween, RunsTo, RunsMore, TakesRun, before_by, canonical_length, len_of, mark_of, sounds_among};
+ghost use Rattle.gabc_score.specs.machine.Run.{EndsRun, GoesBefore, IsFound, IsSamePair, IsSpelledBy, KeepsFirstSound, SpellsFound, IsBetweenSyllables, RunsTo, RunsMore, TakesRun, before_by, canonical_length, len_of, mark_of, sounds_among};
 ghost use Rattle.gabc_score.specs.machine.ScoreMachine.{has_given, IsScore, IsShort};
 
 use crate::body_stage::BodyPart;
@@ -204,19 +204,19 @@ impl<'a> Reached<'a> {
 }
 
 impl SlotPair {
-    /// Gives the held syllable its position in its word. `has_lent` says whether there is a
+    /// Gives the held syllable its position in its word. `is_preceded` says whether there is a
     /// syllable before it, and `next_starts` whether the next one begins a word.
-    fn place_held(&mut self, has_lent: bool, next_starts: bool)
+    fn place_held(&mut self, is_preceded: bool, next_starts: bool)
         requires used { self.old.used ≡ SlotUse.Filling }
         ensures gathered { self.new.gathered ≡ self.old.gathered }
         ensures used { self.new.used ≡ SlotUse.Filling }
         ensures first { (m : UnplacedSyllable) → self.old.gathered.made ≡ m ∷ [] →
             self.new.first ≡ record {
               made = m;
-              position = position_by (not has_lent || m.text.word_start) next_starts;
+              position = position_by (not is_preceded || m.text.word_start) next_starts;
             } }
     {
-        self.holder.place(has_lent, next_starts);
+        self.holder.place(is_preceded, next_starts);
     }
 
     /// Drops the held syllable. `total` is the number of canonical bytes before the next one, and
@@ -242,7 +242,7 @@ impl ScoreMachine {
     /// begins at `at`.
     fn is_between(&self, at: Place) -> bool
         requires rests { IsScore self.now }
-        ensures { result ≡ true → StandsBetween self.now at }
+        ensures { result ≡ true → IsBetweenSyllables self.now at }
     {
         let ScorePart::Body = self.part else {
             return false;
@@ -263,7 +263,7 @@ impl ScoreMachine {
             (len_of found.now) }
         ensures { result ≡ false → (is : BeginsRegularly lines
             (found.now.spelled.now ++ found.now.rest.now) (len_of found.now)) →
-            IsSteady lines self.now.pair.gathered.first_kind is.syllable }
+            KeepsFirstSound lines self.now.pair.gathered.first_kind is.syllable }
     {
         if self.pair.has_sounded() {
             return false;

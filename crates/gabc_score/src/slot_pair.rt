@@ -393,12 +393,12 @@ impl SlotPair {
     }
 
     /// Emits the held syllable if the one that was read is whole, which is held from then on.
-    /// `has_lent` says whether there is a syllable before it. Returns the number of syllables
+    /// `is_preceded` says whether there is a syllable before it. Returns the number of syllables
     /// emitted, 0 or 1.
-    pub(crate) fn rotate(&mut self, has_lent: bool) -> usize
+    pub(crate) fn rotate(&mut self, is_preceded: bool) -> usize
         ensures gathered { self.new.gathered ≡ with_held self.old.gathered }
         ensures lends { lent_syllables result self.new ≡ take (length self.old.gathered.made - 1)
-            (placed_after has_lent self.old.gathered.made) }
+            (placed_after is_preceded self.old.gathered.made) }
         ensures most { result ≤ 1 }
         ensures some { nat_lt 0 result ≡ nat_lt 1 (length self.old.gathered.made) }
         ensures used { is_made self.new.used ≡ false }
@@ -410,7 +410,7 @@ impl SlotPair {
         swap(&mut self.reader, &mut self.holder);
         swap(&mut self.reader_from, &mut self.holder_from);
         if self.held {
-            self.reader.place(has_lent, next_starts);
+            self.reader.place(is_preceded, next_starts);
             self.used = SlotUse::Lent;
             1
         } else {
@@ -421,33 +421,33 @@ impl SlotPair {
         }
     }
 
-    /// Emits the held syllable as the last one. `has_lent` says whether there is a syllable before
-    /// it. Returns the number of syllables emitted, 0 or 1.
-    pub(crate) fn give_held(&mut self, has_lent: bool) -> usize
+    /// Emits the held syllable as the last one. `is_preceded` says whether there is a syllable
+    /// before it. Returns the number of syllables emitted, 0 or 1.
+    pub(crate) fn give_held(&mut self, is_preceded: bool) -> usize
         requires { self.old.used ≢ SlotUse.Lent }
-        ensures { LendsLast self.old (placed_after has_lent self.old.held) 1 result self.new }
+        ensures { LendsLast self.old (placed_after is_preceded self.old.held) 1 result self.new }
     {
-        self.holder.place(has_lent, true);
+        self.holder.place(is_preceded, true);
         if self.held { 1 } else { 0 }
     }
 
-    /// Emits the held syllable, and after it the one that was made last. `has_lent` says whether
+    /// Emits the held syllable, and after it the one that was made last. `is_preceded` says whether
     /// there is a syllable before it. Returns the number of syllables emitted, at most 2.
-    pub(crate) fn give_all(&mut self, has_lent: bool) -> usize
+    pub(crate) fn give_all(&mut self, is_preceded: bool) -> usize
         requires { self.old.used ≢ SlotUse.Lent }
-        ensures { LendsLast self.old (placed_after has_lent self.old.gathered.made) 2
+        ensures { LendsLast self.old (placed_after is_preceded self.old.gathered.made) 2
             result self.new }
     {
         let SlotUse::Made = self.used else {
-            return self.give_held(has_lent);
+            return self.give_held(is_preceded);
         };
         if self.held {
             let next_starts = self.starts();
-            self.holder.place(has_lent, next_starts);
+            self.holder.place(is_preceded, next_starts);
             self.reader.place(true, true);
             2
         } else {
-            self.reader.place(has_lent, true);
+            self.reader.place(is_preceded, true);
             swap(&mut self.reader, &mut self.holder);
             swap(&mut self.reader_from, &mut self.holder_from);
             1

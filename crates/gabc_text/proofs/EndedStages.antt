@@ -14,7 +14,7 @@ use Rattle.gabc_text.specs.machine.TextStage.{token_stage, settle_stage, settle_
 use Rattle.gabc_text.specs.witness.StageReports.{next_of}
 use Rattle.gabc_text.proofs.resuming.EndsAndKept.{done_is}
 use Rattle.gabc_text.proofs.resuming.ReachedStages.{goes_on}
-use Rattle.gabc_text.proofs.resuming.ToldByEvents.{opener_over, comment_over}
+use Rattle.gabc_text.proofs.resuming.EndedAndFreshStagesHaveNothingOpen.{opener_over, comment_over}
 use Rattle.gabc_text.proofs.resuming.WhatStagesTell.{next_goes}
 use Rattle.gabc_text.specs.machine.TokenState.{settled_kind, next_step, kind_at_end, is_plain}
 

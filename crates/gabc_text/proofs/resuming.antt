@@ -1,12 +1,12 @@
 pub mod EndsAndKept
 pub mod KeptCharactersSuffice
-pub mod KeptStandsFromNext
+pub mod NextPlaceDeterminesKeptPlaces
 pub mod KeptTextGivesStage
 pub mod KeptTextIsSaidInFull
 pub mod PlacesAside
 pub mod ReachedStages
 pub mod StagesKeep
 pub mod StagesTake
-pub mod ToldByEvents
-pub mod ToldSuffices
+pub mod EndedAndFreshStagesHaveNothingOpen
+pub mod ReportDeterminesOutput
 pub mod WhatStagesTell

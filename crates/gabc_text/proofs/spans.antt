@@ -1,2 +1,2 @@
 pub mod CentreLiesAmongPieces
-pub mod SpansStandForView
+pub mod ViewSpansGiveItsContent

@@ -45,7 +45,7 @@ use Rattle.gabc_tree.proofs.not_kept_nodes.FewBytes.{joined_bytes}
 use Rattle.gabc_tree.proofs.not_kept_nodes.InPlace.{InRow, row_nested, from_row, joined_row}
 use Rattle.gabc_tree.proofs.placed_nodes.Fronts.{is_front}
 use Rattle.gabc_tree.proofs.placed_nodes.PlacedNested.{closed, kept_closes, left_after}
-use Rattle.gabc_tree.proofs.syllables.HeldSnippets.{in_order}
+use Rattle.gabc_tree.proofs.syllables.SnippetsAreInOrder.{in_order}
 use Rattle.gabc_tree.proofs.syllables.KeptSyllables.{AreSound, bytes_of, body_end_is, body_kept, moved_kept}
 
 -- ---- the file

@@ -1,6 +1,6 @@
 pub mod TextsFit
 pub mod TextsOfSpans
 pub mod KeptSyllables
-pub mod HeldSnippets
+pub mod SnippetsAreInOrder
 pub mod SlicesOfSyllables
 pub mod SpelledSlices

@@ -1,7 +1,7 @@
 pub mod CanonicalTextIsPrintedSyllable
 pub mod CanonicalTextsArePrinted
-pub mod EquivalentSyllablesAreWrittenAlike
-pub mod HeldSyllableRoundTrips
+pub mod EquivalentSyllablesHaveSameOutput
+pub mod PendingSyllableRoundTrips
 pub mod NoErrorIsFoundAgain
 pub mod NoLimitIsPassedAgain
 pub mod PartsEndAtTheirMarks
@@ -13,7 +13,7 @@ pub mod ScoreIsPrinted
 pub mod ScoreReadAgainIsTheSame
 pub mod SnippetsAreReadAgain
 pub mod StageHoldsAgain
-pub mod SyllableIsHeldByItsText
+pub mod TextDeterminesPendingSyllable
 pub mod SyllableIsReadFromItsText
 pub mod SyllablesHoldUnits
 pub mod SyllablesOfOneTextAreEquivalent

@@ -15,13 +15,13 @@ use Rattle.gregorio.specs.declared.run_ending.RunEnding.{RunEnding}
 use Rattle.gregorio.specs.witness.Engine.{Written, after_output, after_outputs, ceased_ending, ceased_text, ended_by, lines_of_outputs, streams_in, texts_of_outputs}
 use Rattle.gregorio.specs.machine.InStep.{TakesEvent}
 use Rattle.gregorio.specs.machine.RunWriter.{RunWriterState, HasRoomFor, IsInRoom, last_room, line_room, lines_room, past_end, past_outputs, syllable_room, texts_room}
-use Rattle.gregorio.specs.machine.ScoreWriter.{ScoreWriterState, FitsEvents, IsSilent, IsSteady, WritesLast, event_room, needed_in, outputs_of_events}
+use Rattle.gregorio.specs.machine.ScoreWriter.{ScoreWriterState, FitsEvents, IsSilent, KeepsJobAndRooms, WritesLast, event_room, needed_in, outputs_of_events}
 use Rattle.gregorio.proofs.PassedInHeads.{passed_in_heads}
 use Rattle.gregorio.proofs.OutputsOfEvents.{as_many_emitted, emitted_is, ends_at_last, nothing_left}
 use Rattle.gregorio.proofs.RoomForAnEvent.{event_has_room, event_in_room, lines_within, needed_for, nothing_over, one_within, room_after}
 use Rattle.gregorio.proofs.StreamsOfOutputs.{EndsAtLast, headed_stays, job_stays}
 use Rattle.gabc_places.proofs.NothingAfterAnEnd.{both_empty}
-use Rattle.gregorio.proofs.pieces.WrittenGoesOn.{steady_past}
+use Rattle.gregorio.proofs.pieces.WriterKeepsPaceWithScore.{steady_past}
 
 -- ---- the outputs
 
@@ -181,5 +181,5 @@ module _ (score mid : ScoreStageState) (writer : RunWriterState) (now : ScoreWri
             ∙ ap (λ (text : List ℕ). record (ended_by how) { output = text; messages = lines ++ [] }) (sym (append-nil (texts ++ last)))));
       })
 
-  pub last_is_steady : (new : RunWriterState) → new ≡ past_end (past_outputs writer (outputs_of_events mid events)) → IsSteady now (record { score = mid; writer = new })
+  pub last_is_steady : (new : RunWriterState) → new ≡ past_end (past_outputs writer (outputs_of_events mid events)) → KeepsJobAndRooms now (record { score = mid; writer = new })
   last_is_steady new writes = grind (arith, job_stays)

@@ -15,7 +15,7 @@ use Rattle.gregorio.specs.machine.ScoreWriter.{IsReserved, IsShortBook, ScoreWri
 use Rattle.gregorio.proofs.pieces.HeadersAreRead.{no_heads_are_short}
 use Rattle.gregorio.proofs.pieces.PartsStayInStep.{fresh_in_step}
 use Rattle.gregorio.proofs.pieces.TextOfHeaders.{fresh_reads}
-use Rattle.gregorio.proofs.pieces.TellsInStepOn.{fresh_tells}
+use Rattle.gregorio.proofs.pieces.ScoreStaysInSync.{fresh_tells}
 
 pub begins : (v : Written) (limits : Limits) (d : DecoderState) (h : HeaderStageState) (from_heads : BoundedList HeadEvent) (s : ScoreWriterState)
     → ((limits : Limits) → IsHeld limits []) → 2 ≤ from_heads.limit → d ≡ fresh_decoder limits.input → h ≡ fresh_stage limits h.hasher → s.writer.written ≡ begun_again v

@@ -17,7 +17,7 @@ use Rattle.gregorio_jobs.specs.declared.job.Format.{Format}
 use Rattle.gabc_score.specs.ScoreStage.{Lends, is_final, most_borrowed, part_past}
 use Rattle.gregorio.specs.witness.Engine.{first_list}
 use Rattle.gregorio.specs.machine.RunWriter.{RunWriterState, IsInRoom, HasRoomFor, heads_room, line_room, lines_room, texts_room, syllable_len, syllable_room, room_without_notes, last_room}
-use Rattle.gregorio.specs.machine.ScoreWriter.{ScoreWriterState, FitsEvents, IsSteady, event_room, events_room, heads_left, needed_in}
+use Rattle.gregorio.specs.machine.ScoreWriter.{ScoreWriterState, FitsEvents, KeepsJobAndRooms, event_room, events_room, heads_left, needed_in}
 use Rattle.gregorio.proofs.StreamsOfOutputs.{EndsAtLast}
 
 -- ---- numbers
@@ -150,12 +150,12 @@ event_has_room P old x outputs h lends few ends none =
     let more = needed_more old.score.part one (events_room format limit false (x ∷ [])) (omega arith) in
     more_room old.score.limits _ _ _ _ old.writer outputs (omega (arith, h.lines)) (omega (arith, h.texts, more)) (event_in_room P old x outputs lends few ends none)
 
-heads_same : (old new : ScoreWriterState) → IsSteady old new → new.writer.written.headed ≡ old.writer.written.headed
+heads_same : (old new : ScoreWriterState) → KeepsJobAndRooms old new → new.writer.written.headed ≡ old.writer.written.headed
     → heads_left new.writer.written new.score.limits.header ≡ heads_left old.writer.written old.score.limits.header
 heads_same old new steady headed = λ i. if headed i then 0 else heads_room (steady.format i) (steady.limits i).header
 
 -- after an event there is room for those that follow
-pub room_after : (old new : ScoreWriterState) (x : HeadEvent) (outputs : List ScoreOutput) (ends : Bool) (events : List HeadEvent) → IsSteady old new → new.writer.written.headed ≡ old.writer.written.headed
+pub room_after : (old new : ScoreWriterState) (x : HeadEvent) (outputs : List ScoreOutput) (ends : Bool) (events : List HeadEvent) → KeepsJobAndRooms old new → new.writer.written.headed ≡ old.writer.written.headed
     → new.score.part ≡ part_past old.score.part x outputs → ((old.score.part ≡ score_part.Over → ⊥) → is_final x ≡ true → list_any is_last outputs ≡ true)
     → IsInRoom old.score.limits (length old.writer.messages.items + 16 * line_room old.writer.written.name)
     (length old.writer.out.items + needed_in old.score.part (event_room old.writer.written.format old.score.limits.syllable x)) new.writer []

@@ -7,7 +7,7 @@ use Rattle.gregorio_state.specs.Fields.{PhaseFields, StateFields}
 use Rattle.gregorio.specs.SavedState.{AreOfState, IsPhaseRead, ReportsLimits}
 use Rattle.gregorio.specs.machine.Restored.{StandIn, StandSo}
 use Rattle.gregorio.specs.machine.Restoring.{AreFieldsIn}
-use Rattle.gregorio.proofs.LimitsAreTold.{told_once}
+use Rattle.gregorio.proofs.ReportedLimitsAreUnique.{told_once}
 
 module _ (s : StateFields) (own : Limits) (tells : ReportsLimits s own) (phase : PhaseFields) (in_phase : AreFieldsIn phase s) where
   is : s.phase ≡ phase

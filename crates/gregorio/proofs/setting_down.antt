@@ -1,5 +1,5 @@
 -- A stage over a score is restored from the fields of a state.
-pub mod HeldTextIsReadAgain
+pub mod PendingTextIsReadIfItRoundTrips
 pub mod KeptAsReported
 pub mod KeptIsRead
 pub mod StateIsRead

@@ -18,4 +18,4 @@ pub mod SettingDown
 pub mod SavedAlike
 pub mod Taking
 pub mod Telling
-pub mod TellsInStep
+pub mod InSync

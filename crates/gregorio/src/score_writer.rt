@@ -14,10 +14,10 @@ ghost use Rattle.gabc_score.specs.witness.ScoreStage.{left_of};
 ghost use Rattle.gabc_score.specs.declared.score_machine.ScorePart.{ScorePart};
 ghost use Rattle.gregorio.specs.machine.ClefInForce.{HasClefOfSounds};
 ghost use Rattle.gregorio.specs.machine.InStep.{HasForce, TakesEvent};
-ghost use Rattle.gregorio.specs.machine.TellsInStep.{BeginsBody};
+ghost use Rattle.gregorio.specs.machine.InSync.{BeginsBody};
 ghost use Rattle.gabc_score.specs.ScoreReports.{IsInFront};
 ghost use Rattle.gregorio.specs.machine.RunWriter.{HasRoomFor, IsInRoom, TakesRuns, heads_at, past_output, past_outputs};
-ghost use Rattle.gregorio.specs.machine.ScoreWriter.{output_of_event, outputs_of_events, IsOver, IsShortBook, begun_again, emptied, fresh_writer, IsReserved, IsSteady, FitsEvents, WritesLast, WritesRun};
+ghost use Rattle.gregorio.specs.machine.ScoreWriter.{output_of_event, outputs_of_events, IsOver, IsShortBook, begun_again, emptied, fresh_writer, IsReserved, KeepsJobAndRooms, FitsEvents, WritesLast, WritesRun};
 
 use crate::run_ending::RunEnding;
 use crate::run_writer::RunWriter;
@@ -112,7 +112,7 @@ impl ScoreWriter {
     pub(crate) fn restart(&mut self)
         ensures fresh { self.new.writer.written ≡ begun_again self.old.writer.written }
         ensures part { self.new.score.part ≡ ScorePart.Heads }
-        ensures steady { IsSteady self.old self.new }
+        ensures steady { KeepsJobAndRooms self.old self.new }
         ensures empty { self.new ≡ emptied self.new }
         ensures score { (xs : List HeadItem) → AreCountsBelow xs →
             left_of self.new.score xs ≡ score_outputs texts_by_stage self.old.score.limits xs }
@@ -203,7 +203,7 @@ impl ScoreWriter {
         ensures plain { All IsPlain (chars (take result.bytes text.now)) }
         ensures next { result.next ≡ place_past at (chars (take result.bytes text.now)) }
         ensures writes { WritesRun self.old at (chars (take result.bytes text.now)) self.new }
-        ensures steady { IsSteady self.old self.new }
+        ensures steady { KeepsJobAndRooms self.old self.new }
     {
         gabc_write::laws::where_nothing_sounds_the_clef_stays();
         self.events.clear();
@@ -216,7 +216,7 @@ impl ScoreWriter {
     pub(crate) fn finish(&mut self) -> RunEnding
         requires room { FitsEvents self.old true [] }
         ensures writes { WritesLast self.old self.new result }
-        ensures steady { IsSteady self.old self.new }
+        ensures steady { KeepsJobAndRooms self.old self.new }
         ensures over { IsOver self.new.writer.written self.new.score result }
         ensures force { HasForce self.old.writer.written → HasForce self.new.writer.written }
     {

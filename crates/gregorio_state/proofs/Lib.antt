@@ -1,7 +1,7 @@
 mod AltersAreRead
 mod FieldsAreRead
 mod FieldsAreTested
-mod HeldTexts
+mod OwnPendingTextKeepsFields
 mod LengthsOfStates
 mod NumbersAreRead
 mod PartsAreWritten

@@ -43,10 +43,10 @@ use Rattle.gabc_body.proofs.gathering.BuilderHoldsDefinition.{gathered}
 use Rattle.gabc_body.proofs.gathering.EventsOfOnePoint.{gathered_all}
 use Rattle.gabc_body.proofs.emitted.EventsOfSyllableParts.{onto_append}
 use Rattle.gabc_body.proofs.by_kept.BodyByKept.{body_by_kept}
-use Rattle.gabc_body.proofs.by_kept.BodyStandsRead.{step, kept_stands}
-use Rattle.gabc_body.proofs.by_kept.EndStandsRead.{stopped_is}
+use Rattle.gabc_body.proofs.by_kept.BodyCharacterKeepsAgreement.{step, kept_stands}
+use Rattle.gabc_body.proofs.by_kept.ResultsAgreeAtEnd.{stopped_is}
 use Rattle.gabc_body.proofs.by_kept.PartsEndRead.{part_end}
-use Rattle.gabc_body.proofs.by_kept.ReadingStands.{Fits, Stands}
+use Rattle.gabc_body.proofs.by_kept.ReadingAgreesWithEvents.{Fits, Stands}
 use Rattle.gabc_body.proofs.order.FindingsOfParts.{found, found_append, found_onto}
 use Rattle.gabc_body.proofs.texts_of_body.BodyFits.{body_fits, bytes_encodes}
 

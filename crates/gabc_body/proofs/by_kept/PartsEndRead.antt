@@ -29,8 +29,8 @@ use Rattle.gabc_body.specs.witness.PartsByKept.{SnippetState, PartRead, InCommen
 use Rattle.gabc_body.specs.witness.TextsByKept.{view_past, SaysEnd, EndsBy}
 use Rattle.gabc_body.proofs.gathering.BuilderHoldsDefinition.{gathered}
 use Rattle.gabc_body.proofs.gathering.EventsOfOnePoint.{with_all_append}
-use Rattle.gabc_body.proofs.by_kept.EndStandsRead.{LastText, end_cut, end_whole}
-use Rattle.gabc_body.proofs.by_kept.ReadingStands.{Stands, state_of}
+use Rattle.gabc_body.proofs.by_kept.ResultsAgreeAtEnd.{LastText, end_cut, end_whole}
+use Rattle.gabc_body.proofs.by_kept.ReadingAgreesWithEvents.{Stands, state_of}
 use Rattle.gabc_body.proofs.by_kept.SnippetsAreGathered.{of_notes}
 use Rattle.gabc_body.proofs.by_kept.TextsAreGathered.{SpansStand, Grows, text_grows, texts_found}
 use Rattle.gabc_body.proofs.by_kept.TextsAreGathered as texts

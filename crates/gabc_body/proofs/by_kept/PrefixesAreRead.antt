@@ -31,8 +31,8 @@ use Rattle.gabc_body.specs.witness.TextsByKept.{GoesByKept, TextsGoByKept}
 use Rattle.gabc_body.proofs.gathering.BuilderHoldsDefinition.{gathered}
 use Rattle.gabc_body.proofs.gathering.EventsOfOnePoint.{gathered_all, with_all_append}
 use Rattle.gabc_body.proofs.by_kept.BodyByKept.{body_is}
-use Rattle.gabc_body.proofs.by_kept.BodyStandsRead.{step, kept_stands}
-use Rattle.gabc_body.proofs.by_kept.ReadingStands.{Fits, counts_fit, codes_placed, Stands}
+use Rattle.gabc_body.proofs.by_kept.BodyCharacterKeepsAgreement.{step, kept_stands}
+use Rattle.gabc_body.proofs.by_kept.ReadingAgreesWithEvents.{Fits, counts_fit, codes_placed, Stands}
 use Rattle.gabc_body.proofs.by_kept.TextsAreGathered.{SpansStand}
 use Rattle.gabc_body.proofs.order.FindingsOfParts.{found, found_append}
 

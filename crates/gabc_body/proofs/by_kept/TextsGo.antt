@@ -32,7 +32,7 @@ use Rattle.gabc_text.specs.witness.EmittedByKept.{Emitted, emitted, nothing, Tex
 use Rattle.gabc_text.specs.witness.TextByKept.{opens, ends}
 use Rattle.gabc_body.specs.Reading.{InText, no_place, found_at, inner_by}
 use Rattle.gabc_body.specs.witness.TextsByKept.{is_end, view_past, PiecesStand, Says, SaysEnd, TextGoes, GoesByKept, GoesIn, GoesBy, EndsBy, TextsGoByKept}
-use Rattle.gabc_body.proofs.by_kept.PiecesStandInKept.{kept_in_append, stand_parts, text_stands}
+use Rattle.gabc_body.proofs.by_kept.PiecesLieInKeptText.{kept_in_append, stand_parts, text_stands}
 
 -- ---- the last token of a kept text
 

@@ -7,7 +7,7 @@ use lib.Utf8.{encodes}
 use Rattle.gabc_places.specs.declared.place.Span.{Span}
 use Rattle.gabc_text.specs.ViewFacts.{StandsFor}
 use Rattle.gabc_body.proofs.holding.SeamsOfText.{text_is}
-use Rattle.gabc_body.proofs.holding.SnippetsAreHeld.{bytes_are_size}
+use Rattle.gabc_body.proofs.holding.SnippetsLieInKeptText.{bytes_are_size}
 use Rattle.gabc_body.proofs.texts_of_body.SeamsOfCharacters.{texts_begin}
 use Rattle.gabc_body.specs.Body.{empty_snippet}
 use Rattle.gabc_places.specs.declared.place.Char.{Char}

@@ -25,13 +25,13 @@ use Rattle.std.proofs.Math.Nat.{mod-eq_of_lt}
 use Rattle.std.proofs.Math.Numerals.{add-one}
 use Rattle.gabc_body.proofs.texts_of_body.SeamsOfCharacters.{size, size_append, cut_between}
 use Rattle.gabc_body.proofs.emitted.EventsOfSyllableParts.{Sum, sum_of, keeping, onto_append, notes_keep, notes_within, text_gathers, text_within}
-use Rattle.gabc_body.proofs.snippets_of_body.SnippetsEndAlike.{CutEmitted}
+use Rattle.gabc_body.proofs.snippets_of_body.GrammarEmitsThroughEnd.{CutEmitted}
 use Rattle.gabc_places.specs.declared.place.Char.{Char}
 use Rattle.gabc_text.specs.Events.{codes_of}
 use Rattle.gabc_body.proofs.texts_of_body.TextEmitsThroughEnd.{codes_append, TextEmitted, IsOpenEnd}
 use Rattle.gabc_text.specs.ViewFacts.{StandsForView}
-use Rattle.gabc_body.proofs.texts_of_body.ViewStandsInLongerText.{view_more}
-use Rattle.gabc_body.proofs.holding.SnippetsAreHeld.{whole_of, Placed, PlacedFrom, placed_push, all_held, next_turn, bracket_more}
+use Rattle.gabc_body.proofs.texts_of_body.LongerTextKeepsView.{view_more}
+use Rattle.gabc_body.proofs.holding.SnippetsLieInKeptText.{whole_of, Placed, PlacedFrom, placed_push, all_held, next_turn, bracket_more}
 use Rattle.gabc_body.proofs.snippets_of_body.SnippetEmitsThroughEnd.{LineEmitted}
 
 -- one thing more is emitted

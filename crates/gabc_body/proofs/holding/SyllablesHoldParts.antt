@@ -19,7 +19,7 @@ use Rattle.gabc_body.specs.Holding.{HoldsNoNotes, Holds, HoldsWithNotes}
 use Rattle.gabc_body.proofs.texts_of_body.SeamsOfCharacters.{size, size_append}
 use Rattle.gabc_body.proofs.emitted.EventsOfSyllableParts.{onto_append}
 use Rattle.gabc_body.proofs.texts_of_body.TextEmitsThroughEnd.{codes_append, text_mark, text_ended, text_endless}
-use Rattle.gabc_body.proofs.snippets_of_body.SnippetsEndAlike.{IsMark}
+use Rattle.gabc_body.proofs.snippets_of_body.GrammarEmitsThroughEnd.{IsMark}
 use Rattle.gabc_body.proofs.snippets_of_body.SnippetEmitsThroughEnd.{line_emitted, line_cut}
 use Rattle.gabc_text.specs.ViewFacts.{StandsForView}
 use Rattle.gabc_text.specs.View.{kept}

@@ -13,7 +13,7 @@ use Rattle.gabc_notes.specs.declared.stage.NoteEvent.TheVariants as note
 use Rattle.gabc_notes.specs.SnippetRead.{kept_of, ends_of}
 use Rattle.gabc_notes.specs.Events.{is_in_raw, Point, in_raw, kept, is_comment, is_end, is_over, is_fused, is_unpaired, is_missing, item_at, macro_of, opener, finding_event, end_by_mark, bytes_of, warnings, at_end, cut_events, events_at, note_events_after}
 use Rattle.gabc_notes.specs.Ends.{IsMarkOf}
-use Rattle.gabc_body.proofs.snippets_of_body.SnippetsEndAlike.{Goes, Stops, Cuts, mark_is, Grammar, lists, run, few_one, keeps_none}
+use Rattle.gabc_body.proofs.snippets_of_body.GrammarEmitsThroughEnd.{Goes, Stops, Cuts, mark_is, Grammar, lists, run, few_one, keeps_none}
 
 abbrev point : List Char → Char → Point
 point back x = record { back = back; here = x }

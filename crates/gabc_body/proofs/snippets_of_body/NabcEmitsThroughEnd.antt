@@ -15,7 +15,7 @@ use Rattle.gabc_notes.specs.declared.stage.NoteEvent.{NoteEvent}
 use Rattle.gabc_notes.specs.declared.stage.NoteEvent.TheVariants as note
 use Rattle.gabc_notes.specs.SnippetRead.{kept_of as kept_in, ends_of}
 use Rattle.gabc_notes.specs.Ends.{IsMarkOf}
-use Rattle.gabc_body.proofs.snippets_of_body.SnippetsEndAlike.{Goes, Stops, Cuts, mark_is, Grammar, lists, run, few_one, keeps_none}
+use Rattle.gabc_body.proofs.snippets_of_body.GrammarEmitsThroughEnd.{Goes, Stops, Cuts, mark_is, Grammar, lists, run, few_one, keeps_none}
 
 -- ---- one character more
 

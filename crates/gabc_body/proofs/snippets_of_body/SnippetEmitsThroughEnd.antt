@@ -23,7 +23,7 @@ use Rattle.gabc_body.specs.Events.{InNotes, note_event, snippet_from}
 use Rattle.gabc_body.specs.Units.{Mark, events_through, Endless, EndsAfter}
 use Rattle.gabc_body.specs.Holding.{IsSnippetOf, kept_on_line}
 use Rattle.gabc_body.proofs.texts_of_body.SeamsOfCharacters.{size, size_append, size_is_sum}
-use Rattle.gabc_body.proofs.snippets_of_body.SnippetsEndAlike.{IsMark, is_mark_so, run, Grammar, Marks, EndEmitted, CutEmitted, lists, ended, endless}
+use Rattle.gabc_body.proofs.snippets_of_body.GrammarEmitsThroughEnd.{IsMark, is_mark_so, run, Grammar, Marks, EndEmitted, CutEmitted, lists, ended, endless}
 use Rattle.gabc_body.proofs.snippets_of_body.GabcEmitsThroughEnd.{run_gabc, gabc_grammar, emits_lists}
 use Rattle.gabc_body.proofs.snippets_of_body.NabcEmitsThroughEnd.{run_nabc, nabc_grammar, events_lists}
 

@@ -23,10 +23,10 @@ use Rattle.gabc_body.specs.Events.{PartAhead, InComment, InText, InNotes, is_nex
 use Rattle.gabc_body.specs.Units.{Mark, Opens, Next, Closes, CutPart, EndedPart, BodyUnit, LastUnit, JustText, OpenNotes, cut_part, whole, part_onward, events_through, mark_in, Endless, EndsAfter, snippets_with, last_pieces, units_pieces, part_following, Cuts, events_of_cutting}
 use Rattle.gabc_body.specs.SyllablesOfUnits.{with_ends, characters_in, count_within}
 use Rattle.gabc_body.proofs.texts_of_body.SeamsOfCharacters.{size}
-use Rattle.gabc_body.proofs.snippets_of_body.SnippetsEndAlike.{Marks}
+use Rattle.gabc_body.proofs.snippets_of_body.GrammarEmitsThroughEnd.{Marks}
 use Rattle.gabc_body.proofs.snippets_of_body.SnippetEmitsThroughEnd.{LineEmitted, line_emitted}
 use Rattle.gabc_body.proofs.units.BodyHasOneCutting.{text_mark}
-use Rattle.gabc_body.proofs.stopped_scores.PrefixesAreReadAlike.{through_length}
+use Rattle.gabc_body.proofs.stopped_scores.PrefixHasTheSameUnits.{through_length}
 use Rattle.gabc_body.proofs.holding.SyllablesHoldParts.{fits_prefix, fits_back}
 use Rattle.gabc_body.proofs.emitted.EndsOfSnippets.{none_close}
 

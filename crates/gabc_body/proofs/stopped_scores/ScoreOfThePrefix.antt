@@ -43,7 +43,7 @@ use Rattle.gabc_body.proofs.texts_of_body.SeamsOfCharacters.{size, size_append, 
 use Rattle.gabc_places.proofs.PlacesOfAText.{placed_after, after_joined, placed_append}
 use Rattle.gabc_body.proofs.holding.ScoreHoldsParts.{after_short}
 use Rattle.gabc_body.proofs.stopped_scores.StoppedScores.{as_many, closed_count, within_few, point_emits, stopped_read, stop_reached}
-use Rattle.gabc_body.proofs.stopped_scores.PrefixesAreReadAlike.{AllSmall, small_placed, small_after}
+use Rattle.gabc_body.proofs.stopped_scores.PrefixHasTheSameUnits.{AllSmall, small_placed, small_after}
 use Rattle.gabc_body.proofs.stopped_scores.StoppedScoreIsThatOfItsPrefix.{prefix_is, prefix_read, prefix_count}
 
 -- ---- characters with their places

@@ -44,7 +44,7 @@ use Rattle.gabc_body.proofs.holding.SyllablesHoldParts.{nothing_of, fits_back, f
 use Rattle.gabc_body.proofs.syllables_of_units.UnitsGiveSyllables.{units_whole, units_give}
 use Rattle.gabc_body.proofs.syllables_of_units.SyllablesAreThoseOfUnits.{body_all}
 use Rattle.gabc_body.proofs.stopped_scores.StoppedScores.{as_many, closed_count, within_few}
-use Rattle.gabc_body.proofs.stopped_scores.PrefixesAreReadAlike.{AllSmall, SmallAt, units_prefix, first_whole, small_after}
+use Rattle.gabc_body.proofs.stopped_scores.PrefixHasTheSameUnits.{AllSmall, SmallAt, units_prefix, first_whole, small_after}
 
 abbrev finished : BodyEvent
 finished = Text (text_out.Ended text_end.Finished)

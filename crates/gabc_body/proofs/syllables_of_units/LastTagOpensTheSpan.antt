@@ -35,7 +35,7 @@ use Rattle.gabc_body.specs.SyllablesOfUnits.{IsLeftOpen}
 use Rattle.gabc_body.specs.witness.TextEvents.{text_events}
 use Rattle.gabc_text.proofs.printing.PrintedPiecesAreJoined.{tags_join}
 use Rattle.gabc_body.proofs.emitted.EventsOfSyllableParts.{onto_append}
-use Rattle.gabc_body.proofs.holding.SnippetsAreHeld.{bytes_stand}
+use Rattle.gabc_body.proofs.holding.SnippetsLieInKeptText.{bytes_stand}
 
 -- parts of a text as its events
 abbrev pub out_parts : List TextPart → List TextEvent

@@ -31,9 +31,9 @@ use Rattle.gabc_body.specs.SpansPast.{open_past, eu_past, nlba_past}
 use Rattle.gabc_body.specs.SyllablesOfUnits.{with_ends, snippets_in, characters_in, characters_from, ScoreUnit, score_unit, HoldsUnit}
 use Rattle.gabc_body.specs.UnitRead.{first_events, GivesOneSyllable}
 use Rattle.gabc_body.proofs.texts_of_body.SeamsOfCharacters.{size}
-use Rattle.gabc_body.proofs.holding.SnippetsAreHeld.{bytes_stand}
+use Rattle.gabc_body.proofs.holding.SnippetsLieInKeptText.{bytes_stand}
 use Rattle.gabc_body.proofs.order.FindingsOfParts.{Warn, found, found_onto, joined_found, snippet_some, text_some}
-use Rattle.gabc_body.proofs.stopped_scores.PrefixesAreReadAlike.{through_length}
+use Rattle.gabc_body.proofs.stopped_scores.PrefixHasTheSameUnits.{through_length}
 use Rattle.gabc_body.proofs.stopped_scores.ClosedWithin.{close_of, close_count, count_one, pieces_count, units_within_are}
 use Rattle.gabc_body.proofs.syllables_of_units.LastTagOpensTheSpan.{after_tags}
 use Rattle.gabc_body.proofs.syllables_of_units.UnitsGiveSyllables.{through_more, snippets_whole, unit_whole, units_whole, unit_emits}

@@ -32,7 +32,7 @@ use Rattle.gabc_body.specs.witness.TextEvents.{text_events}
 use Rattle.gabc_body.proofs.texts_of_body.SeamsOfCharacters.{size}
 use Rattle.gabc_body.proofs.emitted.EventsOfSyllableParts.{onto_append}
 use Rattle.gabc_body.proofs.texts_of_body.TextEmitsThroughEnd.{TextEmitted, codes_append, text_mark, text_ended, ended_emits}
-use Rattle.gabc_body.proofs.snippets_of_body.SnippetsEndAlike.{IsMark}
+use Rattle.gabc_body.proofs.snippets_of_body.GrammarEmitsThroughEnd.{IsMark}
 use Rattle.gabc_body.proofs.snippets_of_body.SnippetEmitsThroughEnd.{LineEmitted, line_emitted}
 use Rattle.gabc_body.proofs.holding.SyllableHoldsPartByPart.{IsBack, codes_in, SoFar, text_opens, text_opens_is, new, close_unit, next_far, next_far_is, next_made}
 use Rattle.gabc_body.proofs.holding.SyllablesHoldParts.{fits_prefix, fits_back}

@@ -26,7 +26,7 @@ use Rattle.gabc_body.specs.Syllable.{UnplacedSyllable, slice}
 use Rattle.gabc_body.specs.SyllablesOfUnits.{NotesAre}
 use Rattle.gabc_places.specs.TextOfAnInput.{IsPlain, IsText, IsTextCharacter}
 use Rattle.gabc_body.specs.UnitRead.{HoldsSomeUnit}
-use Rattle.gabc_body.proofs.holding.SnippetsAreHeld.{bytes_stand}
+use Rattle.gabc_body.proofs.holding.SnippetsLieInKeptText.{bytes_stand}
 
 -- ---- a text, a character at a time
 

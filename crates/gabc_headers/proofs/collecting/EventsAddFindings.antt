@@ -16,7 +16,7 @@ use Rattle.gabc_headers.specs.machine.Collected.{collected_with, collected_with_
 use Rattle.gabc_headers.specs.machine.Events.{AreEventsOf}
 use Rattle.gabc_headers.proofs.order.FoundBeforeAPoint.{all_known}
 use Rattle.gabc_headers.proofs.collecting.EventsAddEntries.{holds_shown, holds_within, spelled-put, within-put}
-use Rattle.gabc_headers.proofs.entries.PutEntriesStand.{is_one_of-push, seen_again, names-with_value, with_value-new, names-push}
+use Rattle.gabc_headers.proofs.entries.PuttingEntriesGivesBook.{is_one_of-push, seen_again, names-with_value, with_value-new, names-push}
 
 -- two lists of names are the same set
 abbrev pub SameNames : List (List ℕ) → List (List ℕ) → Type 0

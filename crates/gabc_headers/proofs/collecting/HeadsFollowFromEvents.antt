@@ -18,7 +18,7 @@ use Rattle.gabc_headers.specs.machine.Collected.{AreGoodEvents, collected_with_a
 use Rattle.gabc_headers.specs.machine.Events.{AreHeaderEvents, EndsAs}
 use Rattle.gabc_headers.proofs.order.FoundBeforeAPoint.{all_known}
 use Rattle.gabc_headers.proofs.groups.NamesAreShort.{parts_short, names-prefix}
-use Rattle.gabc_headers.proofs.entries.PutEntriesStand.{put-book}
+use Rattle.gabc_headers.proofs.entries.PuttingEntriesGivesBook.{put-book}
 use Rattle.gabc_headers.proofs.collecting.EventsAddEntries.{good_events, HaveShortNames}
 use Rattle.gabc_headers.proofs.collecting.EventsAddFindings.{follow}
 use Rattle.gabc_headers.proofs.stops.HeadsByEnding.{score_open, text_open, text_ended, text_limit, score_ended}

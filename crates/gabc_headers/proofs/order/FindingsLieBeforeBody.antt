@@ -12,7 +12,7 @@ use Rattle.gabc_headers.specs.witness.Parts.{outside, head_parts}
 use Rattle.gabc_headers.specs.Heads.{head_len, findings_after, names_after, heads_of, line_place}
 use Rattle.gabc_headers.specs.witness.Heads.{head_findings, name_findings, heads_by, head_stops}
 use Rattle.gabc_headers.proofs.order.FoundBeforeAPoint.{known-append}
-use Rattle.gabc_headers.proofs.order.FindingsStandInOrder.{Rise, rise_up, rises, score_line}
+use Rattle.gabc_headers.proofs.order.FindingsAreInOrder.{Rise, rise_up, rises, score_line}
 
 -- ---- places
 

@@ -25,7 +25,7 @@ use Rattle.gabc_headers.proofs.stops.TextTooLong.{take_head, stops_none}
 use Rattle.gabc_headers.proofs.PrefixHasTheSameHeaders.{none_apart}
 use Rattle.gabc_headers.proofs.printing.MarksInTexts.{AreNoScore}
 use Rattle.gabc_headers.proofs.printing.EntriesAreTrimmed.{head_lines, good_parts}
-use Rattle.gabc_headers.proofs.printing.BookStandsAgain.{AreEntries, entries_good, standing_good, NoneAgain, book_once, stands_again, AreHeaders, headers_entries, headers_found, headers_closed}
+use Rattle.gabc_headers.proofs.printing.BookIsThatOfItsEntries.{AreEntries, entries_good, standing_good, NoneAgain, book_once, stands_again, AreHeaders, headers_entries, headers_found, headers_closed}
 use Rattle.gabc_headers.proofs.printing.PrintedLinesAreGroups.{PrintedEntry, printed_entry}
 
 -- ---- the lines of a book

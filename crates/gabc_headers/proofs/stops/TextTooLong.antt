@@ -11,7 +11,7 @@ use Rattle.gabc_places.specs.Place.{place_after}
 use Rattle.gabc_headers.specs.Lines.{bytes_len}
 use Rattle.gabc_headers.specs.Heads.{head_len, first_above, too_long, text_stops, stop_at, is_line_percent}
 use Rattle.gabc_headers.proofs.groups.TextBeforeScore.{head_text, head_length, head_prefix}
-use Rattle.gabc_headers.proofs.stops.HeldAlike.{none_above}
+use Rattle.gabc_headers.proofs.stops.SufficientLimitsGiveSameHeaders.{none_above}
 
 -- ---- the first character above the limit
 

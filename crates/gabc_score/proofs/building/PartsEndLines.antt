@@ -14,7 +14,7 @@ use Rattle.gabc_score.proofs.building.SnippetsTakeCharacters.{going}
 use Rattle.gabc_score.proofs.building.PartsOfKeptText.{text_goes_on}
 use Rattle.gabc_body.specs.declared.events.BodyEvent.{BodyEvent}
 use Rattle.gabc_text.proofs.resuming.StagesKeep.{fresh_keeps}
-use Rattle.gabc_text.proofs.resuming.ToldByEvents.{comment_fresh}
+use Rattle.gabc_text.proofs.resuming.EndedAndFreshStagesHaveNothingOpen.{comment_fresh}
 use Rattle.gabc_score.specs.machine.PartSteps.{PartSteps}
 use Rattle.gabc_score.specs.machine.PartSteps as step
 

@@ -33,11 +33,11 @@ use Rattle.gabc_body.proofs.gathering.EventsOfOnePoint.{with_all_append}
 use Rattle.gabc_score.proofs.building.PartsOfKeptText.{snippet_is}
 use Rattle.gabc_body.proofs.holding.PartsAreAUnit.{notes_are_unit}
 use Rattle.gabc_body.proofs.holding.SyllableHoldsPartByPart.{first_turn}
-use Rattle.gabc_body.proofs.holding.SnippetsAreHeld.{Placed, PlacedFrom, placed_push, all_held, next_turn, whole_of, span_after, bracket_more}
+use Rattle.gabc_body.proofs.holding.SnippetsLieInKeptText.{Placed, PlacedFrom, placed_push, all_held, next_turn, whole_of, span_after, bracket_more}
 use Rattle.gabc_body.proofs.syllables_of_units.LastTagOpensTheSpan.{after_tags}
 use Rattle.gabc_body.proofs.syllables_of_units.UnitGivesOneSyllable.{view_past}
 use Rattle.gabc_body.proofs.texts_of_body.SeamsOfCharacters.{cut_is, size}
-use Rattle.gabc_body.proofs.texts_of_body.ViewStandsInLongerText.{view_more}
+use Rattle.gabc_body.proofs.texts_of_body.LongerTextKeepsView.{view_more}
 
 abbrev kept_text : ReadSnippet → List ℕ
 kept_text s = s.kept

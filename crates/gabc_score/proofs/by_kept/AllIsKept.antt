@@ -9,7 +9,7 @@ use Rattle.gabc_body.specs.Syllable.{UnplacedSyllable, closes, since_close, kept
 use Rattle.gabc_body.specs.declared.events.BodyEvent.{BodyEvent}
 use Rattle.gabc_body.specs.witness.TextsByKept.{TextsGoByKept}
 use Rattle.gabc_body.proofs.by_kept.PrefixesAreRead.{prefix_is_read}
-use Rattle.gabc_body.proofs.by_kept.ReadingStands.{Fits}
+use Rattle.gabc_body.proofs.by_kept.ReadingAgreesWithEvents.{Fits}
 
 some_made : (ms : List UnplacedSyllable) (m : UnplacedSyllable) → ms ++ m ∷ [] ≡ [] → ⊥
 some_made ms m e = let n = ap (λ (ns : List UnplacedSyllable). length ns) e in omega (arith, n, length-append ms (m ∷ []))

@@ -33,9 +33,9 @@ use Rattle.gabc_body.specs.witness.PartsByKept.{PartRead, InText, ahead, emitted
 use Rattle.gabc_body.specs.witness.TextsByKept.{TextsGoByKept}
 use Rattle.gabc_body.proofs.by_kept.BodyByKept.{body_is}
 use Rattle.gabc_body.proofs.by_kept.BodyIsRead.{fits_so}
-use Rattle.gabc_body.proofs.by_kept.BodyStandsRead.{step}
+use Rattle.gabc_body.proofs.by_kept.BodyCharacterKeepsAgreement.{step}
 use Rattle.gabc_body.proofs.by_kept.PrefixesAreRead.{prefix_is_read}
-use Rattle.gabc_body.proofs.by_kept.ReadingStands.{Fits, Stands}
+use Rattle.gabc_body.proofs.by_kept.ReadingAgreesWithEvents.{Fits, Stands}
 use Rattle.gabc_body.proofs.gathering.EventsOfOnePoint.{gathered_all, with_all_append}
 use Rattle.gabc_body.proofs.order.FindingsOfParts.{found}
 use Rattle.gabc_score.specs.KeptAgain.{IsKeptAgain, is_in_notes as in_notes_by, is_inside as inside_by, read_alone}

@@ -37,7 +37,7 @@ use Rattle.gabc_body.specs.witness.Gatherer.{Gathered}
 use Rattle.gabc_body.specs.witness.PartsByKept.{PartRead, SnippetState, InComment, InText, InNotes, ahead}
 use Rattle.gabc_body.specs.witness.TextEvents.{text_events}
 use Rattle.gabc_body.specs.witness.TextsByKept.{EndsBy, SaysEnd, is_end}
-use Rattle.gabc_body.proofs.by_kept.ReadingStands.{Stands}
+use Rattle.gabc_body.proofs.by_kept.ReadingAgreesWithEvents.{Stands}
 use Rattle.gabc_score.specs.KeptAgain.{is_in_notes, is_inside}
 use Rattle.gabc_score.specs.ScoreReports.{is_in_front, openers_of}
 use Rattle.gabc_score.specs.declared.body_stage.BodyPart.{BodyPart}

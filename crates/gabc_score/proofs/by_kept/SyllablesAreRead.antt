@@ -28,9 +28,9 @@ use Rattle.gabc_body.specs.witness.PartsByKept.{InText, events_by}
 use Rattle.gabc_body.specs.witness.TextsByKept.{GoesByKept, TextsGoByKept}
 use Rattle.gabc_body.proofs.gathering.BuilderHoldsDefinition.{gathered}
 use Rattle.gabc_body.proofs.by_kept.BodyByKept.{body_is}
-use Rattle.gabc_body.proofs.by_kept.BodyStandsRead.{kept_stands}
+use Rattle.gabc_body.proofs.by_kept.BodyCharacterKeepsAgreement.{kept_stands}
 use Rattle.gabc_body.proofs.by_kept.PrefixesAreRead.{StandsFurther, further}
-use Rattle.gabc_body.proofs.by_kept.ReadingStands.{Fits, counts_fit, codes_placed, Stands}
+use Rattle.gabc_body.proofs.by_kept.ReadingAgreesWithEvents.{Fits, counts_fit, codes_placed, Stands}
 use Rattle.gabc_body.proofs.order.FindingsOfParts.{found, found_onto}
 use Rattle.gabc_score.proofs.resuming.SyllablesOfEvents.{MadeAlike, made_after}
 use Rattle.gabc_body.proofs.syllables_of_units.OpenSpans.{opened, leaves_open}

@@ -25,7 +25,7 @@ use Rattle.gabc_score.specs.machine.PartKeeps.{KeptParts, joined, PartKeeps}
 use Rattle.gabc_score.specs.witness.ScoreStage.{ScoreStageState}
 use Rattle.gabc_score.proofs.keeping.AnyTextIsRead.{Reaches, all, one, reaches, reads_one}
 use Rattle.gabc_score.proofs.keeping.KeptIsKeptAgain.{begins_text, kept_again}
-use Rattle.gabc_score.proofs.keeping.OpenersStandAnywhere.{OpensSo, opens_so}
+use Rattle.gabc_score.proofs.keeping.OpenersCanBeMoved.{OpensSo, opens_so}
 use Rattle.gabc_score.proofs.keeping.PartsTakeCharacters.{TakesOne}
 use Rattle.gabc_score.proofs.keeping.ReadByDefinition.{FromBeginning, begun_text, emitted_plain, emitted_with, since_all}
 use Rattle.gabc_score.proofs.keeping.ReadByItself.{gathered_of, no_spans}
@@ -116,7 +116,7 @@ stage_of limits lines macros part kept = record {
   held = record {
     next = first_place;
     gathered = record (nothing_gathered limits.syllable 0) { builder = record { kept = kept; from = 0; view = empty_view; snippets = [] } };
-    has_lent = false;
+    is_preceded = false;
   };
   body = record { nabc_lines = lines; macros = macros; part = part; ended = false; events = [] };
   first = no_syllable_lent;

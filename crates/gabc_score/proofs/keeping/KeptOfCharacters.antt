@@ -21,7 +21,7 @@ use Rattle.gabc_body.specs.Reading.{BodyRead, InText, InNotes, Part, Reading, fa
 use Rattle.gabc_body.specs.ScoreEvents.{first_place}
 use Rattle.gabc_body.specs.Syllable.{UnplacedSyllable}
 use Rattle.gabc_body.specs.declared.before.Spans.{Spans}
-use Rattle.gabc_body.proofs.by_kept.ReadingStands.{size_of_ascii, size_push}
+use Rattle.gabc_body.proofs.by_kept.ReadingAgreesWithEvents.{size_of_ascii, size_push}
 use Rattle.gabc_body.proofs.by_kept.SnippetsAreGathered.{whole_is_front}
 use Rattle.gabc_body.proofs.texts_of_body.SeamsOfCharacters.{size, size_append}
 

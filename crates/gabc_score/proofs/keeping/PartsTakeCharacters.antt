@@ -36,7 +36,7 @@ use Rattle.gabc_body.specs.witness.TextEvents.{text_events}
 use Rattle.gabc_score.specs.machine.PartOpens.{PartOpensOn}
 use Rattle.gabc_score.specs.machine.ReadAgain.{ReadsAgain}
 use Rattle.gabc_score.specs.witness.BodyStage.{part_with, texts_by_stage}
-use Rattle.gabc_text.proofs.resuming.ToldByEvents.{comment_fresh}
+use Rattle.gabc_text.proofs.resuming.EndedAndFreshStagesHaveNothingOpen.{comment_fresh}
 use Rattle.gabc_score.specs.machine.PartSteps.{Begins, PartSteps, SnippetSteps}
 use Rattle.gabc_score.specs.machine.PartSteps as step
 use Rattle.gabc_score.specs.machine.StageLaws.{Steps}
@@ -44,7 +44,7 @@ use Rattle.gabc_score.proofs.building.EventsOfSnippets.{part_emits}
 use Rattle.gabc_score.proofs.building.PartsKeepOn.{keeps_on}
 use Rattle.gabc_score.proofs.building.PartsOfKeptText.{of_notes}
 use Rattle.gabc_score.proofs.building.PartsOpenOn.{opens_on}
-use Rattle.gabc_score.proofs.building.PartsStandOn.{stands_on}
+use Rattle.gabc_score.proofs.building.PartsTrackPlaces.{stands_on}
 use Rattle.gabc_score.proofs.building.SnippetsTakeCharacters.{stays_in_notes}
 use Rattle.gabc_score.proofs.keeping.PartsKeepOne.{KeepsOne, close_one, goes_one, next_one, text_one, text_end_one}
 use Rattle.gabc_score.proofs.resuming.PartsReadAgain.{reads_again}

@@ -29,7 +29,7 @@ use Rattle.gabc_body.proofs.gathering.EventsOfOnePoint.{with_all_append}
 use Rattle.gabc_body.proofs.order.FindingsOfParts.{found, found_append, found_onto}
 use Rattle.gabc_score.proofs.regular_syllables.PointsPass.{score_through, points_through, NoneStops}
 use Rattle.gabc_score.proofs.score_events.EventsStayWithinBounds.{none_passed}
-use Rattle.gabc_score.proofs.resuming.SameButHeld.{all_stay}
+use Rattle.gabc_score.proofs.resuming.OutputDiffersOnlyInPendingSyllable.{all_stay}
 use Rattle.gabc_score.proofs.resuming.MachinesPassAgain.{none_is}
 use Rattle.gabc_score.proofs.resuming.CharactersGathered.{few_dropped}
 
@@ -60,8 +60,8 @@ made_before es ps made g none some =
 few_given : (first : Bool) (ms : List UnplacedSyllable) → length ms ≤ 1 → take (length ms - 1) (placed_syllables_by first ms) ≡ []
 few_given first ms few = grind arith
 
-few_lent : (has_lent : Bool) (ms : List UnplacedSyllable) → length ms ≤ 1 → (has_lent || nat_lt 1 (length ms)) ≡ has_lent
-few_lent has_lent ms few = ap (λ (b : Bool). has_lent || b) {x = nat_lt 1 (length ms)} {y = false} (grind (arith, nat_tests, few)) ∙ or-false has_lent
+few_lent : (is_preceded : Bool) (ms : List UnplacedSyllable) → length ms ≤ 1 → (is_preceded || nat_lt 1 (length ms)) ≡ is_preceded
+few_lent is_preceded ms few = ap (λ (b : Bool). is_preceded || b) {x = nat_lt 1 (length ms)} {y = false} (grind (arith, nat_tests, few)) ∙ or-false is_preceded
 
 held_more : (ms : List UnplacedSyllable) (m : UnplacedSyllable) → length ms ≤ 1 → drop (length (ms ++ m ∷ []) - 1) (ms ++ m ∷ []) ≡ m ∷ []
 held_more [] m h = refl
@@ -137,11 +137,11 @@ next_of (x ∷ us) next = next_of us (saturating_next_place x.place x.c)
 
 module _ (limits : Limits) (lent : Bool) (ms : List UnplacedSyllable) (few : length ms ≤ 1) where
   abbrev pub holding : Place → Gathered → HeldScore
-  holding next g = record { next = next; gathered = record g { made = ms }; has_lent = lent }
+  holding next g = record { next = next; gathered = record g { made = ms }; is_preceded = lent }
 
   -- holding this one, if those before it are given
   abbrev pub holding_one : Place → Gathered → UnplacedSyllable → HeldScore
-  holding_one next g m = record { next = next; gathered = record g { made = m ∷ [] }; has_lent = lent || nat_lt 0 (length ms) }
+  holding_one next g m = record { next = next; gathered = record g { made = m ∷ [] }; is_preceded = lent || nat_lt 0 (length ms) }
 
   -- these characters pass, with which only these syllables are given
   pub record Pass (s : HeldScore) (us : List Char) (lists : List (List BodyEvent)) (after : HeldScore) (given : List PlacedSyllable) : Type 0 where

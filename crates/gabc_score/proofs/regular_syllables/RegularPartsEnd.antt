@@ -30,7 +30,7 @@ use Rattle.gabc_body.specs.FoundInParts.{snippet_events}
 use Rattle.gabc_score.specs.RegularSyllable.{IsRegularOn, ended_at}
 use Rattle.gabc_body.specs.Units.{Mark, Opens, Next, Closes, events_through, EndsAfter}
 use Rattle.gabc_body.proofs.order.FindingsOfParts.{found, text_through, snippet_through}
-use Rattle.gabc_body.proofs.stopped_scores.PrefixesAreReadAlike.{all_agree}
+use Rattle.gabc_body.proofs.stopped_scores.PrefixHasTheSameUnits.{all_agree}
 use Rattle.gabc_body.proofs.texts_of_body.TextEmitsThroughEnd.{any_after, none_ends, ends_apart, length_of_codes, codes_append}
 
 -- ---- texts

@@ -44,7 +44,7 @@ use Rattle.gabc_body.specs.Syllable.{UnplacedSyllable, since_close, slice}
 use Rattle.gabc_body.specs.SyllablesOfUnits.{HoldsUnit, NotesAre, ScoreUnit, score_unit, characters_in, characters_from}
 use Rattle.gabc_body.specs.UnitRead.{GivesOneSyllable, first_events, emitted_through}
 use Rattle.gabc_body.specs.Units.{Closes, EndedPart, BodyUnit, JustText, CutPart, Cuts, cut_part, whole, snippets_with, units_pieces}
-use Rattle.gabc_body.proofs.holding.SnippetsAreHeld.{bytes_stand}
+use Rattle.gabc_body.proofs.holding.SnippetsLieInKeptText.{bytes_stand}
 use Rattle.gabc_body.proofs.holding.SpansBetweenCharacters.{part_text}
 use Rattle.gabc_body.proofs.order.FindingsOfParts.{found, found_onto}
 use Rattle.gabc_body.proofs.holding.PartsAreAUnit.{none_left}

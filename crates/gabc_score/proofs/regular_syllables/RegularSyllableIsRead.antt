@@ -22,7 +22,7 @@ use Rattle.gabc_body.specs.SyllablesOfUnits.{with_ends, characters_in}
 use Rattle.gabc_body.specs.Units.{Opens, Next, Closes, EndedPart, events_through, EndsAfter}
 use Rattle.gabc_body.proofs.order.FindingsOfParts.{found, found_append, found_onto}
 use Rattle.gabc_score.proofs.regular_syllables.RegularPartsEnd.{text_ends, text_none, next_ends, close_ends}
-use Rattle.gabc_body.proofs.stopped_scores.PrefixesAreReadAlike.{through_length}
+use Rattle.gabc_body.proofs.stopped_scores.PrefixHasTheSameUnits.{through_length}
 use Rattle.gabc_body.proofs.texts_of_body.TextEmitsThroughEnd.{codes_append}
 use Rattle.gabc_body.proofs.units.BodyHasOneCutting.{ends_emitted}
 

@@ -27,7 +27,7 @@ use Rattle.gabc_body.specs.SyllablesOfUnits as units
 use Rattle.gabc_body.specs.UnitRead.{first_events}
 use Rattle.gabc_body.specs.Units.{BodyUnit, EndedPart}
 use Rattle.gabc_score.specs.witness.BodyStage.{texts_by_stage}
-use Rattle.gabc_score.specs.machine.Between.{with_one, past_one, given_before, SoundsNoMore, IsBetween, LeavesRoomFor, GoesThrough, lists_between, IsAloneWith, IsMadeOf}
+use Rattle.gabc_score.specs.machine.Between.{with_one, after_one, given_before, SoundsNoMore, IsBetween, LeavesRoomFor, StepsOver, lists_between, GathersOneSyllable, SpellsItself}
 use Rattle.gabc_body.specs.witness.BodyBuilder.{with_all}
 use Rattle.gabc_body.specs.witness.Gatherer.{Gathered}
 use Rattle.gabc_score.specs.machine.Preceded.{spans_of}
@@ -101,7 +101,7 @@ module _ (lines macros : ℕ) (at : Place) (r : SyllableParts) (regular : IsRegu
 
     pub made_of : (says_alone : (t rest : List ℕ) → IsRegularText t → view_facts (t ++ 40 ∷ rest) ≡ view_facts t)
         → (says_after : (b : ℕ) (gap t rest : List ℕ) → is_gap (b ∷ gap) ≡ true → IsRegularText t → view_facts (b ∷ gap ++ (t ++ 40 ∷ rest)) ≡ record (view_facts t) { word_start = true })
-        → IsMadeOf lines spans r m
+        → SpellsItself lines spans r m
     made_of says_alone says_after = record {
       kept = s.kept_is;
       starts = s.starts_is;
@@ -145,23 +145,23 @@ module _ (lines macros : ℕ) (at : Place) (r : SyllableParts) (regular : IsRegu
       abbrev g : Gathered
       g = record held.gathered { made = [] }
 
-      passes : Pass limits held.has_lent ms between.few held us lists (holding_one limits held.has_lent ms between.few (next_of us held.next) (with_all g (concat_of lists)) m) (given_before held m)
+      passes : Pass limits held.is_preceded ms between.few held us lists (holding_one limits held.is_preceded ms between.few (next_of us held.next) (with_all g (concat_of lists)) m) (given_before held m)
       passes =
-          one_passes limits held.has_lent ms between.few held.next g us lists m (sym lists_each)
+          one_passes limits held.is_preceded ms between.few held.next g us lists m (sym lists_each)
           (gathers limits g spans_are (record { syllable = room.syllable; input = room.input }) between.nothing between.limit between.follows sounded between.over refl)
 
-      after_is : score_through held us lists ≡ past_one held next m
+      after_is : score_through held us lists ≡ after_one held next m
       after_is =
           passes.after_is
-          ∙ ap (λ (p : Place). holding_one limits held.has_lent ms between.few p (with_all g (concat_of lists)) m) (next_past at r fits held.next some_stand)
-          ∙ ap (λ (h : Gathered). record { next = next; gathered = h; has_lent = held.has_lent || nat_lt 0 (length ms) })
+          ∙ ap (λ (p : Place). holding_one limits held.is_preceded ms between.few p (with_all g (concat_of lists)) m) (next_past at r fits held.next some_stand)
+          ∙ ap (λ (h : Gathered). record { next = next; gathered = h; is_preceded = held.is_preceded || nat_lt 0 (length ms) })
           (gathered_is limits g spans_are (record { syllable = room.syllable; input = room.input }) between.nothing between.limit between.follows sounded between.over refl ms)
 
-      pub through : GoesThrough limits lines macros at held (spelled r) (given_before held m) next (past_one held next m)
+      pub through : StepsOver limits lines macros at held (spelled r) (given_before held m) next (after_one held next m)
       through = grind (arith, passes, size_of_us, inputs_are_in, points_pass, mark_past, after_is)
 
-      pub alone : ms ≡ [] → IsAloneWith limits held.gathered (lists_between lines macros at (spelled r)) m
-      alone none = subst (λ (ls : List (List BodyEvent)). IsAloneWith limits held.gathered ls m) (sym lists_are) (record {
+      pub alone : ms ≡ [] → GathersOneSyllable limits held.gathered (lists_between lines macros at (spelled r)) m
+      alone none = subst (λ (ls : List (List BodyEvent)). GathersOneSyllable limits held.gathered ls m) (sym lists_are) (record {
         alone = alone_of limits lists held.gathered (record {
           earlier = all.earlier;
           some = ap is_none all.made;

@@ -8,7 +8,7 @@ use Rattle.gabc_body.specs.declared.snippets.Snippet.{Snippet}
 use Rattle.gabc_body.specs.Events.{next_line}
 use Rattle.gabc_body.specs.Holding.{ReadSnippet, bracket_with, IsHeld}
 use Rattle.gabc_body.specs.Syllable.{snippet_at}
-use Rattle.gabc_body.proofs.holding.SnippetsAreHeld.{bracket_more, next_turn}
+use Rattle.gabc_body.proofs.holding.SnippetsLieInKeptText.{bracket_more, next_turn}
 use Rattle.gabc_body.proofs.texts_of_body.BodyFits.{bytes_encodes}
 use Rattle.gabc_score.specs.RegularSyllable.{spans_from, with_lines}
 use Rattle.gabc_score.proofs.resuming.PartsAreOne.{nothing_marked}

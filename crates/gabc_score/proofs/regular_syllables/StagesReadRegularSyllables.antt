@@ -23,7 +23,7 @@ use Rattle.gabc_body.specs.Units.{Opens, Next, Closes, events_through}
 use Rattle.gabc_score.specs.witness.BodyStage.{texts_by_stage}
 use Rattle.gabc_score.proofs.regular_syllables.RegularPartsEnd.{next_ends, close_ends}
 use Rattle.gabc_score.proofs.regular_syllables.RegularSyllableIsRead.{notes_at, unit_placed, text_there, split_of, splits}
-use Rattle.gabc_body.proofs.stopped_scores.PrefixesAreReadAlike.{Agree, agree_ends, agree_through, through_length, snippet_agrees, text_agree}
+use Rattle.gabc_body.proofs.stopped_scores.PrefixHasTheSameUnits.{Agree, agree_ends, agree_through, through_length, snippet_agrees, text_agree}
 use Rattle.gabc_body.proofs.units.BodyHasOneCutting.{ends_emitted}
 
 module _ (fresh_is : (at : Place) (t : List ℕ) → CountsFit at t → events_left (fresh_stage at) t ≡ events_by_point at t)

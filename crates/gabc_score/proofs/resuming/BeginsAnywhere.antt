@@ -32,10 +32,10 @@ use Rattle.gabc_score.proofs.resuming.NothingIsRead.{nothing_alike}
 abbrev unread : ℕ → List UnplacedSyllable → Bool → ℕ → Bool → Option ItemKind → Gathered
 unread limit made follows total over first = record { limit = limit; builder = nothing_open; eu = false; nlba = false; made = made; follows = follows; total = total; over = over; cut = None; first_kind = first }
 
-module _ (limits : Limits) (lines macros : ℕ) (limit : ℕ) (made : List UnplacedSyllable) (follows : Bool) (total : ℕ) (over : Bool) (first : Option ItemKind) (has_lent : Bool) (p q : Place)
+module _ (limits : Limits) (lines macros : ℕ) (limit : ℕ) (made : List UnplacedSyllable) (follows : Bool) (total : ℕ) (over : Bool) (first : Option ItemKind) (is_preceded : Bool) (p q : Place)
     (fine : code_in limits (unread limit made follows total over first) ≡ None) where
   abbrev at : Place → HeldScore
-  at place = record { next = place; gathered = unread limit made follows total over first; has_lent = has_lent }
+  at place = record { next = place; gathered = unread limit made follows total over first; is_preceded = is_preceded }
 
   abbrev ahead : List HeadEvent → List (List BodyEvent)
   ahead xs = events_from texts_by_stage lines macros InComment (characters_in xs)

@@ -22,7 +22,7 @@ use Rattle.gabc_score.specs.machine.ScoreStage.{body_left}
 use Rattle.gabc_score.specs.machine.StageLaws.{Again}
 use Rattle.gabc_score.specs.witness.BodyStage.{running_events_left}
 use Rattle.gabc_score.proofs.resuming.PartsAreOne.{parts_are_one}
-use Rattle.gabc_score.proofs.resuming.SameButHeld.{left_same}
+use Rattle.gabc_score.proofs.resuming.OutputDiffersOnlyInPendingSyllable.{left_same}
 use Rattle.gabc_score.proofs.resuming.StagesAgree.{KeepTheSame}
 use Rattle.gabc_score.proofs.score_events.WhatPrecedes.{not_some}
 
@@ -58,10 +58,10 @@ says_after : (p : Preceding) (m n : UnplacedSyllable) → IsEquivalentSyllable (
 says_after p m n s = rw (s.canonical, s.eu, s.nlba, s.sounds) refl
 
 -- held syllables, at most one each, that are equivalent
-abbrev pub HeldAlike : Bool → List UnplacedSyllable → List UnplacedSyllable → Type 0
-HeldAlike first ms ns = (length ms ≤ 1) × ((length ns ≤ 1) × HoldTheSame first (held_in_body score_part.Body ms) (held_in_body score_part.Body ns))
+abbrev pub PendingAreEquivalent : Bool → List UnplacedSyllable → List UnplacedSyllable → Type 0
+PendingAreEquivalent first ms ns = (length ms ≤ 1) × ((length ns ≤ 1) × HoldTheSame first (held_in_body score_part.Body ms) (held_in_body score_part.Body ns))
 
-each_same : (p : Preceding) (ms ns : List UnplacedSyllable) → HeldAlike (p.syllables == 0) ms ns → with_each p ms ≡ with_each p ns
+each_same : (p : Preceding) (ms ns : List UnplacedSyllable) → PendingAreEquivalent (p.syllables == 0) ms ns → with_each p ms ≡ with_each p ns
 each_same p [] [] h = refl
 each_same p (m ∷ []) (n ∷ []) h = says_after p m n h.1.1
 each_same p (m ∷ k ∷ ms) ns h = absurd (omega (arith, h.0))
@@ -101,7 +101,7 @@ module _ (again : Again) (a b : ScoreMachine) (ra : IsInBody a) (rb : IsInBody b
   pub bodies_keep : KeepTheSame a.body.nabc_lines a.body.macros a.body.part b.body.part
   bodies_keep = record { parts = ra.reading.parts; one = ra.reading.keeps; other = rw same_parts other_keeps }
 
-  module _ (next : a.next ≡ b.next) (alike : HeldAlike (a.bounds.before.syllables == 0) a.pair.gathered.made b.pair.gathered.made) where
+  module _ (next : a.next ≡ b.next) (alike : PendingAreEquivalent (a.bounds.before.syllables == 0) a.pair.gathered.made b.pair.gathered.made) where
     after_same : with_each a.bounds.before a.pair.gathered.made ≡ with_each b.bounds.before b.pair.gathered.made
     after_same = each_same a.bounds.before a.pair.gathered.made b.pair.gathered.made alike ∙ ap (λ (p : Preceding). with_each p b.pair.gathered.made) same_before
 
@@ -137,7 +137,7 @@ module _ (again : Again) (a b : ScoreMachine) (ra : IsInBody a) (rb : IsInBody b
         twins : (m n : UnplacedSyllable) → IsEquivalentSyllable (a.bounds.before.syllables == 0) m n → (not (has_given a) || m.text.word_start) ≡ (not (has_given a) || n.text.word_start)
         twins m n s = rw (not_some a.bounds.before.syllables) s.starts
 
-        by : (ms ns : List UnplacedSyllable) → a.pair.gathered.made ≡ ms → b.pair.gathered.made ≡ ns → HeldAlike (a.bounds.before.syllables == 0) ms ns
+        by : (ms ns : List UnplacedSyllable) → a.pair.gathered.made ≡ ms → b.pair.gathered.made ≡ ns → PendingAreEquivalent (a.bounds.before.syllables == 0) ms ns
             → GiveTheSame (held_in_body score_part.Body ms) (held_in_body score_part.Body ns) (left_of_one xs) (left_of_other xs)
         by [] [] e f h = lists_are dummy _ _ (left dummy dummy (inl (f ∙ sym e)))
         by (m ∷ []) (n ∷ []) e f h = left m n (inr (record { rest = []; one = e; other = f; twins = twins m n h.1.1 }))

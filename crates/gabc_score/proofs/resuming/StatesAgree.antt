@@ -19,7 +19,7 @@ use Rattle.gabc_score.specs.witness.ScoreStage.{ScoreStageState, left_of}
 use Rattle.gabc_score.proofs.resuming.BeginsAnywhere.{front_reads}
 use Rattle.gabc_score.proofs.resuming.FrontsAgree.{CommentsCountForNothing, fronts_emit}
 use Rattle.gabc_score.proofs.resuming.NothingIsRead.{nothing_kept}
-use Rattle.gabc_score.proofs.resuming.ScoresAgree.{HeldAlike, before_is_reported, bodies_give, bodies_keep}
+use Rattle.gabc_score.proofs.resuming.ScoresAgree.{PendingAreEquivalent, before_is_reported, bodies_give, bodies_keep}
 use Rattle.gabc_score.proofs.resuming.StagesAgree.{StagesAgree, bodies_agree, next_is_reported}
 use Rattle.gabc_score.proofs.resuming.ReachableStatesMeetInvariant.{IsRunning, both_in_body}
 
@@ -54,7 +54,7 @@ module _ (again : Again) where
     reading : a.pair.gathered.builder.kept ≡ b.pair.gathered.builder.kept
     reading = rw (ra.part, rb.part) at alike.reading
 
-    held : HeldAlike (a.bounds.before.syllables == 0) a.pair.gathered.made b.pair.gathered.made
+    held : PendingAreEquivalent (a.bounds.before.syllables == 0) a.pair.gathered.made b.pair.gathered.made
     held = (ra.few, (rb.few, rw (ra.part, rb.part) at alike.held))
 
     -- they give the same if their bodies emit the same

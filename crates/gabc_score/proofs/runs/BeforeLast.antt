@@ -25,8 +25,8 @@ use Rattle.gabc_body.specs.witness.SyllableBuilder.{OpenSyllable, nothing_open}
 use Rattle.gabc_score.specs.witness.BodyStage.{BodyStageState}
 use Rattle.gabc_score.proofs.runs.RunEnds.{before_last}
 use Rattle.gabc_score.proofs.score_events.EventsStayWithinBounds.{none_passed}
-use Rattle.gabc_score.proofs.score_events.HeldWithinLimits.{within_none}
-use Rattle.gabc_score.proofs.score_events.UnitsAreHeld.{none_held}
+use Rattle.gabc_score.proofs.score_events.GatheredStaysWithinLimits.{within_none}
+use Rattle.gabc_score.proofs.score_events.PendingSyllableHoldsUnit.{none_held}
 
 module _ (m : ScoreMachine) (rests : IsInBody m) (p : Preceding) (some : 1 ≤ p.syllables) (sounded : is_some m.pair.gathered.first_kind ≡ p.sounded)
     (nothing : m.pair.gathered.builder ≡ nothing_open) (follows : m.pair.gathered.follows ≡ true) where

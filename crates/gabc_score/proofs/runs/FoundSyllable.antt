@@ -19,10 +19,10 @@ use Rattle.gabc_body.specs.Canonical.{canonical, canonical_in_place, position_by
 use Rattle.gabc_score.specs.GivesSyllables.{spelled_canonical}
 use Rattle.gabc_score.specs.RegularSyllable.{SyllableParts, spelled, notes_spelled, canonical_spelled, has_gap, line_and_text, snippet_texts}
 use Rattle.gabc_body.specs.Syllable.{UnplacedSyllable}
-use Rattle.gabc_score.specs.machine.Between.{IsMadeOf, SoundsNoMore, with_one as gathered_with}
+use Rattle.gabc_score.specs.machine.Between.{SpellsItself, SoundsNoMore, with_one as gathered_with}
 use Rattle.gabc_body.specs.witness.Gatherer.{Gathered}
 use Rattle.gabc_score.specs.machine.RegularLen.{past_mark, BeginsRegularly}
-use Rattle.gabc_score.specs.machine.Run.{IsFound, IsSteady, SpellsFound, canonical_length, mark_of, sounds_among, len_of}
+use Rattle.gabc_score.specs.machine.Run.{IsFound, KeepsFirstSound, SpellsFound, canonical_length, mark_of, sounds_among, len_of}
 use Rattle.gabc_score.specs.machine.ScoreMachine.{IsShort}
 use Rattle.gabc_body.specs.witness.SyllableBuilder.{nothing_open}
 use Rattle.gabc_score.proofs.regular_syllables.MarkedSyllables.{gap_starts, spans_past}
@@ -92,7 +92,7 @@ module _ (f : Found) (lines total : ℕ) (limits : Limits) (found : IsFound line
   pub length_is : canonical_length f ≤ length f.spelled.now
   length_is = grind (arith, nat_tests, length-drop f.gap f.spelled.now, found.is.some)
 
-  module _ (spans : Spans) (m : UnplacedSyllable) (made : IsMadeOf lines spans parts m) where
+  module _ (spans : Spans) (m : UnplacedSyllable) (made : SpellsItself lines spans parts m) where
     pub word_is : m.text.word_start ≡ nat_lt 0 f.gap
     word_is = made.starts ∙ sym starts_is
 
@@ -118,7 +118,7 @@ module _ (f : Found) (lines total : ℕ) (limits : Limits) (found : IsFound line
     is_short = grind (arith, kept_length, length_is, canonical_with, length-drop)
 
     -- if it is steady, it sounds no more than what stands before it
-    pub sounds_no_more : (first : Option ItemKind) → IsSteady lines first parts → SoundsNoMore (is_some first) (sounds m)
+    pub sounds_no_more : (first : Option ItemKind) → KeepsFirstSound lines first parts → SoundsNoMore (is_some first) (sounds m)
     sounds_no_more first steady = subst (SoundsNoMore (is_some first)) (sym (sounds_as m ∙ ap sounds_among made.snippets_are)) steady
 
     -- which spans are open after it its mark says

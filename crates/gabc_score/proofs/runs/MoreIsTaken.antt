@@ -14,9 +14,9 @@ use Rattle.gabc_body.specs.Canonical.{canonical_in_place}
 use Rattle.gabc_score.specs.GivesSyllables.{AreJoined, spelled_canonical}
 use Rattle.gabc_score.specs.machine.RegularLen.{BeginsRegularly, past_mark}
 use Rattle.gabc_body.specs.Syllable.{PlacedSyllable}
-use Rattle.gabc_score.specs.machine.Run.{IsFound, IsSteady, SpellsFound, RunsBefore, RunsMore, RunsOn, RunsTo, before_in, canonical_length, len_of, mark_of, past_found}
+use Rattle.gabc_score.specs.machine.Run.{IsFound, KeepsFirstSound, SpellsFound, RunsBefore, RunsMore, RunsOn, RunsTo, before_in, canonical_length, len_of, mark_of, past_found}
 use Rattle.gabc_score.proofs.runs.FoundSyllable.{utf8_is}
-use Rattle.gabc_score.proofs.runs.RunGoesOn.{GoesOnWith, MakeSyllables, goes_on, low_there}
+use Rattle.gabc_score.proofs.runs.RunTakesOneMoreSyllable.{GoesOnWith, MakeSyllables, goes_on, low_there}
 
 -- ---- joined texts
 
@@ -31,7 +31,7 @@ joined_then (t ∷ ss) s = ap (λ (l : List ℕ). canonical_in_place t ++ l) (jo
 
 module _ (m : ScoreMachine) (at : Place) (text : List ℕ) (reached then : Reached) (count : then.count ≡ reached.count + 1) (canonical : then.canonical ≡ reached.canonical + canonical_length reached.last)
     (spans : then.spans ≡ past_mark (mark_of reached.last) reached.spans) (found : IsFound m.body.nabc_lines m.limits then.canonical then.last) (rest : reached.last.rest.now ≡ then.last.spelled.now ++ then.last.rest.now)
-    (steady : IsSteady m.body.nabc_lines m.pair.gathered.first_kind found.is.syllable) where
+    (steady : KeepsFirstSound m.body.nabc_lines m.pair.gathered.first_kind found.is.syllable) where
   before_is : before_in m then ≡ past_found (before_in m reached) reached.last
   before_is = grind arith
 

@@ -12,7 +12,7 @@ use Rattle.gabc_body.specs.Canonical.{position_by}
 use Rattle.gabc_score.specs.ScoreStage.{IsWithin}
 use Rattle.gabc_body.specs.Syllable.{UnplacedSyllable}
 use Rattle.gabc_score.specs.machine.PartKeeps.{begun, ReadAlike}
-use Rattle.gabc_score.specs.machine.Run.{StandsBetween, RunsBefore}
+use Rattle.gabc_score.specs.machine.Run.{IsBetweenSyllables, RunsBefore}
 use Rattle.gabc_score.specs.machine.ScoreMachine.{has_given, held_score, IsShort}
 use Rattle.gabc_body.specs.witness.SyllableBuilder.{OpenSyllable}
 use Rattle.gabc_score.proofs.resuming.NothingIsRead.{nothing_alike}
@@ -25,7 +25,7 @@ held_of [] e = absurd (omega (arith, e))
 held_of (m ∷ []) e = (m, refl)
 held_of (m ∷ n ∷ made) e = absurd (omega (arith, e))
 
-module _ (m : ScoreMachine) (at : Place) (held : UnplacedSyllable) (stands : StandsBetween m at) (one : m.pair.gathered.made ≡ held ∷ []) where
+module _ (m : ScoreMachine) (at : Place) (held : UnplacedSyllable) (stands : IsBetweenSyllables m at) (one : m.pair.gathered.made ≡ held ∷ []) where
   after_is : m.bounds.after ≡ with_one m.bounds.before held
   after_is = stands.rests.after ∙ ap (with_each m.bounds.before) one
 

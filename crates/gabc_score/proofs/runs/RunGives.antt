@@ -24,11 +24,11 @@ use Rattle.gabc_score.specs.witness.ScoreStage.{ScoreStageState, left_of}
 use Rattle.gabc_score.specs.machine.Between.{left_between, with_one as gathered_with}
 use Rattle.gabc_body.specs.witness.Gatherer.{Gathered}
 use Rattle.gabc_score.specs.machine.PartOnly.{HoldsTexts}
-use Rattle.gabc_score.specs.machine.Run.{IsFound, StandsBetween, RunsBefore}
+use Rattle.gabc_score.specs.machine.Run.{IsFound, IsBetweenSyllables, RunsBefore}
 use Rattle.gabc_score.specs.machine.ScoreMachine.{has_given, held_score, shown}
 use Rattle.gabc_score.proofs.runs.FoundSyllable.{some_are, utf8_is}
 use Rattle.gabc_score.proofs.runs.RunEnds.{EndsWith, before_last}
-use Rattle.gabc_score.proofs.runs.RunGoesOn.{few_characters}
+use Rattle.gabc_score.proofs.runs.RunTakesOneMoreSyllable.{few_characters}
 use Rattle.gabc_score.proofs.score_events.CountsGoOn.{more}
 
 -- ---- counts and places
@@ -66,7 +66,7 @@ pub record HoldsLast (m : ScoreMachine) (p : Preceding) (next : Place) (made : U
   pub texts : HoldsTexts after.pair.gathered
 
 module _ (m : ScoreMachine) (at : Place) (t : List ℕ) (given : List PlacedSyllable) (starts : Bool) (p : Preceding) (next : Place) (runs : RunsBefore m at t given starts p next)
-    (stands : StandsBetween m at) (f : Found) (found : IsFound m.body.nabc_lines m.limits p.canonical f) (column : next.column + length f.spelled.now < 2 ^ 63)
+    (stands : IsBetweenSyllables m at) (f : Found) (found : IsFound m.body.nabc_lines m.limits p.canonical f) (column : next.column + length f.spelled.now < 2 ^ 63)
     (ends : EndsWith m at t given p f next) (after : ScoreMachine) (held : HoldsLast m p (place_past next (chars f.spelled.now)) ends.made after) (first second : PlacedSyllable) where
   abbrev before : ScoreStageState
   before = record (shown m) { first = first; second = second }
@@ -87,7 +87,7 @@ module _ (m : ScoreMachine) (at : Place) (t : List ℕ) (given : List PlacedSyll
   there = held.at ∙ next_is
 
   left_after : (xs : List HeadEvent) → left_of (shown after) xs
-      ≡ left_between m.limits m.body.nabc_lines m.body.macros past (record { next = past; gathered = gathered_with (before_last m p) ends.made; has_lent = true }) xs
+      ≡ left_between m.limits m.body.nabc_lines m.body.macros past (record { next = past; gathered = gathered_with (before_last m p) ends.made; is_preceded = true }) xs
   left_after xs =
       left_there after past after.pair.first after.pair.second held.part held.begins xs
       ∙ rw (held.limits, held.lines, held.macros, held.at, held.gathered, held.lent) refl

@@ -27,16 +27,16 @@ use Rattle.gabc_score.specs.machine.PartCounts.{CountsHold}
 use Rattle.gabc_score.specs.machine.PartKeeps.{in_text, PartKeeps}
 use Rattle.gabc_score.specs.machine.PartOnly.{HoldsTexts}
 use Rattle.gabc_score.specs.machine.ReadAlone.{is_alone, lists_from, HasRead}
-use Rattle.gabc_score.specs.machine.Run.{GoesBefore, IsFound, IsSamePair, IsSteady, StandsBetween, RunsBefore, RunsTo, before_in}
+use Rattle.gabc_score.specs.machine.Run.{GoesBefore, IsFound, IsSamePair, KeepsFirstSound, IsBetweenSyllables, RunsBefore, RunsTo, before_in}
 use Rattle.gabc_score.specs.machine.ScoreMachine.{has_given, shown, IsInBody, IsScoreAt}
 use Rattle.gabc_score.specs.machine.SlotPair.{SlotPairState, is_made}
 use Rattle.gabc_body.specs.witness.SyllableBuilder.{nothing_open}
 use Rattle.gabc_score.proofs.runs.FoundSyllable.{plain_is, utf8_is}
-use Rattle.gabc_score.proofs.runs.LastIsHeld.{rests_there, is_alone_there, rests_then, holds_then}
+use Rattle.gabc_score.proofs.runs.LastSyllableBecomesPending.{rests_there, is_alone_there, rests_then, holds_then}
 use Rattle.gabc_score.proofs.runs.RunBegins.{held_of, run_begins}
 use Rattle.gabc_score.proofs.runs.RunEnds.{EndsWith, run_ends}
 use Rattle.gabc_score.proofs.runs.RunGives.{run_gives}
-use Rattle.gabc_score.proofs.runs.RunGoesOn.{MakeSyllables, low_there}
+use Rattle.gabc_score.proofs.runs.RunTakesOneMoreSyllable.{MakeSyllables, low_there}
 use Rattle.gabc_score.proofs.runs.MachineStaysBetween.{moved_stands}
 
 -- ---- what is borrowed does not count
@@ -72,8 +72,8 @@ shown_same old new same first second = grind arith
 abbrev pub placed_first : ScoreMachine → UnplacedSyllable → Bool → PlacedSyllable
 placed_first m x starts = record { made = x; position = position_by (not (has_given m) || x.text.word_start) starts }
 
-module _ (m : ScoreMachine) (at : Place) (text : List ℕ) (first : Found) (stands : StandsBetween m at)
-    (found : IsFound m.body.nabc_lines m.limits m.bounds.after.canonical first) (steady : IsSteady m.body.nabc_lines m.pair.gathered.first_kind found.is.syllable) (is : text ≡ first.spelled.now ++ first.rest.now)
+module _ (m : ScoreMachine) (at : Place) (text : List ℕ) (first : Found) (stands : IsBetweenSyllables m at)
+    (found : IsFound m.body.nabc_lines m.limits m.bounds.after.canonical first) (steady : KeepsFirstSound m.body.nabc_lines m.pair.gathered.first_kind found.is.syllable) (is : text ≡ first.spelled.now ++ first.rest.now)
     (line : at.line + length text < 2 ^ 63) (column : at.column + length text < 2 ^ 63) where
   abbrev pub reached_first : Reached
   reached_first = record { last = first; count = 0; canonical = m.bounds.after.canonical; spans = m.bounds.after.spans }
@@ -99,7 +99,7 @@ module _ (m : ScoreMachine) (at : Place) (text : List ℕ) (first : Found) (stan
         runs = subst (λ (p : Preceding). RunsBefore (record m { pair = pair }) at (chars []) given_first (nat_lt 0 first.gap) p (place_past at (chars []))) (sym first_before)
             (subst (λ (t : List ℕ). RunsBefore (record m { pair = pair }) at t given_first (nat_lt 0 first.gap) m.bounds.after (place_past at t)) (sym chars-nil) begins);
         found = found;
-        steady = subst (λ (g : Gathered). IsSteady m.body.nabc_lines g.first_kind found.is.syllable) (sym gathered) steady;
+        steady = subst (λ (g : Gathered). KeepsFirstSound m.body.nabc_lines g.first_kind found.is.syllable) (sym gathered) steady;
         text_is = is;
         line = line;
         column = column;

@@ -11,18 +11,18 @@ use Rattle.gabc_headers.specs.declared.head_event.HeadEvent.{HeadEvent}
 use Rattle.gabc_score.specs.GivesSyllables.{text_inputs}
 use Rattle.gabc_body.specs.ScoreEvents.{ScoreOutput, Syllable}
 use Rattle.gabc_body.specs.Syllable.{PlacedSyllable}
-use Rattle.gabc_score.specs.machine.Between.{GoesThrough, left_between}
+use Rattle.gabc_score.specs.machine.Between.{StepsOver, left_between}
 use Rattle.gabc_score.specs.machine.ScoreStage.{HeldScore}
 
 pub inputs_append : (at : Place) (t u : List ℕ) → text_inputs at (t ++ u) ≡ text_inputs at t ++ text_inputs (place_past at t) u
 inputs_append at t u = grind (arith, placed_append, map-append)
 
 module _ (limits : Limits) (lines macros : ℕ) where
-  pub through_none : (at : Place) (s : HeldScore) → GoesThrough limits lines macros at s [] [] at s
+  pub through_none : (at : Place) (s : HeldScore) → StepsOver limits lines macros at s [] [] at s
   through_none at s = record { points = []; one_each = refl; law = λ xs. refl; given_are = refl }
 
   pub through_both : (at : Place) (s a b : HeldScore) (t u : List ℕ) (g h : List PlacedSyllable) (next last : Place) → next ≡ place_past at t
-      → GoesThrough limits lines macros at s t g next a → GoesThrough limits lines macros next a u h last b → GoesThrough limits lines macros at s (t ++ u) (g ++ h) last b
+      → StepsOver limits lines macros at s t g next a → StepsOver limits lines macros next a u h last b → StepsOver limits lines macros at s (t ++ u) (g ++ h) last b
   through_both at s a b t u g h next last place first second = record {
     points = first.points ++ second.points;
     one_each = length-append first.points second.points ∙ ap (λ n. n + length second.points) first.one_each ∙ ap (λ n. length t + n) second.one_each ∙ sym (length-append t u);

@@ -34,19 +34,19 @@ use Rattle.gabc_body.proofs.score_events.NothingAfterTheEnd.{Ends, silent, then_
 
 module _ (limits : Limits) where
   end_ends : (s : HeldScore) (now : List BodyEvent) (fault : Option Fault) (outputs : List ScoreOutput) → outputs ≡ [] → Ends (end_outputs_by s now fault ++ outputs)
-  end_ends s now (Some fault) outputs e = last_ends [] (placed_after s.has_lent s.gathered.made) (Stop fault) outputs e
+  end_ends s now (Some fault) outputs e = last_ends [] (placed_after s.is_preceded s.gathered.made) (Stop fault) outputs e
   end_ends s now None outputs e = last_ends _ _ End outputs e
 
   by_code : (code : Option Code) (s : HeldScore) (x : Char) (now : List BodyEvent) (xs : List HeadEvent) (later : List (List ScoreOutput)) → Ends (concat_of later) → Ends (concat_of (left_by code s x now xs later))
-  by_code (Some code) s x now xs later h = last_ends [] (placed_after s.has_lent s.gathered.made) (Stop (fault_at x.place code)) (concat_of (silence xs)) (joined_silence xs)
+  by_code (Some code) s x now xs later h = last_ends [] (placed_after s.is_preceded s.gathered.made) (Stop (fault_at x.place code)) (concat_of (silence xs)) (joined_silence xs)
   by_code None s x now xs later h = then_end (findings_now now ++ found_first s.gathered.first_kind (with_all s.gathered now).first_kind x.place) _ (concat_of later) h
 
   body_ends : (s : HeldScore) (lists : List (List BodyEvent)) (xs : List HeadEvent) → Ends (concat_of (body_left limits s lists xs))
-  body_ends s lists [] = then_end [] (placed_after s.has_lent s.gathered.made) [] tt
+  body_ends s lists [] = then_end [] (placed_after s.is_preceded s.gathered.made) [] tt
   body_ends s (now ∷ lists) (head_event.Body x ∷ xs) = by_code (code_in limits (with_all s.gathered now)) s x now xs _ (body_ends (score_past s x now) lists xs)
   body_ends s [] (head_event.Body x ∷ xs) = silent _ (joined_silence (head_event.Body x ∷ xs))
   body_ends s lists (head_event.End ∷ xs) = grind (arith, end_ends, joined_silence)
-  body_ends s lists (head_event.Stop fault ∷ xs) = last_ends [] (placed_after s.has_lent s.gathered.made) (Stop fault) (concat_of (silence xs)) (joined_silence xs)
+  body_ends s lists (head_event.Stop fault ∷ xs) = last_ends [] (placed_after s.is_preceded s.gathered.made) (Stop fault) (concat_of (silence xs)) (joined_silence xs)
   body_ends s lists (head_event.Found f ∷ xs) = (λ l. absurd (cc), body_ends s lists xs)
   body_ends s lists (head_event.Heads lines macros canonical ∷ xs) = body_ends s lists xs
 

@@ -18,7 +18,7 @@ use Rattle.gabc_score.specs.machine.Collected.{result_with, to_come}
 use Rattle.gabc_score.specs.machine.ScoreStage.{begun_score, body_left}
 use Rattle.gabc_body.proofs.score_events.BodyOutputs.{Says, body_says}
 use Rattle.gabc_body.proofs.gathering.FirstNotes.{first_each}
-use Rattle.gabc_score.proofs.score_events.HeldScoreIsDefinition.{left_is, holds_nothing}
+use Rattle.gabc_score.proofs.score_events.EmittedScoreMeetsDefinition.{left_is, holds_nothing}
 use Rattle.gabc_score.specs.witness.BodyStage.{BodyStageState, running_events_left}
 use Rattle.gabc_body.proofs.score_events.ScoreOutputs.{characters_are, ends_past}
 use Rattle.std.proofs.lemmas.Bool.{cond_both}

@@ -44,19 +44,19 @@ use Rattle.gabc_score.proofs.building.PartsEndLines.{ends_line}
 use Rattle.gabc_score.proofs.building.PartsKeepOn.{keeps_on, makes}
 use Rattle.gabc_score.proofs.building.PartsKeepOnly.{keeps_only}
 use Rattle.gabc_score.proofs.building.PartsOpenOn.{opens_on}
-use Rattle.gabc_score.proofs.building.PartsStandOn.{stands_on}
+use Rattle.gabc_score.proofs.building.PartsTrackPlaces.{stands_on}
 use Rattle.gabc_score.proofs.building.SyllableEndsLast.{closes_last}
 use Rattle.gabc_score.proofs.score_events.CountsGoOn.{counts_past, none_past}
 use Rattle.gabc_score.proofs.score_events.EventsStayWithinBounds.{code_turned, few_found, is_within}
 use Rattle.gabc_score.proofs.score_events.FewAndShortAreLent.{held_lends, lends_these, one_at_most, placed_within}
 use Rattle.gabc_score.proofs.score_events.FrontIsFirst.{front_past, leaves_front}
 use Rattle.gabc_score.proofs.score_events.GivesOutside.{gives_outside}
-use Rattle.gabc_score.proofs.score_events.HeldWithinLimits.{within_now, within_past}
+use Rattle.gabc_score.proofs.score_events.GatheredStaysWithinLimits.{within_now, within_past}
 use Rattle.gabc_score.proofs.score_events.MemoryIsKept.{limit_past, room_past}
 use Rattle.gabc_score.proofs.score_events.OpenersInOrder.{opens_in_order, place_after_input}
 use Rattle.gabc_score.proofs.score_events.PartsFollow.{leads_out, stays_inside}
 use Rattle.gabc_score.proofs.score_events.TextsArePlain.{plain_all, plain_held, of_character}
-use Rattle.gabc_score.proofs.score_events.UnitsAreHeld.{units_past}
+use Rattle.gabc_score.proofs.score_events.PendingSyllableHoldsUnit.{units_past}
 use Rattle.gabc_score.proofs.score_events.WhatIsRead.{reading_past}
 use Rattle.gabc_score.proofs.score_events.WhatPrecedes.{Turns, lent_past, turned, past_in_body}
 use Rattle.gabc_score.proofs.score_events.WholeSyllables.{whole_past}
@@ -98,7 +98,7 @@ module _ {m : ScoreMachine} {x : Char} {b : BodyStageState} {p : SlotPairState} 
 
   -- what will be given after this was gathered
   abbrev later : List HeadEvent → Gathered → List (List ScoreOutput)
-  later xs k = body_left m.limits (record { next = saturating_next_place x.place x.c; gathered = with_held k; has_lent = has_given m || nat_lt 1 (length k.made) }) (running_events_left b (characters_in xs)) xs
+  later xs k = body_left m.limits (record { next = saturating_next_place x.place x.c; gathered = with_held k; is_preceded = has_given m || nat_lt 1 (length k.made) }) (running_events_left b (characters_in xs)) xs
 
   left_is : (xs : List HeadEvent) → left_of (shown m) (head_event.Body x ∷ xs) ≡ left_by (code_in m.limits (with_all was now)) (held_score m) x now xs (later xs (with_all was now))
   left_is xs = grind (arith, emits)

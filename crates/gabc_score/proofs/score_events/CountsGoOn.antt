@@ -46,9 +46,9 @@ held_some g e = by g.made (sym (last_stays g.made) ∙ e)
     by (m ∷ ms) e = absurd (cc)
 
 -- what stands before the held syllable is below the limit of the input, as what stands after it is
-pub counts_past : (limits : Limits) (lines macros : ℕ) (before after : Preceding) (has_lent : Bool) (h turned : Gathered) → after ≡ with_placed before (take (length h.made - 1) (placed_after has_lent h.made)) → turned ≡ with_held h
+pub counts_past : (limits : Limits) (lines macros : ℕ) (before after : Preceding) (is_preceded : Bool) (h turned : Gathered) → after ≡ with_placed before (take (length h.made - 1) (placed_after is_preceded h.made)) → turned ≡ with_held h
     → IsPreceded after turned → HoldsWithin limits after turned → AreCountsWithin limits lines macros before.canonical → AreCountsWithin limits lines macros after.canonical
-counts_past limits lines macros before after has_lent h turned there turns preceded within c = record {
+counts_past limits lines macros before after is_preceded h turned there turns preceded within c = record {
   few_lines = c.few_lines;
   ten_macros = c.ten_macros;
   headers = subst (λ (p : Preceding). 2 ≤ p.canonical) (sym there) (more 2 before given (omega arith) c.headers);
@@ -56,7 +56,7 @@ counts_past limits lines macros before after has_lent h turned there turns prece
 }
   where
     given : List UnplacedSyllable
-    given = map (λ (s : PlacedSyllable). s.made) (take (length h.made - 1) (placed_after has_lent h.made))
+    given = map (λ (s : PlacedSyllable). s.made) (take (length h.made - 1) (placed_after is_preceded h.made))
 
     small : after.canonical < 2 ^ 64
     small = let under = c.below in let most = limits.in_range.input_most in rw there (fits before given (omega (arith, under, most)))
@@ -69,14 +69,14 @@ counts_past limits lines macros before after has_lent h turned there turns prece
         omega (arith, file, total, up)
     by true e =
         let none : h.made ≡ [] = held_some h (sym (ap (λ (k : Gathered). is_none k.made) turns) ∙ e) in
-        subst (λ (p : Preceding). p.canonical < limits.input) (sym (there ∙ ap (λ (ms : List UnplacedSyllable). with_placed before (take (length ms - 1) (placed_after has_lent ms))) none)) c.below
+        subst (λ (p : Preceding). p.canonical < limits.input) (sym (there ∙ ap (λ (ms : List UnplacedSyllable). with_placed before (take (length ms - 1) (placed_after is_preceded ms))) none)) c.below
 
 -- if none is held then, none was before
-pub none_past : (before after : Preceding) (has_lent : Bool) (g h turned : Gathered) (now : List BodyEvent) → ClosesLast now → after ≡ with_placed before (take (length h.made - 1) (placed_after has_lent h.made)) → turned ≡ with_held h
+pub none_past : (before after : Preceding) (is_preceded : Bool) (g h turned : Gathered) (now : List BodyEvent) → ClosesLast now → after ≡ with_placed before (take (length h.made - 1) (placed_after is_preceded h.made)) → turned ≡ with_held h
     → h ≡ with_all g now → (held_in_body score_part.Body g.made ≡ None → before.syllables ≡ 0) → held_in_body score_part.Body turned.made ≡ None → after.syllables ≡ 0
-none_past before after has_lent g h turned now last there turns is was none =
+none_past before after is_preceded g h turned now last there turns is was none =
     let here : h.made ≡ [] = held_some h (sym (ap (λ (k : Gathered). is_none k.made) turns) ∙ none_in turned.made none) in
-    ap (λ (p : Preceding). p.syllables) (there ∙ ap (λ (ms : List UnplacedSyllable). with_placed before (take (length ms - 1) (placed_after has_lent ms))) here)
+    ap (λ (p : Preceding). p.syllables) (there ∙ ap (λ (ms : List UnplacedSyllable). with_placed before (take (length ms - 1) (placed_after is_preceded ms))) here)
     ∙ was (ap (held_in_body score_part.Body) (old (same_or_closed g now last) (ap (λ (k : Gathered). k.made) (sym is) ∙ here)))
   where
     none_in : (ms : List UnplacedSyllable) → held_in_body score_part.Body ms ≡ None → is_none ms ≡ true

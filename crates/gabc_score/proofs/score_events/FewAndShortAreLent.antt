@@ -63,10 +63,10 @@ pub few_lent : (n : ℕ) (first second : PlacedSyllable) (ss : List PlacedSyllab
 few_lent n first second ss e = let h = length-take n (first ∷ second ∷ []) in let k = ap length e in grind (arith, nat_tests)
 
 -- a syllable that was held is short
-pub held_lends : (limits : Limits) (most : ℕ) (has_lent : Bool) (held made : List UnplacedSyllable) (tail : List ScoreOutput) → syllables_in tail ≡ [] → held ≡ made → All (IsShort limits.syllable) made
-    → length (placed_after has_lent held) ≤ 1 → 1 ≤ most → Lends limits most (outputs_of [] (placed_after has_lent held) ++ tail)
-held_lends limits most has_lent held made tail none e short few one =
-    lends_these limits most [] (placed_after has_lent held) tail none (omega (arith, few, one)) (one_at_most (placed_after has_lent held) few) (placed_within limits (not has_lent) held (subst (All (IsShort limits.syllable)) (sym e) short))
+pub held_lends : (limits : Limits) (most : ℕ) (is_preceded : Bool) (held made : List UnplacedSyllable) (tail : List ScoreOutput) → syllables_in tail ≡ [] → held ≡ made → All (IsShort limits.syllable) made
+    → length (placed_after is_preceded held) ≤ 1 → 1 ≤ most → Lends limits most (outputs_of [] (placed_after is_preceded held) ++ tail)
+held_lends limits most is_preceded held made tail none e short few one =
+    lends_these limits most [] (placed_after is_preceded held) tail none (omega (arith, few, one)) (one_at_most (placed_after is_preceded held) few) (placed_within limits (not is_preceded) held (subst (All (IsShort limits.syllable)) (sym e) short))
 
 -- at an end without a fault no limit is passed
 pub no_code : (limits : Limits) (at : Place) (g : Gathered) → end_fault limits at g ≡ None → code_in limits g ≡ None

@@ -29,9 +29,9 @@ pub front_moved : (at : Place) (b : BodyPart) → is_in_front (moved_part at b) 
 front_moved at b = grind arith
 
 -- After a character the comment is still open only if nothing has come.
-pub front_past : (before after : BodyPart) (p later : Preceding) (has_lent : _) (g h turned : Gathered) (now : List BodyEvent) → PartLeavesFront before after now → (is_in_front before ≡ true → NoneIsWhole p g)
-    → h ≡ with_all g now → later ≡ with_placed p (take (length h.made - 1) (placed_after has_lent h.made)) → turned ≡ with_held h → is_in_front after ≡ true → NoneIsWhole later turned
-front_past before after p later has_lent g h turned now leaves was is there turns front = grind arith
+pub front_past : (before after : BodyPart) (p later : Preceding) (is_preceded : _) (g h turned : Gathered) (now : List BodyEvent) → PartLeavesFront before after now → (is_in_front before ≡ true → NoneIsWhole p g)
+    → h ≡ with_all g now → later ≡ with_placed p (take (length h.made - 1) (placed_after is_preceded h.made)) → turned ≡ with_held h → is_in_front after ≡ true → NoneIsWhole later turned
+front_past before after p later is_preceded g h turned now leaves was is there turns front = grind arith
 
 -- a machine in front has read nothing
 pub stands_there : (m : ScoreMachine) → m.part ≡ score_part.Body → IsInBody m → is_in_front m.body.part ≡ true → IsInFront (shown m)

@@ -28,12 +28,12 @@ none_made_at_end r g now law = grind (arith, made_stays, ends_close_none)
 -- ---- the last text
 
 -- if one syllable is held at most, what is made last has no notes
-pub last_has_no_notes : (has_lent : Bool) (g : Gathered) → length g.made ≤ 1 → OnlyFirstHasNotes (placed_after has_lent (with_last g).made)
-last_has_no_notes has_lent g one =
-    cond_both (has_text g.builder.view) (with_syllable (with_no_notes g)) g (λ (k : Gathered). OnlyFirstHasNotes (placed_after has_lent k.made)) (λ e. by g.made one)
-    (λ e. one_at_most (placed_after has_lent g.made) (rw (placed_count (not has_lent) g.made) one))
+pub last_has_no_notes : (is_preceded : Bool) (g : Gathered) → length g.made ≤ 1 → OnlyFirstHasNotes (placed_after is_preceded (with_last g).made)
+last_has_no_notes is_preceded g one =
+    cond_both (has_text g.builder.view) (with_syllable (with_no_notes g)) g (λ (k : Gathered). OnlyFirstHasNotes (placed_after is_preceded k.made)) (λ e. by g.made one)
+    (λ e. one_at_most (placed_after is_preceded g.made) (rw (placed_count (not is_preceded) g.made) one))
   where
-    by : (ms : List UnplacedSyllable) → length ms ≤ 1 → OnlyFirstHasNotes (placed_after has_lent (with_syllable (with_no_notes (record g { made = ms }))).made)
+    by : (ms : List UnplacedSyllable) → length ms ≤ 1 → OnlyFirstHasNotes (placed_after is_preceded (with_syllable (with_no_notes (record g { made = ms }))).made)
     by [] few = All-nil (λ (t : PlacedSyllable). has_no_notes t.made ≡ true)
     by (m ∷ []) few = All-push (λ (t : PlacedSyllable). has_no_notes t.made ≡ true) [] _ (All-nil (λ (t : PlacedSyllable). has_no_notes t.made ≡ true)) (eq-eqb (length g.builder.kept) _ refl)
     by (m ∷ n ∷ ms) few = absurd (omega (arith, few))

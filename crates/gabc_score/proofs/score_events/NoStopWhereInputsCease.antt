@@ -44,7 +44,7 @@ no_stop s = by_part s.limits s.part s.held s.body
 -- one syllable is given at most, if one is held at most
 pub few_are_held : (limits : Limits) (s : HeldScore) (body : BodyStageState) → length s.gathered.made ≤ 1
     → length (syllables_in (concat_of (outputs_left limits score_part.Body s body []))) ≤ 1
-few_are_held limits s body few = rw (given_syllables [] (placed_after s.has_lent s.gathered.made) [] refl, placed_count (not s.has_lent) s.gathered.made) few
+few_are_held limits s body few = rw (given_syllables [] (placed_after s.is_preceded s.gathered.made) [] refl, placed_count (not s.is_preceded) s.gathered.made) few
 
 -- ---- the end
 
@@ -53,7 +53,7 @@ silent xs = ap has_end (joined_silence {O = ScoreOutput} xs)
 
 stopped : (s : HeldScore) (fault : Fault) (xs : List HeadEvent) → has_end (concat_of (stop_outputs s fault ∷ silence xs)) ≡ false
 stopped s fault xs =
-    let ss = placed_after s.has_lent s.gathered.made in
+    let ss = placed_after s.is_preceded s.gathered.made in
     let later = concat_of (silence {O = ScoreOutput} xs) in
     ap has_end (append_assoc (outputs_of [] ss) (Stop fault ∷ []) later)
     ∙ (ap (λ (t : Said). t.ended) (said_of [] ss (Stop fault ∷ later)) ∙ silent xs)
@@ -67,7 +67,7 @@ read : (code : Option Code) (s : HeldScore) (x : Char) (now : List BodyEvent) (x
 read code s x now xs later none = grind (arith, stopped, pointed)
 
 in_body : (limits : Limits) (s : HeldScore) (lists : List (List BodyEvent)) (xs : List HeadEvent) → HasNoEnd xs → has_end (concat_of (body_left limits s lists xs)) ≡ false
-in_body limits s lists [] h = (held (placed_after s.has_lent s.gathered.made)).end
+in_body limits s lists [] h = (held (placed_after s.is_preceded s.gathered.made)).end
 in_body limits s (now ∷ lists) (head_event.Body x ∷ xs) h = grind (arith, in_body limits (score_past s x now) lists xs h, read)
 in_body limits s [] (head_event.Body x ∷ xs) h = silent xs
 in_body limits s lists (head_event.End ∷ xs) h = absurd h

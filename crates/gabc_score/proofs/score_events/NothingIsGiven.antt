@@ -1,6 +1,6 @@
 -- A character at which nothing is found, no syllable becomes whole and no limit is passed: nothing
 -- is given.
-use Rattle.gabc_score.proofs.building.EventsAreHeld.{none_closes}
+use Rattle.gabc_score.proofs.building.EventsAreGatheredInTurn.{none_closes}
 use Rattle.std.proofs.Common.{◌≡◌, ℕ, ◌+◌, ◌-◌, ◌≤◌, ◌||◌, ◌&&◌, not, nat_lt, Bool, false, cond, List, [], length, take, Option, Some, None, refl, sym, ap, ◌∙◌, arith, append-nil}
 use Rattle.std.specs.List.{list_any}
 use Rattle.std.proofs.lemmas.Bool.Decides.{nat_tests}

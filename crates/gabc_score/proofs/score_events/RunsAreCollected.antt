@@ -20,7 +20,7 @@ use Rattle.gabc_body.specs.Syllable.{PlacedSyllable}
 use Rattle.gabc_score.specs.GivesSyllables.{Runs}
 use Rattle.gabc_score.specs.witness.ScoreStage.{ScoreStageState, left_of}
 use Rattle.gabc_score.specs.machine.Collected.{IsSaid, PassesRun, WillSay, result_with, to_come}
-use Rattle.gabc_score.proofs.runs.RunGoesOn.{few_characters}
+use Rattle.gabc_score.proofs.runs.RunTakesOneMoreSyllable.{few_characters}
 use Rattle.gabc_score.proofs.score_events.OutputsAreCollected.{with_more}
 use Rattle.gabc_text.proofs.tokens.CountsOfTexts.{place_small}
 

@@ -229,16 +229,16 @@ after_is before h ms m p made eu nlba builder = grind (arith, each_then, or-fals
 
 -- What stands before and after the held syllable then reports of what was gathered, by whether the
 -- one held before is given.
-pub record Turns (b : Bounds) (h : Gathered) (has_lent whole gave : Bool) : Type 0 where
+pub record Turns (b : Bounds) (h : Gathered) (is_preceded whole gave : Bool) : Type 0 where
   pub preceded : IsPreceded (before_past whole gave b) (with_held h)
   pub after : (past_point whole gave b h).after ≡ with_each (before_past whole gave b) (with_held h).made
-  pub given : before_past whole gave b ≡ with_placed b.before (take (length h.made - 1) (placed_after has_lent h.made))
+  pub given : before_past whole gave b ≡ with_placed b.before (take (length h.made - 1) (placed_after is_preceded h.made))
 
 -- a syllable less is before those that are not given
 given_one : (before : Preceding) (h : Gathered) (s m : UnplacedSyllable) → IsPreceded before (record h { made = s ∷ m ∷ [] }) → IsPreceded (with_one before s) (record h { made = m ∷ [] })
 given_one before h s m p = record { follows = p.follows; total = p.total; sounded = p.sounded; snippets = p.snippets; from = p.from }
 
-module _ (b : Bounds) (old : Gathered) (now : List BodyEvent) (preceded : IsPreceded b.before old) (is : b.after ≡ with_each b.before old.made) (last : ClosesLast now) (few : length old.made ≤ 1) (has_lent : Bool) where
+module _ (b : Bounds) (old : Gathered) (now : List BodyEvent) (preceded : IsPreceded b.before old) (is : b.after ≡ with_each b.before old.made) (last : ClosesLast now) (few : length old.made ≤ 1) (is_preceded : Bool) where
   abbrev h : Gathered
   h = with_all old now
 
@@ -249,7 +249,7 @@ module _ (b : Bounds) (old : Gathered) (now : List BodyEvent) (preceded : IsPrec
   made_as ms e = subst (λ (k : List UnplacedSyllable). IsPreceded b.before (record h { made = k })) e p
 
   -- the first one has become whole, or one after another
-  closed : (ms : List UnplacedSyllable) → old.made ≡ ms → (c : Closed old h) → Turns b h has_lent true (nat_lt 1 (length h.made))
+  closed : (ms : List UnplacedSyllable) → old.made ≡ ms → (c : Closed old h) → Turns b h is_preceded true (nat_lt 1 (length h.made))
   closed [] e c =
       let made : h.made ≡ c.m ∷ [] = c.made ∙ ap (λ ms. ms ++ c.m ∷ []) e in
       rw made (record {
@@ -267,15 +267,15 @@ module _ (b : Bounds) (old : Gathered) (now : List BodyEvent) (preceded : IsPrec
       })
   closed (s ∷ t ∷ rest) e c = absurd (let l = ap length e in omega (arith, l, few))
 
-  pub turned : (whole gave : Bool) → whole ≡ nat_lt (length old.made) (length h.made) → gave ≡ nat_lt 1 (length h.made) → Turns b h has_lent whole gave
+  pub turned : (whole gave : Bool) → whole ≡ nat_lt (length old.made) (length h.made) → gave ≡ nat_lt 1 (length h.made) → Turns b h is_preceded whole gave
   turned whole gave w g = by (same_or_closed old now last) whole w
     where
-      by : (h.made ≡ old.made) ⊎ Closed old h → (whole : Bool) → whole ≡ nat_lt (length old.made) (length h.made) → Turns b h has_lent whole gave
+      by : (h.made ≡ old.made) ⊎ Closed old h → (whole : Bool) → whole ≡ nat_lt (length old.made) (length h.made) → Turns b h is_preceded whole gave
       by (inl same) true w = absurd (let l = ap length same in grind (arith, nat_tests, w, l))
       by (inl same) false w =
           let none : length h.made - 1 ≡ 0 = let l = ap length same in omega (arith, few, l) in
           record { preceded = rw none p; after = rw none (is ∙ ap (with_each b.before) (sym same)); given = rw none refl }
-      by (inr c) true w = subst (Turns b h has_lent true) (sym g) (closed old.made refl c)
+      by (inr c) true w = subst (Turns b h is_preceded true) (sym g) (closed old.made refl c)
       by (inr c) false w = absurd (let l = ap length c.made in let k = length-append old.made (c.m ∷ []) in grind (arith, nat_tests, w, l, k))
 
 -- in the body an input goes past the syllables that are given at it
@@ -289,17 +289,17 @@ each_some p [] h = h
 each_some p (m ∷ ms) h = each_some (with_one p m) ms (omega (arith, h))
 
 -- one was given if two were made
-pub given_some : (has_lent : Bool) (p : Preceding) (s m : UnplacedSyllable) (ms : List UnplacedSyllable) → 1 ≤ (with_placed p (take (length (s ∷ m ∷ ms) - 1) (placed_after has_lent (s ∷ m ∷ ms)))).syllables
-given_some has_lent p s m ms =
+pub given_some : (is_preceded : Bool) (p : Preceding) (s m : UnplacedSyllable) (ms : List UnplacedSyllable) → 1 ≤ (with_placed p (take (length (s ∷ m ∷ ms) - 1) (placed_after is_preceded (s ∷ m ∷ ms)))).syllables
+given_some is_preceded p s m ms =
     let count : length (s ∷ m ∷ ms) - 1 ≡ suc (length ms) = omega arith in
     rw count (each_some (with_one p s) (map (λ (s : PlacedSyllable). s.made) (take (length ms) (placed_after true (m ∷ ms)))) (omega arith))
 
 -- one was, exactly if one stands before the held syllable
-pub lent_past : (before passed : Preceding) (has_lent : Bool) (made : List UnplacedSyllable) → has_lent ≡ nat_lt 0 before.syllables → passed ≡ with_placed before (take (length made - 1) (placed_after has_lent made))
-    → (has_lent || nat_lt 1 (length made)) ≡ nat_lt 0 passed.syllables
-lent_past before passed has_lent [] l p = rw p (or-false has_lent ∙ l)
-lent_past before passed has_lent (m ∷ []) l p = rw p (or-false has_lent ∙ l)
-lent_past before passed has_lent (m ∷ n ∷ made) l p =
-    let some = given_some has_lent before m n made in
+pub lent_past : (before passed : Preceding) (is_preceded : Bool) (made : List UnplacedSyllable) → is_preceded ≡ nat_lt 0 before.syllables → passed ≡ with_placed before (take (length made - 1) (placed_after is_preceded made))
+    → (is_preceded || nat_lt 1 (length made)) ≡ nat_lt 0 passed.syllables
+lent_past before passed is_preceded [] l p = rw p (or-false is_preceded ∙ l)
+lent_past before passed is_preceded (m ∷ []) l p = rw p (or-false is_preceded ∙ l)
+lent_past before passed is_preceded (m ∷ n ∷ made) l p =
+    let some = given_some is_preceded before m n made in
     let more : nat_lt 1 (length (m ∷ n ∷ made)) ≡ true = grind (arith, nat_tests) in
-    rw (more, p) (or-true has_lent ∙ sym (grind (arith, nat_tests, some)))
+    rw (more, p) (or-true is_preceded ∙ sym (grind (arith, nat_tests, some)))

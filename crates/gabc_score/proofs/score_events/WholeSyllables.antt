@@ -20,15 +20,15 @@ few_each p (m ∷ ms) = let h = few_each (with_one p m) ms in omega (arith, h)
 one_more : (g : Gathered) (now : List BodyEvent) → ClosesLast now → length (with_all g now).made ≤ length g.made + 1
 one_more g now last = grind (arith, same_or_closed, length-append)
 
-passed : (p : Preceding) (has_lent : Bool) (made : List UnplacedSyllable) → (with_placed p (take (length made - 1) (placed_after has_lent made))).syllables + length (drop (length made - 1) made) ≤ p.syllables + length made
-passed p has_lent made = grind (arith, few_each, length-map, length-take, length-drop)
+passed : (p : Preceding) (is_preceded : Bool) (made : List UnplacedSyllable) → (with_placed p (take (length made - 1) (placed_after is_preceded made))).syllables + length (drop (length made - 1) made) ≤ p.syllables + length made
+passed p is_preceded made = grind (arith, few_each, length-map, length-take, length-drop)
 
-pub whole_past : (before after : Preceding) (has_lent : Bool) (g h turned : Gathered) (now : List BodyEvent) → ClosesLast now → h ≡ with_all g now
-    → after ≡ with_placed before (take (length h.made - 1) (placed_after has_lent h.made)) → turned ≡ with_held h → after.syllables + length turned.made ≤ before.syllables + length g.made + 1
-whole_past before after has_lent g h turned now last is there turns =
+pub whole_past : (before after : Preceding) (is_preceded : Bool) (g h turned : Gathered) (now : List BodyEvent) → ClosesLast now → h ≡ with_all g now
+    → after ≡ with_placed before (take (length h.made - 1) (placed_after is_preceded h.made)) → turned ≡ with_held h → after.syllables + length turned.made ≤ before.syllables + length g.made + 1
+whole_past before after is_preceded g h turned now last is there turns =
     let few = one_more g now last in
     let all = ap (λ (k : Gathered). length k.made) is in
-    let sum = passed before has_lent h.made in
+    let sum = passed before is_preceded h.made in
     let count = ap (λ (p : Preceding). p.syllables) there in
     let held = ap (λ (k : Gathered). length k.made) turns in
     omega (arith, few, all, sum, count, held)

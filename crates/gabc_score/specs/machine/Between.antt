@@ -32,12 +32,12 @@ abbrev pub with_one : Gathered → UnplacedSyllable → Gathered
 with_one g m = record (with_made g m) { eu = m.eu; nlba = m.nlba; made = m ∷ [] }
 
 -- the same of a score, whose next character stands at this place
-abbrev pub past_one : HeldScore → Place → UnplacedSyllable → HeldScore
-past_one s next m = record { next = next; gathered = with_one s.gathered m; has_lent = s.has_lent || nat_lt 0 (length s.gathered.made) }
+abbrev pub after_one : HeldScore → Place → UnplacedSyllable → HeldScore
+after_one s next m = record { next = next; gathered = with_one s.gathered m; is_preceded = s.is_preceded || nat_lt 0 (length s.gathered.made) }
 
 -- what is given then: the syllable held before, if there was one
 abbrev pub given_before : HeldScore → UnplacedSyllable → List PlacedSyllable
-given_before s m = take (length s.gathered.made) (placed_after s.has_lent (s.gathered.made ++ m ∷ []))
+given_before s m = take (length s.gathered.made) (placed_after s.is_preceded (s.gathered.made ++ m ∷ []))
 
 -- ---- between two syllables
 
@@ -67,7 +67,7 @@ module _ (limits : Limits) where
 
     -- A text of some characters is read, with which only these syllables are given, and then stands
     -- between two syllables again.
-    pub record GoesThrough (at : Place) (s : HeldScore) (t : List ℕ) (given : List PlacedSyllable) (next : Place) (after : HeldScore) : Type 0 where
+    pub record StepsOver (at : Place) (s : HeldScore) (t : List ℕ) (given : List PlacedSyllable) (next : Place) (after : HeldScore) : Type 0 where
       pub points : List (List ScoreOutput)
       pub one_each : length points ≡ length t
       pub law : (xs : List HeadEvent) → left_between at s (text_inputs at t ++ xs) ≡ points ++ left_between next after xs
@@ -79,7 +79,7 @@ lists_between lines macros at t = let us = placed_characters_from at t in take (
 
 -- With these lists one syllable is gathered and nothing is read of the next one, no limit is passed
 -- and no error is found.
-pub record IsAloneWith (limits : Limits) (g : Gathered) (lists : List (List BodyEvent)) (m : UnplacedSyllable) : Type 0 where
+pub record GathersOneSyllable (limits : Limits) (g : Gathered) (lists : List (List BodyEvent)) (m : UnplacedSyllable) : Type 0 where
   pub alone : is_alone limits g lists ≡ true
   pub gathered : with_all g (concat_of lists) ≡ with_one g m
 
@@ -88,7 +88,7 @@ pub record IsAloneWith (limits : Limits) (g : Gathered) (lists : List (List Body
 -- It keeps its spelling, with one blank if there are some before its text, and its spelling is its
 -- canonical text, text and snippets, each in its place. It holds a unit with the span marks of its
 -- text, and which spans are open after it follows from those before.
-pub record IsMadeOf (lines : ℕ) (spans : Spans) (r : SyllableParts) (m : UnplacedSyllable) : Type 0 where
+pub record SpellsItself (lines : ℕ) (spans : Spans) (r : SyllableParts) (m : UnplacedSyllable) : Type 0 where
   pub kept : m.kept ≡ encode_utf8_all (kept_spelled r)
   pub starts : m.text.word_start ≡ has_gap r.gap
   pub canonical_is : (starts : Bool) → canonical starts m ≡ encode_utf8_all (canonical_spelled starts r)
@@ -102,9 +102,9 @@ pub record IsMadeOf (lines : ℕ) (spans : Spans) (r : SyllableParts) (m : Unpla
 -- If these spans are open, a regular syllable that begins at this place makes this one, whatever
 -- was gathered before, if no note and no clef comes with it or one has come before: it is read to
 -- its end, and the one held before is given.
-pub record Makes (lines macros : ℕ) (at : Place) (r : SyllableParts) (spans : Spans) (m : UnplacedSyllable) : Type 0 where
-  pub made : IsMadeOf lines spans r m
+pub record ReadsAlike (lines macros : ℕ) (at : Place) (r : SyllableParts) (spans : Spans) (m : UnplacedSyllable) : Type 0 where
+  pub made : SpellsItself lines spans r m
   pub through : (limits : Limits) (s : HeldScore) → IsBetween limits s → SoundsNoMore (is_some s.gathered.first_kind) (sounds m) → spans_of s.gathered ≡ spans → LeavesRoomFor limits s.gathered r
-      → GoesThrough limits lines macros at s (spelled r) (given_before s m) (place_past at (spelled r)) (past_one s (place_past at (spelled r)) m)
+      → StepsOver limits lines macros at s (spelled r) (given_before s m) (place_past at (spelled r)) (after_one s (place_past at (spelled r)) m)
   pub alone : (limits : Limits) (s : HeldScore) → IsBetween limits s → SoundsNoMore (is_some s.gathered.first_kind) (sounds m) → s.gathered.made ≡ [] → spans_of s.gathered ≡ spans → LeavesRoomFor limits s.gathered r
-      → IsAloneWith limits s.gathered (lists_between lines macros at (spelled r)) m
+      → GathersOneSyllable limits s.gathered (lists_between lines macros at (spelled r)) m

@@ -11,18 +11,18 @@ AreInputsAlike a b = (a ≡ b) ⊎ ((is_some a ≡ true) × (is_some b ≡ true)
 module _ (m n : UnplacedSyllable) where
   -- n stands in place of m as the first that is not given, and begins a word as m does if that
   -- counts
-  pub record IsSwapped (has_lent : Bool) (ms ns : List UnplacedSyllable) : Type 0 where
+  pub record IsSwapped (is_preceded : Bool) (ms ns : List UnplacedSyllable) : Type 0 where
     pub rest : List UnplacedSyllable
     pub one : ms ≡ m ∷ rest
     pub other : ns ≡ n ∷ rest
-    pub twins : (not has_lent || m.text.word_start) ≡ (not has_lent || n.text.word_start)
+    pub twins : (not is_preceded || m.text.word_start) ≡ (not is_preceded || n.text.word_start)
 
   -- the same was made, or n in place of m
   abbrev pub AreMadeAlike : Bool → List UnplacedSyllable → List UnplacedSyllable → Type 0
-  AreMadeAlike has_lent ms ns = (ns ≡ ms) ⊎ IsSwapped has_lent ms ns
+  AreMadeAlike is_preceded ms ns = (ns ≡ ms) ⊎ IsSwapped is_preceded ms ns
 
   -- else b has gathered what a has
-  pub record IsEquivalentAside (has_lent : Bool) (a b : Gathered) : Type 0 where
+  pub record IsEquivalentAside (is_preceded : Bool) (a b : Gathered) : Type 0 where
     pub comes : AreInputsAlike a.first_kind b.first_kind
-    pub made : AreMadeAlike has_lent a.made b.made
+    pub made : AreMadeAlike is_preceded a.made b.made
     pub same : b ≡ record a { made = b.made; first_kind = b.first_kind }

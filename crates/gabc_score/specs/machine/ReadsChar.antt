@@ -47,12 +47,12 @@ found_past m x p f = extended_by f (found_first m.pair.gathered.first_kind p.gat
 
 -- What was found at a point was given, and the held syllable if another is whole, which is held
 -- then.
-pub record GivesPoint (has_lent : Bool) (before : SlotPairState) (room : BoundedList Finding) (result : Bool) (after : SlotPairState) (room_after : BoundedList Finding) (old new : BoundedList ScoreEvent) : Type 0 where
+pub record GivesPoint (is_preceded : Bool) (before : SlotPairState) (room : BoundedList Finding) (result : Bool) (after : SlotPairState) (room_after : BoundedList Finding) (old new : BoundedList ScoreEvent) : Type 0 where
   pub gathered : after.gathered ≡ with_held before.gathered
   pub used : is_made after.used ≡ false
   pub gave : result ≡ nat_lt 1 (length before.gathered.made)
-  pub emitted : (let made = before.gathered.made in GivesOutputs (outputs_of room.items (take (length made - 1) (placed_after has_lent made))) old new after.first after.second)
-  pub few : length (take (length before.gathered.made - 1) (placed_after has_lent before.gathered.made)) ≤ 1
+  pub emitted : (let made = before.gathered.made in GivesOutputs (outputs_of room.items (take (length made - 1) (placed_after is_preceded made))) old new after.first after.second)
+  pub few : length (take (length before.gathered.made - 1) (placed_after is_preceded before.gathered.made)) ≤ 1
   pub found : room_after ≡ record room { items = [] }
 
 -- These outputs were given as the last ones, with these syllables, n at most.

@@ -33,7 +33,7 @@ use Rattle.gabc_score.specs.declared.waiting.Waiting.{Waiting}
 use Rattle.gabc_score.specs.SpelledSyllable.{IsSpelling}
 use Rattle.gabc_score.specs.ScoreStage.{IsWithin}
 use Rattle.gabc_body.specs.Syllable.{UnplacedSyllable, PlacedSyllable}
-use Rattle.gabc_score.specs.machine.Between.{IsBetween, GoesThrough, SoundsNoMore}
+use Rattle.gabc_score.specs.machine.Between.{IsBetween, StepsOver, SoundsNoMore}
 use Rattle.gabc_score.specs.machine.RegularLen.{BeginsRegularly, IsPlainByte, past_mark}
 use Rattle.gabc_score.specs.machine.PartCounts.{CountsHold}
 use Rattle.gabc_score.specs.machine.PartKeeps.{in_text, PartKeeps}
@@ -62,8 +62,8 @@ abbrev pub sounds_among : List (ℕ × List ℕ) → Bool
 sounds_among texts = list_any sounds_on_line texts
 
 -- if neither a note nor a clef has come, none comes with the syllable
-abbrev pub IsSteady : ℕ → Option ItemKind → SyllableParts → Type 0
-IsSteady lines first r = SoundsNoMore (is_some first) (sounds_among (with_lines lines 0 r.nexts r.final))
+abbrev pub KeepsFirstSound : ℕ → Option ItemKind → SyllableParts → Type 0
+KeepsFirstSound lines first r = SoundsNoMore (is_some first) (sounds_among (with_lines lines 0 r.nexts r.final))
 
 -- the bytes of its canonical text, with the LF before a word
 abbrev pub canonical_length : Found → ℕ
@@ -101,7 +101,7 @@ pub record IsSpelledBy (r : SpelledSyllable) (lines : ℕ) (parts : SyllablePart
 -- ---- the run
 
 -- The machine stands between two syllables: it holds one, and a text begins at this place.
-pub record StandsBetween (m : ScoreMachine) (at : Place) : Type 0 where
+pub record IsBetweenSyllables (m : ScoreMachine) (at : Place) : Type 0 where
   pub part : m.part ≡ score_part.Body
   pub rests : IsInBody m
   pub begins : m.body.part ≡ Text (fresh_stage at)
@@ -115,9 +115,9 @@ pub record RunsBefore (m : ScoreMachine) (at : Place) (t : List ℕ) (given : Li
   pub held : UnplacedSyllable
   pub s : HeldScore
   pub earlier : List PlacedSyllable
-  pub through : GoesThrough m.limits m.body.nabc_lines m.body.macros at (held_score m) t earlier next s
+  pub through : StepsOver m.limits m.body.nabc_lines m.body.macros at (held_score m) t earlier next s
   pub gathered : s.gathered ≡ record m.pair.gathered { made = held ∷ []; total = p.canonical; eu = p.spans.eu; nlba = p.spans.nlba }
-  pub given_are : given ≡ earlier ++ record { made = held; position = position_by (not s.has_lent || held.text.word_start) starts } ∷ []
+  pub given_are : given ≡ earlier ++ record { made = held; position = position_by (not s.is_preceded || held.text.word_start) starts } ∷ []
   pub before : p ≡ with_placed m.bounds.before given
   pub place : next ≡ place_past at t
   pub within : All (IsWithin m.limits) given
@@ -137,12 +137,12 @@ before_in m r = before_by m.bounds.after r
 -- In this text, the first of whose characters stands at `at`, a run has given these syllables, and
 -- has reached one that is not given yet.
 pub record RunsTo (m : ScoreMachine) (at : Place) (text : List ℕ) (given : List PlacedSyllable) (reached : Reached) : Type 0 where
-  pub stands : StandsBetween m at
+  pub stands : IsBetweenSyllables m at
   pub bytes : List ℕ
   pub utf8 : IsUtf8 bytes
   pub runs : RunsBefore m at (chars bytes) given (nat_lt 0 reached.last.gap) (before_in m reached) (place_past at (chars bytes))
   pub found : IsFound m.body.nabc_lines m.limits reached.canonical reached.last
-  pub steady : IsSteady m.body.nabc_lines m.pair.gathered.first_kind found.is.syllable
+  pub steady : KeepsFirstSound m.body.nabc_lines m.pair.gathered.first_kind found.is.syllable
   pub text_is : text ≡ bytes ++ (reached.last.spelled.now ++ reached.last.rest.now)
   pub line : at.line + length text < 2 ^ 63
   pub column : at.column + length text < 2 ^ 63

@@ -26,7 +26,7 @@ has_given m = nat_lt 0 m.bounds.before.syllables
 
 -- what was read
 abbrev pub held_score : ScoreMachine → HeldScore
-held_score m = record { next = m.next; gathered = m.pair.gathered; has_lent = has_given m }
+held_score m = record { next = m.next; gathered = m.pair.gathered; is_preceded = has_given m }
 
 abbrev pub shown : ScoreMachine → ScoreStageState
 shown m = record { limits = m.limits; part = m.part; before = m.bounds.before; held = held_score m; body = m.body; first = m.pair.first; second = m.pair.second }

@@ -24,18 +24,18 @@ use Rattle.gabc_body.specs.witness.BodyBuilder.{with_all, code_in, end_fault, en
 use Rattle.gabc_body.specs.witness.Gatherer.{Gathered, nothing_gathered, with_last}
 
 -- The place of the next character, and what was gathered: of the syllables made, those not given
--- yet, of which the last is held. And whether one was borrowed before.
+-- yet, of which the last is held. And whether a syllable is before them.
 pub record HeldScore : Type 0 where
   pub next : Place
   pub gathered : Gathered
-  pub has_lent : Bool
+  pub is_preceded : Bool
 
 -- these syllables, the first of which is the first not given yet
 abbrev pub placed_after : Bool → List UnplacedSyllable → List PlacedSyllable
-placed_after has_lent made = placed_syllables_by (not has_lent) made
+placed_after is_preceded made = placed_syllables_by (not is_preceded) made
 
 abbrev pub held_outputs : HeldScore → List ScoreOutput
-held_outputs s = outputs_of [] (placed_after s.has_lent s.gathered.made)
+held_outputs s = outputs_of [] (placed_after s.is_preceded s.gathered.made)
 
 abbrev pub stop_outputs : HeldScore → Fault → List ScoreOutput
 stop_outputs s fault = held_outputs s ++ Stop fault ∷ []
@@ -44,7 +44,7 @@ stop_outputs s fault = held_outputs s ++ Stop fault ∷ []
 abbrev pub point_outputs : HeldScore → Char → List BodyEvent → List ScoreOutput
 point_outputs s x now =
     let g = with_all s.gathered now in
-    outputs_of (findings_now now ++ found_first s.gathered.first_kind g.first_kind x.place) (take (length g.made - 1) (placed_after s.has_lent g.made))
+    outputs_of (findings_now now ++ found_first s.gathered.first_kind g.first_kind x.place) (take (length g.made - 1) (placed_after s.is_preceded g.made))
 
 -- all but the last are given
 abbrev pub with_held : Gathered → Gathered
@@ -53,13 +53,13 @@ with_held g = record g { made = drop (length g.made - 1) g.made }
 abbrev pub score_past : HeldScore → Char → List BodyEvent → HeldScore
 score_past s x now =
     let g = with_all s.gathered now in
-    record { next = saturating_next_place x.place x.c; gathered = with_held g; has_lent = s.has_lent || nat_lt 1 (length g.made) }
+    record { next = saturating_next_place x.place x.c; gathered = with_held g; is_preceded = s.is_preceded || nat_lt 1 (length g.made) }
 
 abbrev pub end_outputs_by : HeldScore → List BodyEvent → Option Fault → List ScoreOutput
 end_outputs_by s now (Some fault) = stop_outputs s fault
 end_outputs_by s now None =
     let g = with_all s.gathered now in
-    outputs_of (findings_now now ++ end_findings s.next (has_text g.builder.view) ((with_last g).eu || (with_last g).nlba)) (placed_after s.has_lent (with_last g).made)
+    outputs_of (findings_now now ++ end_findings s.next (has_text g.builder.view) ((with_last g).eu || (with_last g).nlba)) (placed_after s.is_preceded (with_last g).made)
     ++ End ∷ []
 
 abbrev pub end_outputs : Limits → HeldScore → List BodyEvent → List ScoreOutput
@@ -84,7 +84,7 @@ body_left limits s lists (head_event.Heads lines macros canonical ∷ xs) = [] �
 
 -- nothing was read of a body whose canonical headers have n bytes
 abbrev pub begun_score : Limits → Place → ℕ → HeldScore
-begun_score limits at head = record { next = at; gathered = nothing_gathered limits.syllable head; has_lent = false }
+begun_score limits at head = record { next = at; gathered = nothing_gathered limits.syllable head; is_preceded = false }
 
 abbrev pub fresh_score : Limits → ℕ → HeldScore
 fresh_score limits head = begun_score limits first_place head

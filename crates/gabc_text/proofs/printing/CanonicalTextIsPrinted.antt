@@ -19,7 +19,7 @@ use Rattle.gabc_text.specs.ViewFacts.{piece_facts_in, view_facts, StandsForView,
 use Rattle.gabc_text.specs.Printed.{opening_tag, closing_tag, brace_tokens, tokens_between, letter, spelled_as, printed_piece, print_from, text_tokens, text_of_tokens}
 use Rattle.gabc_text.proofs.tokens.CasesOfCharacters.{special_is_low}
 use Rattle.gabc_text.proofs.printing.PiecesPrintWell.{pieces_good}
-use Rattle.gabc_text.proofs.spans.SpansStandForView.{pieces_facts}
+use Rattle.gabc_text.proofs.spans.ViewSpansGiveItsContent.{pieces_facts}
 use Rattle.gabc_text.proofs.spans.CentreLiesAmongPieces.{spanned_is}
 use Rattle.gabc_text.proofs.printing.PrintedTextIsKept.{written_append}
 use Rattle.gabc_text.specs.machine.PrintedPieces.{AllGood, Good, Says}

@@ -11,7 +11,7 @@ use Rattle.gabc_text.specs.Canonical.{listed_styles}
 use Rattle.gabc_text.specs.ViewFacts.{translation_text}
 use Rattle.gabc_text.proofs.machine.FactsOfTokens.{facts_of, facts_more}
 use Rattle.gabc_text.proofs.machine.TokensOneAfterAnother.{onto}
-use Rattle.gabc_text.proofs.spans.SpansStandForView.{styles_facts}
+use Rattle.gabc_text.proofs.spans.ViewSpansGiveItsContent.{styles_facts}
 
 -- a run of blanks as it is kept
 abbrev pub one_blank : Token

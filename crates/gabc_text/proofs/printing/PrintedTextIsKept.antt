@@ -10,7 +10,7 @@ use Rattle.gabc_text.specs.Printed.{print_from, printed_piece, tokens_between, b
 use Rattle.gabc_text.proofs.printing.PrintedTagsOpenStyles.{along_append}
 use Rattle.gabc_text.proofs.printing.PrintedPiecesAreReadAgain.{does, printed_by, silent_word, silent_blank}
 use Rattle.gabc_text.proofs.printing.PrintedBracesGiveCentre.{Phase, Allowed, allowed, at_start, gap_by, next_phase, gap_silent, closing_marks, piece_marks, braces_by}
-use Rattle.gabc_text.proofs.spans.SpansStandForView.{no_space, kept_spelled}
+use Rattle.gabc_text.proofs.spans.ViewSpansGiveItsContent.{no_space, kept_spelled}
 use Rattle.gabc_text.proofs.printing.ViewFromFirstToken.{view}
 use Rattle.gabc_text.proofs.printing.PrintedTextIsReadAgain.{Sound, view_sound, tokens_printed}
 use Rattle.gabc_text.proofs.printing.ViewForwardIsViewBackward.{facts_is}

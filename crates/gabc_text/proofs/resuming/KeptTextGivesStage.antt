@@ -10,7 +10,7 @@ use Rattle.gabc_text.specs.witness.Keeps.{Keeps, KeepsOn, GoesOn, end_text, begi
 use Rattle.gabc_text.specs.StageReports.{opener_of, is_in_comment}
 use Rattle.gabc_text.specs.witness.StageReports.{moved_to}
 use Rattle.gabc_text.proofs.resuming.StagesKeep.{kept_again, comment_not_kept, comment_open, comment_alone, opener_open, moved_keeps}
-use Rattle.gabc_text.proofs.resuming.ToldByEvents.{opener_moved, comment_moved}
+use Rattle.gabc_text.proofs.resuming.EndedAndFreshStagesHaveNothingOpen.{opener_moved, comment_moved}
 
 -- the stage keeps k, and what is open in it stands at this place
 pub record IsBack (place : Place) (k : List ℕ) (comment : Bool) (s : TextStage) : Type 0 where

@@ -32,8 +32,8 @@ use Rattle.gabc_text.proofs.resuming.PlacesAside.{said_append, push_placed, push
 use Rattle.gabc_text.proofs.resuming.KeptCharactersSuffice.{StepAlike, step_alike, stays_outside}
 use Rattle.gabc_text.proofs.resuming.ReachedStages.{push_reached, fresh_reached, moved_reached, goes_on}
 use Rattle.gabc_text.proofs.NothingAfterTheEnd.{opener_told, comment_told}
-use Rattle.gabc_text.proofs.resuming.ToldByEvents.{opener_moved, comment_moved}
-use Rattle.gabc_text.proofs.resuming.ToldSuffices.{told_suffices}
+use Rattle.gabc_text.proofs.resuming.EndedAndFreshStagesHaveNothingOpen.{opener_moved, comment_moved}
+use Rattle.gabc_text.proofs.resuming.ReportDeterminesOutput.{told_suffices}
 use Rattle.gabc_text.proofs.resuming.EndsAndKept.{kept_said, done_is, kept_is, read_kept, none_kept_at_end, notes_at_end, EndsAt, ended_at}
 use Rattle.gabc_text.proofs.resuming.WhatStagesTell.{next_goes, opener_goes, comment_goes}
 

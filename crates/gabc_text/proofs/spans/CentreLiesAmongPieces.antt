@@ -17,7 +17,7 @@ use Rattle.gabc_text.proofs.tokens.CountsOfTexts.{bytes_append}
 use Rattle.gabc_text.proofs.machine.LoopOverText.{bytes_encodes}
 use Rattle.gabc_text.proofs.machine.TokensOneAfterAnother.{onto}
 use Rattle.gabc_text.proofs.events.EventsBuildText.{kept_so, along_onto}
-use Rattle.gabc_text.proofs.spans.SpansStandForView.{pieces_facts}
+use Rattle.gabc_text.proofs.spans.ViewSpansGiveItsContent.{pieces_facts}
 use Rattle.gabc_text.proofs.machine.EventsFromAnyState.{but_end_is}
 
 -- ---- the centre

@@ -5,7 +5,7 @@ use Rattle.std.proofs.lemmas.Str.{encodes-append}
 use Rattle.std.proofs.Math.Nat.{zero-mod}
 use lib.Utf8.{encode, encodes}
 use Rattle.gabc_notes.proofs.machine.LoopOverBody.{parts}
-use Rattle.gabc_body.proofs.holding.SnippetsAreHeld.{next_turn}
+use Rattle.gabc_body.proofs.holding.SnippetsLieInKeptText.{next_turn}
 use Rattle.gabc_places.specs.declared.place.Span.{Span}
 use Rattle.gabc_places.specs.declared.place.Char.{Char}
 use Rattle.gabc_text.specs.TextView.{ViewContent}

@@ -19,7 +19,7 @@ use Rattle.gabc_score.specs.witness.ScoreStage.{ScoreStageState}
 use Rattle.gabc_write.specs.SetDown.{MayBeHeldByItsText, SayTheSame}
 use Rattle.gabc_write.specs.SyllableRead.{as_it_stands, IsReadFromItsText}
 use Rattle.gabc_write.specs.machine.SetDown.{BeginsAlike}
-use Rattle.gabc_write.proofs.reading_again.SyllableIsHeldByItsText.{SyllablesByKept, bytes_after, says_again, stands_for}
+use Rattle.gabc_write.proofs.reading_again.TextDeterminesPendingSyllable.{SyllablesByKept, bytes_after, says_again, stands_for}
 
 abbrev pub told_before : ScoreStageState → Before
 told_before s = before_with s.body s.before

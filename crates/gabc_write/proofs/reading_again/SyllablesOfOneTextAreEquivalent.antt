@@ -25,7 +25,7 @@ use Rattle.gabc_score.specs.witness.ScoreStage.{ScoreStageState, left_of}
 use Rattle.gabc_write.specs.SavedAlike.{AreSavedAlike}
 use Rattle.gabc_write.specs.SetDown.{GoesOnEquivalentlyInLine, SayTheSame}
 use Rattle.gabc_write.specs.SyllableRead.{as_it_stands, IsReadFromItsText, IsReadWhereItStands}
-use Rattle.gabc_write.proofs.reading_again.SyllableIsHeldByItsText.{SyllablesByKept, bytes_after, may_be_held, says_again, stands_for}
+use Rattle.gabc_write.proofs.reading_again.TextDeterminesPendingSyllable.{SyllablesByKept, bytes_after, may_be_held, says_again, stands_for}
 use Rattle.gabc_write.proofs.reading_again.StageHoldsAgain.{told_before, reported_in_body}
 
 -- both is equivalent to a third

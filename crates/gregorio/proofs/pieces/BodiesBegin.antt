@@ -13,8 +13,8 @@ use Rattle.gregorio.specs.witness.Engine.{Written, streams_from}
 use Rattle.gregorio.specs.machine.Engine.{GoTogether, IsSettled, WritesItems}
 use Rattle.gregorio.specs.machine.InStep.{HasForce, RunsInStep, StayInStep}
 use Rattle.gregorio.specs.machine.RunWriter.{RunWriterState}
-use Rattle.gregorio.specs.machine.ScoreWriter.{ScoreWriterState, FitsEvents, IsSteady, streams_of}
-use Rattle.gregorio.specs.machine.TellsInStep.{BeginsBody, begun}
+use Rattle.gregorio.specs.machine.ScoreWriter.{ScoreWriterState, FitsEvents, KeepsJobAndRooms, streams_of}
+use Rattle.gregorio.specs.machine.InSync.{BeginsBody, begun}
 
 abbrev begun_writer : Result Char Fault → Bool → ScoreWriterState → ScoreWriterState
 begun_writer item headed s = record s { score = begun item headed s.score }
@@ -25,7 +25,7 @@ limits_begun item headed s = grind arith
 room_begun : (item : Result Char Fault) (headed : Bool) (s : ScoreWriterState) (ends : Bool) (events : List HeadEvent) → FitsEvents s ends events → FitsEvents (begun_writer item headed s) ends events
 room_begun item headed s ends events r = grind arith
 
-steady_begun : (item : Result Char Fault) (headed : Bool) (old s : ScoreWriterState) → IsSteady old s → IsSteady old (begun_writer item headed s)
+steady_begun : (item : Result Char Fault) (headed : Bool) (old s : ScoreWriterState) → KeepsJobAndRooms old s → KeepsJobAndRooms old (begun_writer item headed s)
 steady_begun item headed old s a = grind (arith, limits_begun)
 
 -- in front no text has counted a place
@@ -46,8 +46,8 @@ module _ (item : Result Char Fault) (old new : ScoreWriterState) (b : BeginsBody
   pub room_of_begun : (ends : Bool) (events : List HeadEvent) → FitsEvents old ends events → FitsEvents new ends events
   room_of_begun ends events room = subst (λ (s : ScoreWriterState). FitsEvents s ends events) (sym b.is) (room_begun item old.writer.written.headed old ends events room)
 
-  pub steady_of_begun : (first : ScoreWriterState) → IsSteady first old → IsSteady first new
-  steady_of_begun first a = subst (λ (s : ScoreWriterState). IsSteady first s) (sym b.is) (steady_begun item old.writer.written.headed first old a)
+  pub steady_of_begun : (first : ScoreWriterState) → KeepsJobAndRooms first old → KeepsJobAndRooms first new
+  steady_of_begun first a = subst (λ (s : ScoreWriterState). KeepsJobAndRooms first s) (sym b.is) (steady_begun item old.writer.written.headed first old a)
 
   settled_begun : IsSettled old → IsSettled new
   settled_begun settled = λ book other from_heads more. same_streams book from_heads ∙ (settled book other from_heads more ∙ sym (same_streams other more))

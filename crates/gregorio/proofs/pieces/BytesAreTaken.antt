@@ -16,7 +16,7 @@ use Rattle.gregorio.specs.Engine.{Brings, IsEnded, NothingWaits, fault_of, is_ru
 use Rattle.gregorio.specs.witness.Engine.{EngineState, Written, book_after, ended_by, head_events_left, items_left, streams_left}
 use Rattle.gregorio.specs.Streams.{Streams, after_bytes, ended_with}
 use Rattle.gregorio.specs.Outcome.{is_error_finding, is_whole, status_by}
-use Rattle.gregorio.specs.machine.ScoreWriter.{ScoreWriterState, IsOver, IsReserved, IsSteady}
+use Rattle.gregorio.specs.machine.ScoreWriter.{ScoreWriterState, IsOver, IsReserved, KeepsJobAndRooms}
 use Rattle.gregorio.specs.machine.Engine.{WritesItems, streams_of_items}
 use Rattle.gregorio.proofs.pieces.BytesAreJoined.{with_both_after}
 use Rattle.gregorio.specs.declared.run_ending.RunEnding.{RunEnding}
@@ -26,7 +26,7 @@ use Rattle.gregorio.proofs.StreamsOfOutputs.{EndsAtLast, outputs_are_said, over_
 
 -- ---- the rooms stay
 
-pub still_reserved : (old new : ScoreWriterState) → IsSteady old new → IsReserved old → IsReserved new
+pub still_reserved : (old new : ScoreWriterState) → KeepsJobAndRooms old new → IsReserved old → IsReserved new
 still_reserved old new steady reserved = grind arith
 
 -- ---- a byte

@@ -19,7 +19,7 @@ use Rattle.gregorio.specs.machine.InStep.{PassesOn, given_in_heads}
 use Rattle.gregorio.specs.machine.ScoreWriter.{ScoreWriterState}
 use Rattle.gregorio.specs.witness.Engine.{Written, after_output, after_outputs}
 use Rattle.gregorio.proofs.pieces.PartsStayInStep.{body_goes}
-use Rattle.gregorio.proofs.pieces.WrittenGoesOn.{went_on_past}
+use Rattle.gregorio.proofs.pieces.WriterKeepsPaceWithScore.{went_on_past}
 use Rattle.gregorio_jobs.specs.declared.job.Format.{Format}
 
 -- ---- the clef

@@ -24,7 +24,7 @@ use Rattle.gabc_write.specs.SavedAlike.{AreSavedAlike}
 use Rattle.gregorio.proofs.pieces.SavedInBodies.{bodies_agree, come_in_line, here, saved_in_body, there, written_in_body}
 use Rattle.gregorio.proofs.pieces.SavedInHeaders.{decoders_alike, heads_agree, saved_in_heads, shown}
 use Rattle.gregorio.proofs.pieces.StatesAreWhole.{score_in_body}
-use Rattle.gregorio.proofs.pieces.WritesAlike.{given_is_written_alike}
+use Rattle.gregorio.proofs.pieces.SwappedSyllableGivesSameOutput.{given_is_written_alike}
 
 -- the laws of the parts
 pub record PartsAgree : Type 0 where

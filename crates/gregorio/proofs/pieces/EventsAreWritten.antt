@@ -11,12 +11,12 @@ use Rattle.gregorio.specs.Streams.{Streams, after_bytes}
 use Rattle.gregorio.specs.witness.Engine.{Written, is_before_heads, is_heads, lines_of_outputs, streams_from, text_of_heads, texts_of_outputs, writes_heads}
 use Rattle.gregorio.specs.machine.InStep.{PassesAll, TakesEvent, TakesEvents, written_at}
 use Rattle.gregorio.specs.machine.RunWriter.{RunWriterState, heads_at}
-use Rattle.gregorio.specs.machine.ScoreWriter.{ScoreWriterState, FitsEvents, IsBookAt, IsSteady, WritesAt, streams_of}
+use Rattle.gregorio.specs.machine.ScoreWriter.{ScoreWriterState, FitsEvents, IsBookAt, KeepsJobAndRooms, WritesAt, streams_of}
 use Rattle.gregorio.specs.machine.Engine.{WritesAll, headed_past}
 use Rattle.gregorio.proofs.StreamsOfOutputs.{headed_stays}
 use Rattle.gregorio.proofs.pieces.RoomIsLeft.{room_for_first}
 use Rattle.gregorio.proofs.pieces.BytesAreJoined.{with_both_after}
-use Rattle.gregorio.proofs.pieces.WrittenGoesOn.{not_written, steady_past}
+use Rattle.gregorio.proofs.pieces.WriterKeepsPaceWithScore.{not_written, steady_past}
 
 -- ---- an event
 
@@ -28,7 +28,7 @@ same_text : (x : HeadEvent) (w : Written) (book read : List (List ℕ × List �
 same_text x w book read same = grind arith
 
 module _ (x : HeadEvent) (read : List (List ℕ × List ℕ)) (old new : ScoreWriterState) (t : TakesEvent old.score (heads_at old.writer x read) x new) where
-  pub steady_event : IsSteady old new
+  pub steady_event : KeepsJobAndRooms old new
   steady_event =
       steady_past old new (heads_at old.writer x read) t.passes.outputs (record { limits = t.passes.tells.limits; format = refl; name = refl; all_warnings = refl; out = refl; messages = refl }) t.writer
 
@@ -52,11 +52,11 @@ module _ (x : HeadEvent) (read : List (List ℕ × List ℕ)) (old new : ScoreWr
 
 -- ---- events
 
-pub steady_both : (old mid new : ScoreWriterState) → IsSteady old mid → IsSteady mid new → IsSteady old new
+pub steady_both : (old mid new : ScoreWriterState) → KeepsJobAndRooms old mid → KeepsJobAndRooms mid new → KeepsJobAndRooms old new
 steady_both old mid new a b = grind arith
 
-pub steady_all : (events : List HeadEvent) (read : List (List ℕ × List ℕ)) (old new : ScoreWriterState) → TakesEvents old events read new → IsSteady old new
-steady_all [] read old new all = subst (λ (s : ScoreWriterState). IsSteady old s) all (record { limits = refl; format = refl; name = refl; all_warnings = refl; out = refl; messages = refl })
+pub steady_all : (events : List HeadEvent) (read : List (List ℕ × List ℕ)) (old new : ScoreWriterState) → TakesEvents old events read new → KeepsJobAndRooms old new
+steady_all [] read old new all = subst (λ (s : ScoreWriterState). KeepsJobAndRooms old s) all (record { limits = refl; format = refl; name = refl; all_warnings = refl; out = refl; messages = refl })
 steady_all (x ∷ events) read old new all = steady_both old all.0 new (steady_event x read old all.0 all.1.0) (steady_all events read all.0 new all.1.1)
 
 pub passes_all : (events : List HeadEvent) (read : List (List ℕ × List ℕ)) (old new : ScoreWriterState) → TakesEvents old events read new → PassesAll old events new

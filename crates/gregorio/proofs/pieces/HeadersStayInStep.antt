@@ -30,14 +30,14 @@ use Rattle.gregorio.specs.witness.Engine.{Written, is_heads}
 use Rattle.gabc_score.specs.ScoreReports.{IsInFront}
 use Rattle.gabc_score.specs.witness.ScoreStage.{ScoreStageState}
 use Rattle.gregorio.specs.machine.Telling.{TellsOn}
-use Rattle.gregorio.specs.machine.TellsInStep.{InHeads, IsInHeads}
+use Rattle.gregorio.specs.machine.InSync.{InHeads, IsInHeads}
 use Rattle.gregorio.proofs.pieces.EventsAreWritten.{unheaded_all}
 use Rattle.gregorio.proofs.pieces.ItemsAreRead.{just_found}
 use Rattle.gregorio.specs.machine.InStep.{AreInOnePart, PassesAll, PassesOn, RunsInStep, StayInStep, written_at}
 use Rattle.gregorio.specs.machine.ScoreWriter.{ScoreWriterState}
 use Rattle.gregorio.proofs.StreamsOfOutputs.{headed_stays}
 use Rattle.gregorio.proofs.pieces.PartsStayInStep.{IsNear, near_after, one_part}
-use Rattle.gregorio.proofs.pieces.WrittenGoesOn.{counted, few_more, force_past_all, none_counted, running_before, went_on_past}
+use Rattle.gregorio.proofs.pieces.WriterKeepsPaceWithScore.{counted, few_more, force_past_all, none_counted, running_before, went_on_past}
 
 -- ---- in the headers
 

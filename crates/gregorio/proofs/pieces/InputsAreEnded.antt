@@ -19,7 +19,7 @@ use Rattle.gregorio.specs.declared.run_ending.RunEnding.{RunEnding}
 use Rattle.gregorio.specs.Streams.{Streams, after_bytes, ended_with}
 use Rattle.gregorio.specs.Engine.{fault_of}
 use Rattle.gregorio.specs.witness.Engine.{EngineState, ceased_ending, ended_by, fault_of_ending, status_of_ending, streams_left}
-use Rattle.gregorio.specs.machine.ScoreWriter.{ScoreWriterState, IsOver, IsReserved, IsSteady, WritesLast, streams_of}
+use Rattle.gregorio.specs.machine.ScoreWriter.{ScoreWriterState, IsOver, IsReserved, KeepsJobAndRooms, WritesLast, streams_of}
 use Rattle.gregorio.specs.machine.Engine.{AreBooksAt, GoTogether, IsEngine, IsNoCharacter, IsSettled, WritesAll, WritesItems, streams_of_items}
 use Rattle.gregorio.proofs.StreamsOfOutputs.{over_is_last}
 use Rattle.gregorio.specs.machine.InStep.{HasForce}
@@ -67,11 +67,11 @@ over_is_settled : (w : ScoreWriterState) (how : RunEnding) → IsOver w.writer.w
 over_is_settled w how o book other from_heads more = over_is_last w.writer.written w.score how o book from_heads ∙ sym (over_is_last w.writer.written w.score how o other more)
 
 -- a writer that is over goes together with a stage that has the same limits
-pub over_together : (h : HeaderStageState) (old new : ScoreWriterState) (how : RunEnding) → GoTogether h old → IsSteady old new → IsOver new.writer.written new.score how → GoTogether h new
+pub over_together : (h : HeaderStageState) (old new : ScoreWriterState) (how : RunEnding) → GoTogether h old → KeepsJobAndRooms old new → IsOver new.writer.written new.score how → GoTogether h new
 over_together h old new how together steady o = grind (arith, over_is_settled)
 
 -- with that stage after its last event too
-pub over_stage : (h : HeaderStageState) (old new : ScoreWriterState) (how : RunEnding) → GoTogether h old → IsSteady old new → IsOver new.writer.written new.score how → GoTogether (stage_at h over) new
+pub over_stage : (h : HeaderStageState) (old new : ScoreWriterState) (how : RunEnding) → GoTogether h old → KeepsJobAndRooms old new → IsOver new.writer.written new.score how → GoTogether (stage_at h over) new
 over_stage h old new how together steady o = record { limits = together.limits ∙ sym steady.limits; headed = λ e. inr (over_is_settled new how o); book = tt; short = together.short }
 
 -- an engine that is over need not be in step

@@ -21,7 +21,7 @@ use Rattle.gregorio.specs.declared.source_ending.SourceEnding.{SourceEnding}
 use Rattle.gregorio.specs.declared.source_ending.SourceEnding.TheVariants.{Whole as Ended, Broken}
 use Rattle.gregorio.specs.Streams.{Streams, after_bytes}
 use Rattle.gregorio.specs.witness.Engine.{book_after, head_events_left, is_heads, streams_in}
-use Rattle.gregorio.specs.machine.ScoreWriter.{ScoreWriterState, IsBookAt, IsShortBook, IsSteady, WritesAt, streams_of}
+use Rattle.gregorio.specs.machine.ScoreWriter.{ScoreWriterState, IsBookAt, IsShortBook, KeepsJobAndRooms, WritesAt, streams_of}
 use Rattle.gregorio.specs.machine.Engine.{AreBooksAt, GoTogether, IsBookRead, IsSettled, WritesAll, WritesItems, event_of_item, headed_past}
 use Rattle.gregorio.proofs.StreamsOfOutputs.{in_body}
 use Rattle.gregorio.proofs.pieces.BytesAreJoined.{after_same}
@@ -115,7 +115,7 @@ short_after heads_short limits (after_headers book) old (Ok c) read h = subst (�
 short_after heads_short limits _ old _ read h = h
 
 pub together_by_heads : (h : HeaderStageState) (w new : ScoreWriterState) (item : Result Char Fault) → AreHeadsShort → GoTogether h w → w.writer.written.headed ≡ false
-    → (headed_past w.writer.written.headed (events_of_input h.limits h.progress item) ≡ false → new.writer.written.headed ≡ false) → IsSteady w new → GoTogether (stage_after h item) new
+    → (headed_past w.writer.written.headed (events_of_input h.limits h.progress item) ≡ false → new.writer.written.headed ≡ false) → KeepsJobAndRooms w new → GoTogether (stage_after h item) new
 together_by_heads h w new item heads_short together unheaded past steady = grind (arith, after_or_none, book_is_read, short_after)
 
 pub short_stage_after : (h : HeaderStageState) (w : ScoreWriterState) (item : Result Char Fault) → AreHeadsShort → GoTogether h w → IsShortBook w.score.limits (stage_after h item).book
@@ -147,7 +147,7 @@ pub record ReadsItem (h : HeaderStageState) (w : ScoreWriterState) (item : Resul
   pub writes : WritesItems h w (item ∷ []) h new
   pub together : GoTogether h new
 
-module _ (w new : ScoreWriterState) (item : Result Char Fault) (a : WritesAt w (event_of_item item) [] new) (steady : IsSteady w new) where
+module _ (w new : ScoreWriterState) (item : Result Char Fault) (a : WritesAt w (event_of_item item) [] new) (steady : KeepsJobAndRooms w new) where
   settled_item : (h : HeaderStageState) → GoTogether h w → IsSettled w → ReadsItem h w item new
   settled_item h together settled =
       let after : IsSettled new = settled_after w new item a (λ book other from_heads more. settled book other (event_of_item item ∷ from_heads) (event_of_item item ∷ more)) in
@@ -173,7 +173,7 @@ stop_read : IsStopLast → (h : HeaderStageState) (book : List (List ℕ × List
     → IsSettled new → WritesItems h w (Err fault ∷ []) h new
 stop_read last h book w new fault progress a settled = grind (arith, given_next)
 
-module _ (last : IsStopLast) (limits : Limits) (hasher : DefaultHasher) (w new : ScoreWriterState) (headed : w.writer.written.headed ≡ true) (steady : IsSteady w new) where
+module _ (last : IsStopLast) (limits : Limits) (hasher : DefaultHasher) (w new : ScoreWriterState) (headed : w.writer.written.headed ≡ true) (steady : KeepsJobAndRooms w new) where
   after_item : (progress : HeadProgress) (book : List (List ℕ × List ℕ)) (item : Result Char Fault) → WritesAt w (event_of_item item) [] new → IsAfterHeaders progress
       → (let h : HeaderStageState = record { limits = limits; progress = progress; book = book; hasher = hasher } in GoTogether h w → ReadsItem h w item new)
   after_item (reading t) book item a is together = absurd is
@@ -181,7 +181,7 @@ module _ (last : IsStopLast) (limits : Limits) (hasher : DefaultHasher) (w new :
   after_item (after_headers other) book (Ok c) a is together = grind (arith, character_read)
   after_item (after_headers other) book (Err fault) a is together = grind (arith, settled_after, stop_in_body, stop_read)
 
-pub reads_item : IsStopLast → (h : HeaderStageState) (w new : ScoreWriterState) (item : Result Char Fault) → w.writer.written.headed ≡ true → GoTogether h w → WritesAt w (event_of_item item) [] new → IsSteady w new
+pub reads_item : IsStopLast → (h : HeaderStageState) (w new : ScoreWriterState) (item : Result Char Fault) → w.writer.written.headed ≡ true → GoTogether h w → WritesAt w (event_of_item item) [] new → KeepsJobAndRooms w new
     → ReadsItem h w item new
 reads_item last h w new item headed together a steady = by (together.headed headed)
   where

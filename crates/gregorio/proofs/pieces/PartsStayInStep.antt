@@ -25,7 +25,7 @@ use Rattle.gregorio.specs.machine.Engine.{event_of_item}
 use Rattle.gregorio.specs.machine.InStep.{AreInOnePart, HasForce, IsInStep, PassesOn, RunsInStep, StayInStep}
 use Rattle.gregorio.specs.machine.ScoreWriter.{ScoreWriterState, begun_again}
 use Rattle.gregorio.proofs.StreamsOfOutputs.{headed_stays}
-use Rattle.gregorio.proofs.pieces.WrittenGoesOn.{counted, force_past, went_on_past}
+use Rattle.gregorio.proofs.pieces.WriterKeepsPaceWithScore.{counted, force_past, went_on_past}
 
 -- ---- in the body
 

@@ -16,7 +16,7 @@ use Rattle.gregorio.proofs.pieces.BytesAreTaken.{brings_both, front_of_front}
 use Rattle.gregorio.proofs.pieces.NothingIsKeptBack.{ends_further}
 use Rattle.gregorio.proofs.pieces.RoomIsLeft.{room_where_few_wait}
 use Rattle.gregorio.proofs.pieces.SavedInHeaders.{shown}
-use Rattle.gregorio.proofs.pieces.TellsInStepOn.{in_heads_yet}
+use Rattle.gregorio.proofs.pieces.ScoreStaysInSync.{in_heads_yet}
 
 -- ---- bytes
 

@@ -32,7 +32,7 @@ use Rattle.gregorio.specs.machine.InStep.{HasForce, IsInStep, RunsInStep}
 use Rattle.gregorio.specs.machine.ReadsHeaders.{ReadsHeaders}
 use Rattle.gregorio.specs.machine.RunWriter.{RunWriterState, TakesRuns, outputs_of_syllables}
 use Rattle.gregorio.specs.machine.ScoreWriter.{ScoreWriterState, WritesRun, streams_of}
-use Rattle.gregorio.specs.machine.TellsInStep.{IsTelling}
+use Rattle.gregorio.specs.machine.InSync.{IsTelling}
 use Rattle.gabc_neumes.specs.InForce.{nothing_in_force}
 use Rattle.gregorio.specs.witness.Engine.{after_output, after_outputs, Written, book_after, head_events_left, lines_of_outputs, texts_of_outputs}
 use Rattle.gregorio.proofs.pieces.BytesAreTaken.{items_taken}
@@ -40,7 +40,7 @@ use Rattle.gregorio.proofs.pieces.ItemsAreRead.{inputs_after, past_after}
 use Rattle.gregorio.proofs.pieces.PartsStayInStep.{IsInBody, in_body, one_part}
 use Rattle.gregorio.proofs.pieces.RunIsWritten.{run_counted, run_law, same_force, syllables_of}
 use Rattle.gregorio.proofs.pieces.TextOfHeaders.{headed_read}
-use Rattle.gregorio.proofs.pieces.WrittenGoesOn.{counted}
+use Rattle.gregorio.proofs.pieces.WriterKeepsPaceWithScore.{counted}
 
 -- ---- what a decoder gives
 

@@ -20,9 +20,9 @@ use Rattle.gregorio_jobs.specs.declared.job.Format.TheVariants.{Gabc, Dump}
 use Rattle.gregorio.specs.Streams.{Streams, after_bytes, force_after}
 use Rattle.gregorio.specs.machine.ClefInForce.{HasClefOfSounds, IsClefIn}
 use Rattle.gregorio.specs.machine.RunWriter.{RunWriterState, TakesRuns, outputs_of_syllables}
-use Rattle.gregorio.specs.machine.ScoreWriter.{IsSilent, IsSteady, ScoreWriterState, WritesRun, streams_of}
+use Rattle.gregorio.specs.machine.ScoreWriter.{IsSilent, KeepsJobAndRooms, ScoreWriterState, WritesRun, streams_of}
 use Rattle.gregorio.specs.witness.Engine.{Written, after_output, after_outputs, lines_of_outputs, streams_in, texts_of_outputs}
-use Rattle.gregorio.proofs.pieces.WrittenGoesOn.{steady_past}
+use Rattle.gregorio.proofs.pieces.WriterKeepsPaceWithScore.{steady_past}
 use Rattle.gregorio.proofs.StreamsOfOutputs.{headed_stays, in_body, some_and_rest}
 
 -- ---- what is written
@@ -74,7 +74,7 @@ module _ (old : ScoreWriterState) (at : Place) (t : List ℕ) (new : ScoreWriter
   pub run_counted : IsCounted old.writer.written new.writer.written
   run_counted = grind (arith, counted_on)
 
-  pub run_steady : IsSteady old new
+  pub run_steady : KeepsJobAndRooms old new
   run_steady = steady_past old new old.writer outputs (record { limits = r.gives.limits; format = refl; name = refl; all_warnings = refl; out = refl; messages = refl }) r.taken
 
   -- ---- between two calls

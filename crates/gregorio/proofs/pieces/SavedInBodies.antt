@@ -23,8 +23,8 @@ use Rattle.gregorio.specs.witness.Engine.{EngineState, head_events_left, items_l
 use Rattle.gregorio.specs.machine.InStep.{AreInOnePart}
 use Rattle.gabc_write.specs.SavedAlike.{AreSavedAlike}
 use Rattle.gregorio.specs.machine.SavedAlike.{WriteTheSame}
-use Rattle.gregorio.specs.machine.TellsInStep.{TellsInBody}
-use Rattle.gregorio.proofs.pieces.ItemsStandInLine.{left_in_line}
+use Rattle.gregorio.specs.machine.InSync.{TellsInBody}
+use Rattle.gregorio.proofs.pieces.RemainingCharactersAreConsecutive.{left_in_line}
 use Rattle.gregorio.proofs.pieces.PartsStayInStep.{IsInBody, in_body}
 use Rattle.gregorio.proofs.pieces.SavedInHeaders.{limits_saved, written_saved}
 use Rattle.gregorio.proofs.pieces.StatesAreWhole.{score_in_body}

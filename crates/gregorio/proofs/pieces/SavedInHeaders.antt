@@ -30,7 +30,7 @@ use Rattle.gregorio.specs.witness.Engine.{EngineState, book_after, head_events_l
 use Rattle.gregorio.specs.machine.InStep.{AreInOnePart, RunsInStep}
 use Rattle.gregorio.specs.machine.ReadsHeaders.{IsReadSoFar}
 use Rattle.gregorio.specs.machine.SavedAlike.{WriteTheSame}
-use Rattle.gregorio.specs.machine.ScoreWriter.{IsSteady, ScoreWriterState}
+use Rattle.gregorio.specs.machine.ScoreWriter.{KeepsJobAndRooms, ScoreWriterState}
 use Rattle.gabc_places.proofs.LimitsAreNumbers.{same_limits}
 use Rattle.gregorio.proofs.pieces.StreamsAgree.{no_matter_which_book, streams_agree}
 
@@ -150,5 +150,5 @@ abbrev pub shown : DecoderState → HeaderStageState → ScoreWriterState → En
 shown d h w = record { decoder = d; heads = h; score = w.score; written = w.writer.written; output = w.writer.out.items; messages = w.writer.messages.items }
 
 -- what no call changes is enough for it to run the same job
-pub still_runs : (d e : DecoderState) (h k : HeaderStageState) (w new : ScoreWriterState) → IsSteady w new → StillRuns (shown d h w) (shown e k new)
+pub still_runs : (d e : DecoderState) (h k : HeaderStageState) (w new : ScoreWriterState) → KeepsJobAndRooms w new → StillRuns (shown d h w) (shown e k new)
 still_runs d e h k w new s job limits runs = record { limits_are = s.limits ∙ runs.limits_are; format = s.format ∙ runs.format; name = s.name ∙ runs.name; all_warnings = s.all_warnings ∙ runs.all_warnings }

@@ -28,7 +28,7 @@ use Rattle.gregorio.specs.Saved.{held_count, held_text, phase_fields, score_fiel
 use Rattle.gregorio.specs.machine.ClefInForce.{HasClefOfSounds}
 use Rattle.gregorio.specs.machine.InStep.{AreInOnePart}
 use Rattle.gregorio.specs.machine.ReadsHeaders.{IsReadSoFar}
-use Rattle.gregorio.specs.machine.TellsInStep.{TellsInBody}
+use Rattle.gregorio.specs.machine.InSync.{TellsInBody}
 use Rattle.gregorio.specs.witness.Engine.{EngineState}
 use Rattle.gregorio.specs.witness.CanRun.{CanRun}
 

@@ -30,7 +30,7 @@ use Rattle.gregorio.specs.machine.ReadsHeaders.{IsReadAs, IsReadSoFar, ReadsHead
 use Rattle.gregorio.specs.machine.ScoreWriter.{ScoreWriterState, begun_again}
 use Rattle.gregorio.specs.witness.Engine.{Written, after_outputs}
 use Rattle.gregorio.proofs.pieces.HeadersStayInStep.{HeadsYet, found_events, found_passed, in_heads}
-use Rattle.gregorio.proofs.pieces.WrittenGoesOn.{running_before, went_on_past}
+use Rattle.gregorio.proofs.pieces.WriterKeepsPaceWithScore.{running_before, went_on_past}
 
 -- ---- what is found
 

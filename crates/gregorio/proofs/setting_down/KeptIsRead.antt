@@ -16,7 +16,7 @@ use Rattle.gregorio_state.specs.Conditions.{AreOpeners}
 use Rattle.gregorio_state.specs.Fields.{ScoreFields}
 use Rattle.gregorio.specs.SavedState.{before_held}
 use Rattle.gregorio.specs.machine.SettingDown.{HasRead, HoldsHeld, IsReportedSo, ReadsOn, openers_reported}
-use Rattle.gregorio.proofs.setting_down.HeldTextIsReadAgain.{before_told, told_in_body}
+use Rattle.gregorio.proofs.setting_down.PendingTextIsReadIfItRoundTrips.{before_told, told_in_body}
 use Rattle.gregorio.proofs.setting_down.KeptAsReported.{ReadInText, is_reported_so}
 
 module _ (f : ScoreFields) (old : ScoreStageState) (holds : HoldsHeld f old) where

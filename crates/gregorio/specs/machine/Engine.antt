@@ -15,8 +15,8 @@ use Rattle.gregorio.specs.witness.Engine.{EngineState, book_after, head_events_l
 use Rattle.gregorio.specs.machine.InStep.{IsInStep, StayInStep}
 use Rattle.gregorio.specs.machine.ReadsHeaders.{ReadsHeaders, ReadsOn}
 use Rattle.gregorio.specs.machine.RunWriter.{most_waiting}
-use Rattle.gregorio.specs.machine.TellsInStep.{IsInHeads, IsTelling, StayTelling}
-use Rattle.gregorio.specs.machine.ScoreWriter.{FitsEnd, HasRoom, ScoreWriterState, streams_of, IsBookAt, IsShortBook, IsReserved, IsSteady}
+use Rattle.gregorio.specs.machine.InSync.{IsInHeads, IsTelling, StayTelling}
+use Rattle.gregorio.specs.machine.ScoreWriter.{FitsEnd, HasRoom, ScoreWriterState, streams_of, IsBookAt, IsShortBook, IsReserved, KeepsJobAndRooms}
 
 -- ---- events of the headers, one after the other
 
@@ -105,7 +105,7 @@ pub record ReadsItems (h : HeaderStageState) (old : ScoreWriterState) (items : L
   pub reads : ReadsOn h old items now new
   pub tells : StayTelling h old items new
   pub room : IsNoCharacter items → FitsEnd new
-  pub steady : IsSteady old new
+  pub steady : KeepsJobAndRooms old new
   pub hasher : now.hasher ≡ h.hasher
 
 -- There is room for the events of one call, the rooms of the writer are those of the limits, and

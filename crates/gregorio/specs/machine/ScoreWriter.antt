@@ -91,7 +91,7 @@ pub record IsScoreWriter (score : ScoreStageState) (events : BoundedList ScoreEv
 
 -- what no call changes: the limits, the format, the name and whether warnings are reported, and how
 -- much the rooms take
-pub record IsSteady (old new : ScoreWriterState) : Type 0 where
+pub record KeepsJobAndRooms (old new : ScoreWriterState) : Type 0 where
   pub limits : new.score.limits ≡ old.score.limits
   pub format : new.writer.written.format ≡ old.writer.written.format
   pub name : new.writer.written.name ≡ old.writer.written.name

@@ -6,7 +6,7 @@ use Rattle.gregorio.specs.Engine.{is_running}
 use Rattle.gregorio.specs.witness.Engine.{EngineState}
 use Rattle.gregorio.specs.machine.InStep.{HasForce, RunsInStep}
 use Rattle.gregorio.specs.machine.ReadsHeaders.{IsReadSoFar}
-use Rattle.gregorio.specs.machine.TellsInStep.{TellsInStep}
+use Rattle.gregorio.specs.machine.InSync.{IsInSync}
 
 -- An engine that runs may show this: its parts are in step, and each of them is reachable.
 pub record CanRun (e : EngineState) : Type 0 where
@@ -15,6 +15,6 @@ pub record CanRun (e : EngineState) : Type 0 where
   pub force : HasForce e.written
   pub read : IsReadSoFar e.heads.limits e.heads.progress e.decoder.place e.written.errors
   pub limits : e.heads.limits ≡ e.score.limits
-  pub tells : TellsInStep e.decoder e.score e.written
+  pub tells : IsInSync e.decoder e.score e.written
   pub decoder : MayBeReported e.decoder.limit e.decoder.taken e.decoder.place e.decoder.pending (is_after_cr e.decoder)
   pub score : IsReachable e.score

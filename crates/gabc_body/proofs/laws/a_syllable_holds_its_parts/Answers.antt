@@ -4,7 +4,7 @@ use Rattle.gabc_body.specs.Holding.{HoldsParts, HoldsWithNotes, lines_by, lines_
 use Rattle.gabc_body.specs.witness.EmittedScore.{emitted_score}
 use Rattle.gabc_body.specs.Syllable.{PlacedSyllable}
 use Rattle.gabc_body.proofs.score_events.PlainScores.{plain_of, alike}
-use Rattle.gabc_body.proofs.holding.SnippetsAreHeld.{bytes_stand}
+use Rattle.gabc_body.proofs.holding.SnippetsLieInKeptText.{bytes_stand}
 use Rattle.gabc_body.proofs.holding.ScoreHoldsParts.{score_holds, score_noted}
 use Rattle.gabc_body.proofs.laws.a_syllable_holds_its_parts.Goals as goal
 

@@ -1,4 +1,4 @@
-use Rattle.gabc_headers.proofs.stops.HeldAlike.{held_alike}
+use Rattle.gabc_headers.proofs.stops.SufficientLimitsGiveSameHeaders.{held_alike}
 use Rattle.gabc_headers.proofs.laws.a_held_text_is_held_under_other_limits.Goals as goal
 
 pub returns : goal.returns

@@ -1,4 +1,4 @@
-use Rattle.gabc_headers.proofs.stages.HeldTextGrows.{held_at_first, found_more_held}
+use Rattle.gabc_headers.proofs.stages.FindingsOfPendingHeadersGrow.{held_at_first, found_more_held}
 use Rattle.gabc_headers.proofs.stage_laws.a_held_text_grows.Goals as goal
 
 pub returns-clause-begins : goal.returns-clause-begins

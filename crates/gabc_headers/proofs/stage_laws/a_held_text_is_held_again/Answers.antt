@@ -1,4 +1,4 @@
-use Rattle.gabc_headers.proofs.stages.HeldTextIsHeldAgain.{held_again, found_held}
+use Rattle.gabc_headers.proofs.stages.PendingHeadersRoundTrip.{held_again, found_held}
 use Rattle.gabc_headers.proofs.stage_laws.a_held_text_is_held_again.Goals as goal
 use Rattle.gabc_places.proofs.decoding.PlainTextsAreReadAgain.{all_scalars}
 

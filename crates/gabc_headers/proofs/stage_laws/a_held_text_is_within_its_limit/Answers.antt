@@ -1,4 +1,4 @@
-use Rattle.gabc_headers.proofs.stages.HeldTextIsWithinItsLimit.{held_within}
+use Rattle.gabc_headers.proofs.stages.PendingHeadersAreWithinLimit.{held_within}
 use Rattle.gabc_headers.proofs.stage_laws.a_held_text_is_within_its_limit.Goals as goal
 
 pub returns : goal.returns

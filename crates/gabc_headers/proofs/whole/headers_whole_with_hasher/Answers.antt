@@ -11,7 +11,7 @@ use Rattle.gabc_headers.proofs.collecting.HeadsWithinLimits.{at_text_end}
 use Rattle.gabc_headers.specs.HeadsOfGroups.{AreHeads}
 use Rattle.gabc_headers.proofs.entries.HeadersAreSpelled.{spelled_by_names, within_by_names}
 use Rattle.gabc_headers.proofs.groups.HeadsAreOfGroups.{of_groups, one_reading}
-use Rattle.gabc_headers.proofs.order.FindingsStandInOrder.{heads_order}
+use Rattle.gabc_headers.proofs.order.FindingsAreInOrder.{heads_order}
 use Rattle.gabc_headers.proofs.whole.headers_whole_with_hasher.Goals as goal
 
 pub collect-requires : goal.collect-requires

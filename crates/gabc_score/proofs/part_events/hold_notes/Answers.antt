@@ -1,5 +1,5 @@
 use Rattle.gabc_body.specs.Events.{note_event as event_of_notes}
-use Rattle.gabc_score.proofs.building.EventsAreHeld.{holds_next, holds_on}
+use Rattle.gabc_score.proofs.building.EventsAreGatheredInTurn.{holds_next, holds_on}
 use Rattle.gabc_score.proofs.part_events.hold_notes.Goals as goal
 
 pub hold_in_notes-requires : goal.hold_in_notes-requires

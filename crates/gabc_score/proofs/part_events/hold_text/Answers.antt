@@ -1,5 +1,5 @@
 use Rattle.gabc_body.specs.declared.events.BodyEvent.TheVariants.{Text as of_text}
-use Rattle.gabc_score.proofs.building.EventsAreHeld.{holds_next, holds_on}
+use Rattle.gabc_score.proofs.building.EventsAreGatheredInTurn.{holds_next, holds_on}
 use Rattle.gabc_score.proofs.part_events.hold_text.Goals as goal
 
 pub hold_in_text-requires : goal.hold_in_text-requires

@@ -1,4 +1,4 @@
-use Rattle.gabc_score.proofs.score_events.HeldSyllableIsText.{held_is_text}
+use Rattle.gabc_score.proofs.score_events.PendingSyllableIsText.{held_is_text}
 use Rattle.gabc_score.proofs.stage_laws.what_is_held_is_a_text.Goals as goal
 
 pub returns : goal.returns

@@ -1,4 +1,4 @@
-use Rattle.gabc_text.proofs.resuming.ToldByEvents.{opener_fresh, comment_fresh}
+use Rattle.gabc_text.proofs.resuming.EndedAndFreshStagesHaveNothingOpen.{opener_fresh, comment_fresh}
 use Rattle.gabc_text.proofs.laws.a_fresh_stage_reports_nothing_open.Goals as goal
 
 pub returns-clause-opener : goal.returns-clause-opener

@@ -11,7 +11,7 @@ use Rattle.std.specs.Option.{unwrap_or}
 use Rattle.gabc_places.specs.declared.place.Place.{Place}
 use Rattle.gabc_text.proofs.resuming.KeptTextGivesStage.{IsBack, reads_on, comment_back, opener_back}
 use Rattle.gabc_text.proofs.resuming.StagesKeep.{kept_suffices}
-use Rattle.gabc_text.proofs.resuming.ToldByEvents.{opener_fresh, comment_fresh, comment_moved}
+use Rattle.gabc_text.proofs.resuming.EndedAndFreshStagesHaveNothingOpen.{opener_fresh, comment_fresh, comment_moved}
 use Rattle.gabc_text.proofs.laws.a_kept_text_gives_the_stage_back.Goals as goal
 use Rattle.gabc_text.proofs.laws.a_kept_text_gives_the_stage_back.Goals.{then-in_comment, else-in_comment}
 

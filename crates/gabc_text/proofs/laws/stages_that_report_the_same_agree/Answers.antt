@@ -1,4 +1,4 @@
-use Rattle.gabc_text.proofs.resuming.ToldSuffices.{told_suffices}
+use Rattle.gabc_text.proofs.resuming.ReportDeterminesOutput.{told_suffices}
 use Rattle.gabc_text.proofs.laws.stages_that_report_the_same_agree.Goals as goal
 
 pub returns : goal.returns

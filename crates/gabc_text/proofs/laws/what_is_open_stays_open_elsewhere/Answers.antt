@@ -1,4 +1,4 @@
-use Rattle.gabc_text.proofs.resuming.ToldByEvents.{opener_moved, comment_moved}
+use Rattle.gabc_text.proofs.resuming.EndedAndFreshStagesHaveNothingOpen.{opener_moved, comment_moved}
 use Rattle.gabc_text.proofs.laws.what_is_open_stays_open_elsewhere.Goals as goal
 
 pub returns-clause-opener : goal.returns-clause-opener

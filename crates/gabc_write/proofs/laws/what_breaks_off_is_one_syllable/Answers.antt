@@ -2,7 +2,7 @@ use Rattle.gabc_places.specs.StageLaw.{concat_of}
 use Rattle.gabc_body.specs.ScoreEvents.{syllables_in}
 use Rattle.gabc_score.specs.ScoreReports.{held_of}
 use Rattle.gabc_score.specs.witness.ScoreStage.{left_of}
-use Rattle.gabc_write.proofs.reading_again.HeldSyllableRoundTrips.{canonical_in_utf8, written_as_one}
+use Rattle.gabc_write.proofs.reading_again.PendingSyllableRoundTrips.{canonical_in_utf8, written_as_one}
 use Rattle.gabc_write.proofs.laws.what_breaks_off_is_one_syllable.Goals as goal
 use Rattle.std.proofs.Common.{[]}
 

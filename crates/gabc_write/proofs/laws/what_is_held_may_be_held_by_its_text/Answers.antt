@@ -1,7 +1,7 @@
 use Rattle.gabc_body.specs.declared.before.Before.{Before}
 use Rattle.gabc_score.specs.ScoreReports.{before_with, held_of}
-use Rattle.gabc_write.proofs.reading_again.SyllableIsHeldByItsText.{held_by_its_text}
-use Rattle.gabc_write.proofs.reading_again.HeldSyllableRoundTrips.{canonical_in_utf8}
+use Rattle.gabc_write.proofs.reading_again.TextDeterminesPendingSyllable.{held_by_its_text}
+use Rattle.gabc_write.proofs.reading_again.PendingSyllableRoundTrips.{canonical_in_utf8}
 use Rattle.gabc_write.proofs.laws.what_is_held_may_be_held_by_its_text.Goals as goal
 
 pub returns : goal.returns

@@ -1,6 +1,6 @@
 use Rattle.std.specs.Prelude.{◌==◌}
 use Rattle.gabc_score.specs.ScoreReports.{held_of}
-use Rattle.gabc_write.proofs.reading_again.EquivalentSyllablesAreWrittenAlike.{written_alike}
+use Rattle.gabc_write.proofs.reading_again.EquivalentSyllablesHaveSameOutput.{written_alike}
 use Rattle.gabc_write.proofs.saved_alike.what_goes_on_alike_is_written_alike.Goals as goal
 
 pub returns : goal.returns

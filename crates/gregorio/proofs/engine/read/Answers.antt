@@ -10,8 +10,8 @@ use Rattle.gregorio.specs.machine.ScoreWriter.{FitsEvents}
 use Rattle.gregorio.proofs.pieces.EventsAreWritten.{steady_event, takes_other, writes_event}
 use Rattle.gregorio.proofs.pieces.ItemsAreRead.{reads_item}
 use Rattle.gregorio.proofs.pieces.PartsStayInStep.{body_in_step}
-use Rattle.gregorio.proofs.pieces.WrittenGoesOn.{went_on_past}
-use Rattle.gregorio.proofs.pieces.TellsInStepOn.{body_stays_telling}
+use Rattle.gregorio.proofs.pieces.WriterKeepsPaceWithScore.{went_on_past}
+use Rattle.gregorio.proofs.pieces.ScoreStaysInSync.{body_stays_telling}
 use Rattle.gregorio.proofs.pieces.RoomIsLeft.{item_is_few, room_for_few, room_for_stop}
 use Rattle.gregorio.proofs.pieces.TextOfHeaders.{body_reads_on}
 use Rattle.gregorio.proofs.engine.read.Goals as goal

@@ -6,7 +6,7 @@ use Rattle.gregorio.proofs.pieces.ItemsAreRead.{no_items}
 use Rattle.gregorio.proofs.pieces.PartsStayInStep.{nothing_in_step}
 use Rattle.gregorio.proofs.pieces.RoomIsLeft.{room_for_end}
 use Rattle.gregorio.proofs.pieces.TextOfHeaders.{nothing_reads_on}
-use Rattle.gregorio.proofs.pieces.TellsInStepOn.{nothing_stays_telling}
+use Rattle.gregorio.proofs.pieces.ScoreStaysInSync.{nothing_stays_telling}
 use Rattle.gregorio.proofs.engine.read_decoded.Goals as goal
 
 nothing_is_read : (h : HeaderStageState) (w : ScoreWriterState) → GoTogether h w → HasRoom w → ReadsItems h w [] h w

@@ -11,7 +11,7 @@ use Rattle.gregorio.proofs.pieces.EventsAreWritten.{passes_all, steady_all, unhe
 use Rattle.gregorio.proofs.pieces.HeadersAreRead.{GivesInput, given_of_input, room_for_given, room_with_end, short_heads}
 use Rattle.gregorio.proofs.pieces.HeadersStayInStep.{headers_end, heads_in_step, stands_in_front}
 use Rattle.gregorio.proofs.pieces.ItemsAreRead.{items_by_heads, short_stage_after, together_by_heads}
-use Rattle.gregorio.proofs.pieces.TellsInStepOn.{heads_stay_telling}
+use Rattle.gregorio.proofs.pieces.ScoreStaysInSync.{heads_stay_telling}
 use Rattle.gregorio.proofs.pieces.TextOfHeaders.{heads_read_on, reads_begun}
 use Rattle.gregorio.proofs.engine.read_in_heads.Goals as goal
 

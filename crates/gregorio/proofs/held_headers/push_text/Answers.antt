@@ -7,7 +7,7 @@ use Rattle.std.proofs.lemmas.Str.{chars_past_char, scalars-chars, IsUtf8-past_ch
 use lib.Utf8.{scalars}
 use Rattle.gabc_places.proofs.texts.CharactersOfStrings.{chars-none}
 use Rattle.gabc_places.proofs.PlacesOfAText.{within_on, shorter}
-use Rattle.gregorio.proofs.HeldTextIsPushed.{none_pushed, pushed_on}
+use Rattle.gregorio.proofs.PushingRestoresPendingHeaders.{none_pushed, pushed_on}
 use Rattle.gregorio.proofs.held_headers.push_text.Goals as goal
 
 pub loop-c-init : goal.loop-c-init

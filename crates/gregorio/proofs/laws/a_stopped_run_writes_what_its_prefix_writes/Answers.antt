@@ -1,4 +1,4 @@
-use Rattle.gregorio.proofs.PrefixesAreReadAlike.{has_front}
+use Rattle.gregorio.proofs.StoppedRunMatchesItsPrefix.{has_front}
 use Rattle.gregorio.proofs.laws.a_stopped_run_writes_what_its_prefix_writes.Goals as goal
 
 pub returns-clause-prefix : goal.returns-clause-prefix

@@ -3,7 +3,7 @@ use Rattle.gregorio_state.specs.Fields.{fields_of, score_of, InScore}
 use Rattle.gabc_headers.specs.witness.HeadEvents.{HeaderStageState}
 use Rattle.gregorio.specs.machine.HeldHeaders.{after_mark}
 use Rattle.gregorio.specs.SavedState.{IsOfJob, ReportsLimits}
-use Rattle.gregorio.proofs.LimitsAreTold.{told_once}
+use Rattle.gregorio.proofs.ReportedLimitsAreUnique.{told_once}
 use Rattle.gregorio.proofs.StatesAreJudged.{if_any, not_read, read_so, stand_so}
 use Rattle.gregorio.proofs.restoring.engine_in_score.Goals as goal
 

@@ -1,5 +1,5 @@
 use Rattle.gregorio_state.specs.Fields.{score_of}
-use Rattle.gregorio.proofs.setting_down.HeldTextIsReadAgain.{has_the_text, is_read, some_text}
+use Rattle.gregorio.proofs.setting_down.PendingTextIsReadIfItRoundTrips.{has_the_text, is_read, some_text}
 use Rattle.gregorio.proofs.set_down.hold.Goals as goal
 
 pub returns-clause-read : goal.returns-clause-read

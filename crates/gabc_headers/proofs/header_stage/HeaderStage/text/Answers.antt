@@ -1,6 +1,6 @@
 use Rattle.std.proofs.Common.{arith}
 use Rattle.std.proofs.lemmas.Str.{IsUtf8-string_bytes}
-use Rattle.gabc_headers.proofs.stages.HeldTextIsHeldAgain.{is_held}
+use Rattle.gabc_headers.proofs.stages.PendingHeadersRoundTrip.{is_held}
 use Rattle.gabc_headers.proofs.header_stage.HeaderStage.text.Goals as goal
 
 pub returns-in-InHeaders-clause-held : goal.returns-in-InHeaders-clause-held

@@ -13,9 +13,9 @@ use Rattle.gabc_body.specs.witness.BodyBuilder.{code_in, end_fault, end_findings
 use Rattle.gabc_body.specs.witness.Gatherer.{Gathered, with_last}
 use Rattle.gabc_score.specs.machine.ScoreMachine.{has_given, IsAtRest, IsScoreAt, IsShort}
 use Rattle.gabc_score.specs.machine.ScoreStage.{placed_after}
-use Rattle.gabc_score.proofs.building.EventsAreHeld.{never_lent}
+use Rattle.gabc_score.proofs.building.EventsAreGatheredInTurn.{never_lent}
 use Rattle.gabc_score.proofs.score_events.EventsStayWithinBounds.{few_found}
-use Rattle.gabc_score.proofs.score_events.HeldWithinLimits.{short_at_end}
+use Rattle.gabc_score.proofs.score_events.GatheredStaysWithinLimits.{short_at_end}
 use Rattle.gabc_score.proofs.score_events.FewAndShortAreLent.{held_lends, lends_these, no_code, placed_within}
 use Rattle.gabc_score.proofs.score_events.GivesOutside.{gives_outside}
 use Rattle.gabc_score.proofs.score_events.LastHasNoNotes.{last_has_no_notes, none_made_at_end}

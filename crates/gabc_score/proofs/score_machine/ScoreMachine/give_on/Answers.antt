@@ -8,7 +8,7 @@ use Rattle.gabc_score.specs.declared.waiting.Waiting.{Waiting}
 use Rattle.gabc_score.specs.GivesSyllables.{spelled_canonical}
 use Rattle.gabc_body.specs.Syllable.{PlacedSyllable}
 use Rattle.gabc_score.specs.machine.RegularLen.{BeginsRegularly, past_mark}
-use Rattle.gabc_score.specs.machine.Run.{AreBefore, IsFound, IsSteady, RunsMore, RunsOn, RunsTo, SpellsFound, len_of, mark_of}
+use Rattle.gabc_score.specs.machine.Run.{AreBefore, IsFound, KeepsFirstSound, RunsMore, RunsOn, RunsTo, SpellsFound, len_of, mark_of}
 use Rattle.gabc_score.proofs.runs.MoreIsTaken.{none_waits, one_is_taken, one_waits, those_are_joined, those_are_taken, waiting_are_joined, waiting_are_taken}
 use Rattle.gabc_score.proofs.runs.Waits.{front_then, gap_is, none_before, none_where_full, rest_utf8, some_front, then_before, then_front}
 use Rattle.gabc_score.proofs.score_machine.ScoreMachine.give_on.Goals as goal
@@ -60,7 +60,7 @@ loop-next-preserved g c =
     let then : Reached = record { last = next; count = r.count + 1; canonical = c.canonical_after-canonical.result; spans = c.spans_past-spans.result } in
     let spans = c.spans_past-spans.ensures ∙ ap (λ o. past_mark o r.spans) c.mark.ensures in
     let found : IsFound m.body.nabc_lines m.limits then.canonical next = subst (λ (n : ℕ). IsFound n m.limits then.canonical next) c.nabc_lines-lines.ensures c.in-Some.ensures.found in
-    let steady = subst (λ (n : ℕ). (is : BeginsRegularly n (next.spelled.now ++ next.rest.now) (len_of next)) → IsSteady n m.pair.gathered.first_kind is.syllable)
+    let steady = subst (λ (n : ℕ). (is : BeginsRegularly n (next.spelled.now ++ next.rest.now) (len_of next)) → KeepsFirstSound n m.pair.gathered.first_kind is.syllable)
     c.nabc_lines-lines.ensures (c.is_first_with.ensures c.if-is_first_with.false) found.is in
     let text_is = c.in-Some.ensures.text in
     let all_utf8 = subst IsUtf8 text_is i.utf8 in

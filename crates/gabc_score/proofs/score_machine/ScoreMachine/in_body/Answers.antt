@@ -2,8 +2,8 @@ use Rattle.std.proofs.Common.{rules, ap, ◌∙◌}
 use Rattle.gabc_score.specs.declared.bounds.Bounds.{Bounds}
 use Rattle.gabc_body.specs.witness.Gatherer.{Gathered}
 use Rattle.gabc_score.specs.machine.SlotPair.{SlotPairState}
-use Rattle.gabc_score.proofs.score_events.UnitsAreHeld.{none_held}
-use Rattle.gabc_score.proofs.score_events.HeldWithinLimits.{within_begun}
+use Rattle.gabc_score.proofs.score_events.PendingSyllableHoldsUnit.{none_held}
+use Rattle.gabc_score.proofs.score_events.GatheredStaysWithinLimits.{within_begun}
 use Rattle.gabc_score.proofs.score_events.WhatIsRead.{comment_reads}
 use Rattle.gabc_score.proofs.score_machine.ScoreMachine.in_body.Goals as goal
 

@@ -3,7 +3,7 @@ use Rattle.std.proofs.lemmas.Bool.{eqb-true}
 use Rattle.std.proofs.lemmas.List.{nil_from_length}
 use Rattle.gabc_score.specs.declared.score_machine.ScorePart.{ScorePart}
 use Rattle.gabc_score.specs.machine.ScoreMachine.{IsInBody, IsScoreAt}
-use Rattle.gabc_score.proofs.runs.MachineStandsBetween.{stands_between}
+use Rattle.gabc_score.proofs.runs.MachineIsBetweenSyllables.{stands_between}
 use Rattle.gabc_score.proofs.score_machine.ScoreMachine.is_between.Goals as goal
 
 pub returns : goal.returns

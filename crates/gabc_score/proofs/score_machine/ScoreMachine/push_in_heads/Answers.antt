@@ -6,10 +6,10 @@ use Rattle.gabc_score.specs.ScoreStage.{EndsLine, is_final}
 use Rattle.gabc_body.specs.witness.Gatherer.{Gathered}
 use Rattle.gabc_score.specs.machine.SlotPair.{SlotPairState}
 use Rattle.gabc_score.specs.witness.BodyStage.{BodyStageState}
-use Rattle.gabc_score.proofs.score_events.UnitsAreHeld.{none_held}
+use Rattle.gabc_score.proofs.score_events.PendingSyllableHoldsUnit.{none_held}
 use Rattle.gabc_score.proofs.score_events.CountsGoOn.{begins_of_text}
 use Rattle.gabc_score.proofs.score_events.WholeSyllables.{none_whole}
-use Rattle.gabc_score.proofs.score_events.HeldWithinLimits.{within_begun}
+use Rattle.gabc_score.proofs.score_events.GatheredStaysWithinLimits.{within_begun}
 use Rattle.gabc_score.proofs.score_events.WhatIsRead.{comment_reads}
 use Rattle.gabc_score.proofs.score_events.FewAndShortAreLent.{lends_none}
 use Rattle.gabc_score.proofs.score_events.GivesOutside.{gives_outside}

@@ -14,7 +14,7 @@ use Rattle.gabc_body.specs.witness.BodyBuilder.{code_in}
 use Rattle.gabc_score.specs.machine.ReadsChar.{ReadsChar, StopsWith, GivesPoint, stops, goes, found_past, past_char}
 use Rattle.gabc_score.specs.machine.ScoreMachine.{has_given}
 use Rattle.gabc_score.specs.machine.SlotPair.{SlotPairState}
-use Rattle.gabc_score.proofs.building.EventsAreHeld.{never_lent}
+use Rattle.gabc_score.proofs.building.EventsAreGatheredInTurn.{never_lent}
 use Rattle.gabc_score.proofs.score_events.CharactersAreRead.{few_gathered, room_gathered}
 use Rattle.gabc_score.proofs.score_events.EventsStayWithinBounds.{few_with_first}
 use Rattle.gabc_score.proofs.score_events.NothingIsGiven.{nothing_given}

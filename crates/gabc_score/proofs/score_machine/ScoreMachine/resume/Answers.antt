@@ -17,8 +17,8 @@ use Rattle.gabc_score.specs.machine.SlotPair.{SlotPairState, is_made}
 use Rattle.gabc_score.specs.witness.BodyStage.{BodyStageState}
 use Rattle.gabc_score.specs.ReportedWithin.{IsAtOutset}
 use Rattle.gabc_body.specs.witness.BodyBuilder.{code_in}
-use Rattle.gabc_score.proofs.score_events.HeldWithinLimits.{within_none}
-use Rattle.gabc_score.proofs.score_events.UnitsAreHeld.{none_held}
+use Rattle.gabc_score.proofs.score_events.GatheredStaysWithinLimits.{within_none}
+use Rattle.gabc_score.proofs.score_events.PendingSyllableHoldsUnit.{none_held}
 use Rattle.gabc_score.proofs.resuming.AfterSyllables.{nothing_passes, preceded_after, reads_after}
 use Rattle.gabc_score.proofs.score_machine.ScoreMachine.resume.Goals as goal
 

@@ -13,7 +13,7 @@ use Rattle.gabc_body.specs.Syllable.{PlacedSyllable}
 use Rattle.gabc_score.specs.declared.run.Found.{Found}
 use Rattle.gabc_score.specs.declared.score_machine.ScoreMachine.{ScoreMachine}
 use Rattle.gabc_score.specs.machine.RegularLen.{BeginsRegularly}
-use Rattle.gabc_score.specs.machine.Run.{IsFound, IsFrontOf, IsSamePair, IsSteady, TakesRun, len_of}
+use Rattle.gabc_score.specs.machine.Run.{IsFound, IsFrontOf, IsSamePair, KeepsFirstSound, TakesRun, len_of}
 use Rattle.gabc_score.specs.machine.ScoreMachine.{shown, IsScore}
 use Rattle.gabc_score.proofs.runs.RunBegins.{held_of}
 use Rattle.gabc_score.proofs.runs.RunIsTaken.{gives_none, gives_same, shown_same, placed_first, run_to_first}
@@ -59,9 +59,9 @@ module _ (lines : ℕ) (m : ScoreMachine) (f : Found) (e : lines ≡ m.body.nabc
   first_found : IsFound m.body.nabc_lines m.limits m.bounds.after.canonical f
   first_found = subst (λ (n : ℕ). IsFound n m.limits m.bounds.after.canonical f) e found
 
-  first_steady : ((is : BeginsRegularly lines (f.spelled.now ++ f.rest.now) (len_of f)) → IsSteady lines m.pair.gathered.first_kind is.syllable)
-      → IsSteady m.body.nabc_lines m.pair.gathered.first_kind first_found.is.syllable
-  first_steady h = subst (λ (n : ℕ). (is : BeginsRegularly n (f.spelled.now ++ f.rest.now) (len_of f)) → IsSteady n m.pair.gathered.first_kind is.syllable) e h first_found.is
+  first_steady : ((is : BeginsRegularly lines (f.spelled.now ++ f.rest.now) (len_of f)) → KeepsFirstSound lines m.pair.gathered.first_kind is.syllable)
+      → KeepsFirstSound m.body.nabc_lines m.pair.gathered.first_kind first_found.is.syllable
+  first_steady h = subst (λ (n : ℕ). (is : BeginsRegularly n (f.spelled.now ++ f.rest.now) (len_of f)) → KeepsFirstSound n m.pair.gathered.first_kind is.syllable) e h first_found.is
 
 pub end_run-requires-clause-to : goal.end_run-requires-clause-to
 end_run-requires-clause-to g c =

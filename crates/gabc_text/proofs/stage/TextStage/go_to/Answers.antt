@@ -3,8 +3,8 @@ use Rattle.gabc_places.specs.declared.place.Place.{Place}
 use Rattle.gabc_text.specs.StageReports.{opener_of}
 use Rattle.gabc_text.specs.machine.StageReports.{is_open}
 use Rattle.gabc_text.specs.declared.stage.TextStage.{TextStage}
-use Rattle.gabc_text.proofs.resuming.KeptStandsFromNext.{is_next}
-use Rattle.gabc_text.proofs.resuming.ToldByEvents.{opener_moved}
+use Rattle.gabc_text.proofs.resuming.NextPlaceDeterminesKeptPlaces.{is_next}
+use Rattle.gabc_text.proofs.resuming.EndedAndFreshStagesHaveNothingOpen.{opener_moved}
 use Rattle.gabc_text.proofs.stage.TextStage.go_to.Goals as goal
 use Rattle.gabc_text.proofs.stage.TextStage.go_to.Goals.{then-not-is_open, else-not-is_open}
 

@@ -2,7 +2,7 @@ use Rattle.std.proofs.Common.{◌≡◌, Bool, true, false, cond, not, sym, ap, 
 use Rattle.gabc_text.specs.declared.token_state.TokenState.{TokenState}
 use Rattle.gabc_text.specs.declared.token_state.TokenState.TheVariants.{Comment}
 use Rattle.gabc_text.specs.machine.StageReports.{is_comment}
-use Rattle.gabc_text.proofs.resuming.ToldByEvents.{comment_by}
+use Rattle.gabc_text.proofs.resuming.EndedAndFreshStagesHaveNothingOpen.{comment_by}
 use Rattle.gabc_text.proofs.stage.TextStage.in_comment.Goals as goal
 
 turned : (d : Bool) → cond d false true ≡ not d

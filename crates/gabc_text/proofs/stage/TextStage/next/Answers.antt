@@ -1,4 +1,4 @@
-use Rattle.gabc_text.proofs.resuming.KeptStandsFromNext.{is_next}
+use Rattle.gabc_text.proofs.resuming.NextPlaceDeterminesKeptPlaces.{is_next}
 use Rattle.gabc_text.proofs.stage.TextStage.next.Goals as goal
 
 pub returns-clause-next : goal.returns-clause-next

@@ -1,6 +1,6 @@
 use Rattle.std.proofs.Common.{sym, ◌∙◌, arith}
 use Rattle.gabc_text.proofs.NothingAfterTheEnd.{opener_told}
-use Rattle.gabc_text.proofs.resuming.ToldByEvents.{opener_over}
+use Rattle.gabc_text.proofs.resuming.EndedAndFreshStagesHaveNothingOpen.{opener_over}
 use Rattle.gabc_text.proofs.stage.TextStage.opener.Goals as goal
 
 pub returns-then-is_done : goal.returns-then-is_done

@@ -18,7 +18,7 @@ use Rattle.gregorio.proofs.pieces.InputsAreEnded.{ended_as, ends_given, ends_ite
 use Rattle.gregorio.proofs.pieces.BytesAreTaken.{over_already, still_reserved}
 use Rattle.gregorio.proofs.pieces.EventsAreWritten.{passes_all, steady_all, steady_both, writes_all}
 use Rattle.gregorio.proofs.pieces.SavedInHeaders.{shown, still_runs}
-use Rattle.gregorio.proofs.pieces.WrittenGoesOn.{force_past_all}
+use Rattle.gregorio.proofs.pieces.WriterKeepsPaceWithScore.{force_past_all}
 use Rattle.gregorio.proofs.pieces.PiecesAreTaken.{may_read}
 use Rattle.gregorio.proofs.engine.Engine.end.Goals as goal
 

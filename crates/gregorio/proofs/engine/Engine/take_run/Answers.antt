@@ -2,7 +2,7 @@ use Rattle.std.proofs.Common.{◌≡◌, ℕ, List, is_none, take, ap, ◌∙◌
 use Rattle.std.specs.List.{slice_range}
 use Rattle.std.specs.Str.{chars}
 use Rattle.gabc_score.proofs.regular_syllables.BytesOfRegularSyllables.{split_boundary}
-use Rattle.gabc_score.proofs.runs.RunGoesOn.{few_characters}
+use Rattle.gabc_score.proofs.runs.RunTakesOneMoreSyllable.{few_characters}
 use Rattle.gregorio.specs.machine.RunWriter.{TakesRuns}
 use Rattle.gregorio.specs.machine.ScoreWriter.{WritesRun}
 use Rattle.gregorio.specs.witness.Engine.{Written}

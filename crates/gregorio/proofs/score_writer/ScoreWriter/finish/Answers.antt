@@ -2,7 +2,7 @@ use Rattle.std.proofs.Common.{ap, ◌∙◌, arith}
 use Rattle.gregorio.specs.machine.RunWriter.{past_end}
 use Rattle.gregorio.proofs.AnEventIsWritten.{last_is_steady, last_is_written, room_for_end, room_for_last}
 use Rattle.gregorio.proofs.OutputsOfEvents.{nothing_left}
-use Rattle.gregorio.proofs.pieces.WrittenGoesOn.{force_ended}
+use Rattle.gregorio.proofs.pieces.WriterKeepsPaceWithScore.{force_ended}
 use Rattle.gregorio.proofs.score_writer.ScoreWriter.finish.Goals as goal
 
 pub write_events-requires : goal.write_events-requires

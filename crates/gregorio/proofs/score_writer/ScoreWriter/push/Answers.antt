@@ -5,7 +5,7 @@ use Rattle.gabc_headers.specs.declared.head_event.HeadEvent.{HeadEvent}
 use Rattle.gregorio.specs.machine.InStep.{TakesEvent}
 use Rattle.gregorio.specs.machine.RunWriter.{RunWriterState, heads_at, heads_len, with_heads}
 use Rattle.gregorio.specs.machine.ScoreWriter.{FitsEvents, IsShortBook, ScoreWriterState}
-use Rattle.gregorio.proofs.pieces.WrittenGoesOn.{no_heads, not_written}
+use Rattle.gregorio.proofs.pieces.WriterKeepsPaceWithScore.{no_heads, not_written}
 use Rattle.gregorio.proofs.score_writer.ScoreWriter.push.Goals.{in-Heads, in_default}
 use Rattle.gregorio.proofs.score_writer.ScoreWriter.push.Goals as goal
 

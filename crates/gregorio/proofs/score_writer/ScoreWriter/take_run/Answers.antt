@@ -3,7 +3,7 @@ use Rattle.std.specs.Str.{chars}
 use Rattle.gabc_places.specs.BoundedList.{BoundedList}
 use Rattle.gabc_score.specs.declared.score_event.ScoreEvent.{ScoreEvent}
 use Rattle.gregorio.specs.machine.RunWriter.{TakesRuns}
-use Rattle.gregorio.specs.machine.ScoreWriter.{IsSteady, ScoreWriterState}
+use Rattle.gregorio.specs.machine.ScoreWriter.{KeepsJobAndRooms, ScoreWriterState}
 use Rattle.gregorio.proofs.pieces.RunIsWritten.{run_clef, run_silent, run_steady}
 use Rattle.gregorio.proofs.score_writer.ScoreWriter.take_run.Goals as goal
 
@@ -27,5 +27,5 @@ returns-clause-steady c =
     let i = c.self.inside in
     let old : ScoreWriterState = record { score = i.score; writer = i.writer } in
     let new : ScoreWriterState = record { score = c.take_run.new.self; writer = c.take_run.new.out } in
-    subst (λ (s : ScoreWriterState). IsSteady s new) c.self.view_is
+    subst (λ (s : ScoreWriterState). KeepsJobAndRooms s new) c.self.view_is
     (run_steady old c.args.at (chars (take c.take_run.result.bytes c.args.text.now)) new c.take_run.ensures.runs)

@@ -2,7 +2,7 @@ use Rattle.std.proofs.Common.{length, ap, sym, subst, ◌∙◌}
 use Rattle.gregorio_state.specs.Conditions.{AreStateFields}
 use Rattle.gregorio_state.specs.Fields.{StateFields, fields_of}
 use Rattle.gregorio_state.specs.StateBytes.{state_bytes}
-use Rattle.gregorio_state.proofs.HeldTexts.{holding_its_own}
+use Rattle.gregorio_state.proofs.OwnPendingTextKeepsFields.{holding_its_own}
 use Rattle.gregorio_state.proofs.fields.StateFields.len.Goals as goal
 
 pub len_holding-requires : goal.len_holding-requires

@@ -1,7 +1,7 @@
 use Rattle.std.proofs.Common.{sym, subst, arith}
 use Rattle.gregorio_state.specs.Conditions.{AreStateFields}
 use Rattle.gregorio_state.specs.Fields.{fields_of}
-use Rattle.gregorio_state.proofs.HeldTexts.{holding_its_own}
+use Rattle.gregorio_state.proofs.OwnPendingTextKeepsFields.{holding_its_own}
 use Rattle.gregorio_state.proofs.fields.StateFields.save_into.Goals as goal
 
 pub save_holding-requires : goal.save_holding-requires

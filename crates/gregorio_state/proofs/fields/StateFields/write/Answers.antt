@@ -2,7 +2,7 @@ use Rattle.std.proofs.Common.{ap, sym, subst, ◌∙◌}
 use Rattle.gregorio_state.specs.Conditions.{AreStateFields}
 use Rattle.gregorio_state.specs.Fields.{StateFields, fields_of}
 use Rattle.gregorio_state.specs.StateBytes.{state_bytes}
-use Rattle.gregorio_state.proofs.HeldTexts.{holding_its_own}
+use Rattle.gregorio_state.proofs.OwnPendingTextKeepsFields.{holding_its_own}
 use Rattle.gregorio_state.proofs.fields.StateFields.write.Goals as goal
 
 pub write_holding-requires : goal.write_holding-requires

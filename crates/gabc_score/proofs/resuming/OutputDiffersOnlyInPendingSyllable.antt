@@ -135,23 +135,23 @@ module _ (m n : UnplacedSyllable) where
   held_aside : (l : Bool) (a b : Gathered) → IsEquivalentAside m n l a b → IsEquivalentAside m n (l || nat_lt 1 (length a.made)) (with_held a) (with_held b)
   held_aside l a b h = grind (arith, or-false)
 
-  stop_same : (s : HeldScore) (b : Gathered) (fault : Fault) → IsEquivalentAside m n s.has_lent s.gathered b → AreSameOutputs m n (stop_outputs s fault) (stop_outputs (record s { gathered = b }) fault)
-  stop_same s b fault h = same_append (held_outputs s) (held_outputs (record s { gathered = b })) (Stop fault ∷ []) (Stop fault ∷ []) (placed_same s.has_lent s.gathered.made b.made h.made) (refl, tt)
+  stop_same : (s : HeldScore) (b : Gathered) (fault : Fault) → IsEquivalentAside m n s.is_preceded s.gathered b → AreSameOutputs m n (stop_outputs s fault) (stop_outputs (record s { gathered = b }) fault)
+  stop_same s b fault h = same_append (held_outputs s) (held_outputs (record s { gathered = b })) (Stop fault ∷ []) (Stop fault ∷ []) (placed_same s.is_preceded s.gathered.made b.made h.made) (refl, tt)
 
-  module _ (limits : Limits) (s : HeldScore) (b : Gathered) (now : List BodyEvent) (h : IsEquivalentAside m n s.has_lent s.gathered b) where
+  module _ (limits : Limits) (s : HeldScore) (b : Gathered) (now : List BodyEvent) (h : IsEquivalentAside m n s.is_preceded s.gathered b) where
     abbrev g : Gathered
     g = with_all s.gathered now
 
-    aside_now : IsEquivalentAside m n s.has_lent g (with_all b now)
-    aside_now = all_aside now s.has_lent s.gathered b h
+    aside_now : IsEquivalentAside m n s.is_preceded g (with_all b now)
+    aside_now = all_aside now s.is_preceded s.gathered b h
 
     end_same : AreSameOutputs m n (end_outputs limits s now) (end_outputs limits (record s { gathered = b }) now)
     end_same =
-        subst (λ (o : Option Fault). AreSameOutputs m n (end_outputs limits s now) (end_outputs_by (record s { gathered = b }) now o)) (sym (fault_same s.has_lent limits s.next (with_last g) (with_last (with_all b now)) v))
+        subst (λ (o : Option Fault). AreSameOutputs m n (end_outputs limits s now) (end_outputs_by (record s { gathered = b }) now o)) (sym (fault_same s.is_preceded limits s.next (with_last g) (with_last (with_all b now)) v))
         (by (end_fault limits s.next (with_last g)))
       where
-        v : IsEquivalentAside m n s.has_lent (with_last g) (with_last (with_all b now))
-        v = last_aside s.has_lent g (with_all b now) aside_now
+        v : IsEquivalentAside m n s.is_preceded (with_last g) (with_last (with_all b now))
+        v = last_aside s.is_preceded g (with_all b now) aside_now
 
         found_same : findings_now now ++ end_findings s.next (has_text (with_all b now).builder.view) ((with_last (with_all b now)).eu || (with_last (with_all b now)).nlba)
             ≡ findings_now now ++ end_findings s.next (has_text g.builder.view) ((with_last g).eu || (with_last g).nlba)
@@ -161,17 +161,17 @@ module _ (m n : UnplacedSyllable) where
 
         by : (o : Option Fault) → AreSameOutputs m n (end_outputs_by s now o) (end_outputs_by (record s { gathered = b }) now o)
         by (Some fault) = stop_same s b fault h
-        by None = same_append _ _ (End ∷ []) (End ∷ []) (after_found _ _ _ _ found_same (placed_same s.has_lent _ _ v.made)) (tt, tt)
+        by None = same_append _ _ (End ∷ []) (End ∷ []) (after_found _ _ _ _ found_same (placed_same s.is_preceded _ _ v.made)) (tt, tt)
 
     point_same : (x : Char) → AreSameOutputs m n (point_outputs s x now) (point_outputs (record s { gathered = b }) x now)
     point_same x =
-        after_found _ _ _ _ (ap (λ fs. findings_now now ++ fs) (first_same s.has_lent s.gathered b now x.place h))
-        (rw (length_same s.has_lent g.made (with_all b now).made aside_now.made).0 (taken_same (length g.made - 1) _ _ (placed_same s.has_lent g.made (with_all b now).made aside_now.made)))
+        after_found _ _ _ _ (ap (λ fs. findings_now now ++ fs) (first_same s.is_preceded s.gathered b now x.place h))
+        (rw (length_same s.is_preceded g.made (with_all b now).made aside_now.made).0 (taken_same (length g.made - 1) _ _ (placed_same s.is_preceded g.made (with_all b now).made aside_now.made)))
 
   -- What a body will still give is the same, but for the held syllable.
-  pub left_same : (limits : Limits) (xs : List HeadEvent) (lists : List (List BodyEvent)) (s : HeldScore) (b : Gathered) → IsEquivalentAside m n s.has_lent s.gathered b
+  pub left_same : (limits : Limits) (xs : List HeadEvent) (lists : List (List BodyEvent)) (s : HeldScore) (b : Gathered) → IsEquivalentAside m n s.is_preceded s.gathered b
       → AreSameLists m n (body_left limits s lists xs) (body_left limits (record s { gathered = b }) lists xs)
-  left_same limits [] lists s b h = (placed_same s.has_lent s.gathered.made b.made h.made, tt)
+  left_same limits [] lists s b h = (placed_same s.is_preceded s.gathered.made b.made h.made, tt)
   left_same limits (head_event.Found f ∷ xs) lists s b h = ((refl, tt), left_same limits xs lists s b h)
   left_same limits (head_event.Heads l k c ∷ xs) lists s b h = (tt, left_same limits xs lists s b h)
   left_same limits (head_event.Stop fault ∷ xs) lists s b h = (stop_same s b fault h, lists_same (silence xs))
@@ -179,14 +179,14 @@ module _ (m n : UnplacedSyllable) where
   left_same limits (head_event.Body x ∷ xs) [] s b h = lists_same (silence (head_event.Body x ∷ xs))
   left_same limits (head_event.Body x ∷ xs) (now ∷ lists) s b h =
       subst (λ (o : Option Code). AreSameLists m n (body_left limits s (now ∷ lists) (head_event.Body x ∷ xs)) (left_by o (record s { gathered = b }) x now xs (body_left limits (score_past (record s { gathered = b }) x now) lists xs)))
-      (sym (code_same s.has_lent limits (with_all s.gathered now) (with_all b now) w))
-      (by (left_same limits xs lists (score_past s x now) (with_held (with_all b now)) (held_aside s.has_lent (with_all s.gathered now) (with_all b now) w)) (code_in limits (with_all s.gathered now)))
+      (sym (code_same s.is_preceded limits (with_all s.gathered now) (with_all b now) w))
+      (by (left_same limits xs lists (score_past s x now) (with_held (with_all b now)) (held_aside s.is_preceded (with_all s.gathered now) (with_all b now) w)) (code_in limits (with_all s.gathered now)))
     where
-      w : IsEquivalentAside m n s.has_lent (with_all s.gathered now) (with_all b now)
+      w : IsEquivalentAside m n s.is_preceded (with_all s.gathered now) (with_all b now)
       w = aside_now limits s b now h
 
       past_is : score_past (record s { gathered = b }) x now ≡ record (score_past s x now) { gathered = with_held (with_all b now) }
-      past_is = ap (λ (k : ℕ). record (score_past s x now) { gathered = with_held (with_all b now); has_lent = s.has_lent || nat_lt 1 k }) (length_same s.has_lent _ _ w.made).0
+      past_is = ap (λ (k : ℕ). record (score_past s x now) { gathered = with_held (with_all b now); is_preceded = s.is_preceded || nat_lt 1 k }) (length_same s.is_preceded _ _ w.made).0
 
       by : AreSameLists m n (body_left limits (score_past s x now) lists xs) (body_left limits (record (score_past s x now) { gathered = with_held (with_all b now) }) lists xs)
           → (o : Option Code) → AreSameLists m n (left_by o s x now xs (body_left limits (score_past s x now) lists xs)) (left_by o (record s { gathered = b }) x now xs (body_left limits (score_past (record s { gathered = b }) x now) lists xs))

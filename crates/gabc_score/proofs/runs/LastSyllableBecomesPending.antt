@@ -22,7 +22,7 @@ use Rattle.gabc_score.specs.machine.PartCounts.{CountsHold}
 use Rattle.gabc_score.specs.machine.PartKeeps.{in_text, PartKeeps}
 use Rattle.gabc_score.specs.machine.PartOnly.{HasText, HoldsTexts}
 use Rattle.gabc_score.specs.machine.ReadAlone.{is_alone, lists_from, HasRead}
-use Rattle.gabc_score.specs.machine.Run.{GoesBefore, IsFound, RunsBefore, StandsBetween}
+use Rattle.gabc_score.specs.machine.Run.{GoesBefore, IsFound, RunsBefore, IsBetweenSyllables}
 use Rattle.gabc_score.specs.machine.ScoreMachine.{IsInBody, IsScoreAt}
 use Rattle.gabc_score.specs.machine.SlotPair.{is_made}
 use Rattle.gabc_body.specs.witness.SyllableBuilder.{OpenSyllable, nothing_open}
@@ -34,7 +34,7 @@ use Rattle.gabc_score.proofs.runs.RunGives.{HoldsLast}
 use Rattle.gabc_body.proofs.units.CanonicalTextIsText.{nothing_plain}
 
 module _ (m : ScoreMachine) (at : Place) (t : List ℕ) (given : List PlacedSyllable) (starts : Bool) (p : Preceding) (next : Place) (runs : RunsBefore m at t given starts p next)
-    (stands : StandsBetween m at) (f : Found) (on : ScoreMachine) (goes : GoesBefore m p next on) where
+    (stands : IsBetweenSyllables m at) (f : Found) (on : ScoreMachine) (goes : GoesBefore m p next on) where
   -- it rests there
   pub rests_there : IsInBody on
   rests_there = subst IsInBody (sym goes.is)

@@ -9,12 +9,12 @@ use Rattle.gabc_score.specs.declared.score_machine.ScorePart.TheVariants as scor
 use Rattle.gabc_score.specs.Before.{with_each, with_one}
 use Rattle.gabc_body.specs.Body.{is_none}
 use Rattle.gabc_body.specs.Syllable.{UnplacedSyllable}
-use Rattle.gabc_score.specs.machine.Run.{StandsBetween}
+use Rattle.gabc_score.specs.machine.Run.{IsBetweenSyllables}
 use Rattle.gabc_score.specs.machine.ScoreMachine.{IsInBody}
 use Rattle.gabc_score.proofs.resuming.NothingIsRead.{nothing_alike}
 
 pub stands_between : (m : ScoreMachine) (at : Place) (x : UnplacedSyllable) → m.part ≡ score_part.Body → IsInBody m → m.pair.gathered.made ≡ x ∷ [] → m.pair.gathered.builder.kept ≡ []
-    → m.body.part ≡ Text (fresh_stage at) → StandsBetween m at
+    → m.body.part ≡ Text (fresh_stage at) → IsBetweenSyllables m at
 stands_between m at x part rests made kept begins = record {
   part = part;
   rests = rests;

@@ -15,7 +15,7 @@ use Rattle.gregorio.specs.Streams.{force_after, next_number}
 use Rattle.gregorio.specs.witness.Engine.{Written, after_output, after_outputs, is_heads}
 use Rattle.gregorio.specs.machine.InStep.{HasForce, PassesAll, PassesOn, written_at}
 use Rattle.gregorio.specs.machine.RunWriter.{RunWriterState, heads_at, past_end, past_outputs}
-use Rattle.gregorio.specs.machine.ScoreWriter.{IsSteady, ScoreWriterState}
+use Rattle.gregorio.specs.machine.ScoreWriter.{KeepsJobAndRooms, ScoreWriterState}
 use Rattle.gregorio.proofs.StreamsOfOutputs.{job_stays}
 
 -- ---- what is written
@@ -85,7 +85,7 @@ force_past_all (x ∷ events) old new all h =
     force_past_all events all.0 new all.1.1 (force_past old.score (written_at old.writer.written x) x all.0 all.1.0 (forced_at old.writer.written x h))
 
 -- what no call changes, if this was written of outputs
-pub steady_past : (old new : ScoreWriterState) (w : RunWriterState) (outputs : List ScoreOutput) → IsSteady old (record { score = new.score; writer = w }) → new.writer ≡ past_outputs w outputs → IsSteady old new
+pub steady_past : (old new : ScoreWriterState) (w : RunWriterState) (outputs : List ScoreOutput) → KeepsJobAndRooms old (record { score = new.score; writer = w }) → new.writer ≡ past_outputs w outputs → KeepsJobAndRooms old new
 steady_past old new w outputs s e = grind (arith, job_stays)
 
 -- if an event is not that of the headers, they are not written

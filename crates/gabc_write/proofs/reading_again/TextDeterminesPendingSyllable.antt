@@ -32,7 +32,7 @@ use Rattle.gabc_score.specs.ReportedWithin.{IsHeldWithin, written_after}
 use Rattle.gabc_body.specs.UnitRead.{HoldsSomeUnit}
 use Rattle.gabc_write.specs.SetDown.{MayBeHeldByItsText, SayTheSame}
 use Rattle.gabc_write.specs.SyllableMeaning.{SyllableMeaning, meaning_of}
-use Rattle.gabc_write.proofs.reading_again.HeldSyllableRoundTrips.{fits_first}
+use Rattle.gabc_write.proofs.reading_again.PendingSyllableRoundTrips.{fits_first}
 use Rattle.gabc_write.specs.SyllableRead.{as_it_stands, SaysTheSame, IsReadByItself, IsReadFromItsText, IsReadWhereItStands}
 
 -- ---- whether it sounds is said

@@ -102,15 +102,15 @@ dropped limit zero ms h = h
 dropped limit (suc n) [] h = tt
 dropped limit (suc n) (m ∷ ms) h = dropped limit n ms h.1
 
-module _ (has_lent : Bool) where
+module _ (is_preceded : Bool) where
   abbrev passed : Preceding → List UnplacedSyllable → Preceding
-  passed p made = with_placed p (take (length made - 1) (placed_after has_lent made))
+  passed p made = with_placed p (take (length made - 1) (placed_after is_preceded made))
 
   written_passed : (limit : ℕ) (p : Preceding) (made : List UnplacedSyllable) → AreWritten limit (p.syllables == 0) made → AreWritten limit ((passed p made).syllables == 0) (drop (length made - 1) made)
   written_passed limit p [] h = tt
   written_passed limit p (m ∷ []) h = h
   written_passed limit p (s ∷ m ∷ ms) h =
-      let some = given_some has_lent p s m ms in
+      let some = given_some is_preceded p s m ms in
       let later_one : ((passed p (s ∷ m ∷ ms)).syllables == 0) ≡ false = grind (arith, nat_tests, some) in
       let count : length (s ∷ m ∷ ms) - 1 ≡ suc (length ms) = omega arith in
       subst (λ (b : Bool). AreWritten limit b (drop (length (s ∷ m ∷ ms) - 1) (s ∷ m ∷ ms))) (sym later_one) (rw count (dropped limit (length ms) (m ∷ ms) h.1))
@@ -118,19 +118,19 @@ module _ (has_lent : Bool) where
   outset_passed : (p : Preceding) (made : List UnplacedSyllable) → IsAtOutset p → IsAtOutset (passed p made)
   outset_passed p [] h = h
   outset_passed p (m ∷ []) h = h
-  outset_passed p (s ∷ m ∷ ms) h = λ e. absurd (let some = given_some has_lent p s m ms in omega (arith, some, e))
+  outset_passed p (s ∷ m ∷ ms) h = λ e. absurd (let some = given_some is_preceded p s m ms in omega (arith, some, e))
 
 -- ---- what holds from point to point
 
-pub within_past : (limits : Limits) (before after : Preceding) (has_lent : Bool) (g h turned : Gathered) (now : List BodyEvent) → g.limit ≡ limits.syllable → g.over ≡ false → g.follows ≡ nat_lt 0 (with_each before g.made).syllables
-    → HoldsWithin limits before g → All (IsShort limits.syllable) g.made → h ≡ with_all g now → code_in limits (with_all g now) ≡ None → after ≡ passed has_lent before h.made → turned ≡ with_held h → HoldsWithin limits after turned
-within_past limits before after has_lent g h turned now e over f within short is none there turns =
+pub within_past : (limits : Limits) (before after : Preceding) (is_preceded : Bool) (g h turned : Gathered) (now : List BodyEvent) → g.limit ≡ limits.syllable → g.over ≡ false → g.follows ≡ nat_lt 0 (with_each before g.made).syllables
+    → HoldsWithin limits before g → All (IsShort limits.syllable) g.made → h ≡ with_all g now → code_in limits (with_all g now) ≡ None → after ≡ passed is_preceded before h.made → turned ≡ with_held h → HoldsWithin limits after turned
+within_past limits before after is_preceded g h turned now e over f within short is none there turns =
     let written : AreWritten limits.syllable (before.syllables == 0) h.made = rw is (within_now limits before g now e over f within.written short none).0 in
     let code : code_in limits h ≡ None = ap (code_in limits) is ∙ none in
     rw (turns, there) (record {
-      written = written_passed has_lent limits.syllable before h.made written;
+      written = written_passed is_preceded limits.syllable before h.made written;
       file = λ some. file_now limits h code (sym (last_stays h.made) ∙ some);
-      outset = outset_passed has_lent before h.made within.outset;
+      outset = outset_passed is_preceded before h.made within.outset;
     })
 
 -- nothing was gathered

@@ -22,10 +22,10 @@ use Rattle.gabc_body.specs.Canonical.{canonical, position_by}
 use Rattle.gabc_score.specs.RegularSyllable.{SyllableParts, IsRegularSyllable, spelled}
 use Rattle.gabc_score.specs.ScoreStage.{IsWithin}
 use Rattle.gabc_body.specs.Syllable.{UnplacedSyllable, PlacedSyllable}
-use Rattle.gabc_score.specs.machine.Between.{IsBetween, LeavesRoomFor, GoesThrough, Makes, SoundsNoMore, with_one as gathered_with, past_one, given_before}
+use Rattle.gabc_score.specs.machine.Between.{IsBetween, LeavesRoomFor, StepsOver, ReadsAlike, SoundsNoMore, with_one as gathered_with, after_one, given_before}
 use Rattle.gabc_body.specs.witness.Gatherer.{Gathered}
 use Rattle.gabc_score.specs.machine.Preceded.{spans_of}
-use Rattle.gabc_score.specs.machine.Run.{IsFound, IsSteady, SpellsFound, StandsBetween, RunsBefore, canonical_length, past_found}
+use Rattle.gabc_score.specs.machine.Run.{IsFound, KeepsFirstSound, SpellsFound, IsBetweenSyllables, RunsBefore, canonical_length, past_found}
 use Rattle.gabc_score.specs.machine.ScoreMachine.{held_score}
 use Rattle.gabc_score.specs.machine.ScoreStage.{HeldScore}
 use Rattle.gabc_score.proofs.score_events.FewAndShortAreLent.{short_within}
@@ -49,7 +49,7 @@ low_there at next bytes spelled rest text u e place line column = grind (arith, 
 abbrev pub MakeSyllables : Type 0
 MakeSyllables =
     (lines macros : ℕ) (at : Place) (r : SyllableParts) (spans : Spans) → IsRegularSyllable lines r → CountsFit at (spelled r) → length (encode_utf8_all (spelled r)) < 2 ^ 63
-    → (m : UnplacedSyllable) × Makes lines macros at r spans m
+    → (m : UnplacedSyllable) × ReadsAlike lines macros at r spans m
 
 -- It has read the syllable that was found too, which is placed before one that begins a word or
 -- not.
@@ -59,8 +59,8 @@ pub record GoesOnWith (m : ScoreMachine) (at : Place) (t : List ℕ) (given : Li
   pub runs : RunsBefore m at (t ++ chars f.spelled.now) (given ++ placed ∷ []) begins (past_found p f) (place_past at (t ++ chars f.spelled.now))
 
 module _ (m : ScoreMachine) (at : Place) (t : List ℕ) (given : List PlacedSyllable) (starts : Bool) (p : Preceding) (next : Place) (runs : RunsBefore m at t given starts p next)
-    (stands : StandsBetween m at) (f : Found) (found : IsFound m.body.nabc_lines m.limits p.canonical f) (start : nat_lt 0 f.gap ≡ starts)
-    (steady : IsSteady m.body.nabc_lines m.pair.gathered.first_kind found.is.syllable) where
+    (stands : IsBetweenSyllables m at) (f : Found) (found : IsFound m.body.nabc_lines m.limits p.canonical f) (start : nat_lt 0 f.gap ≡ starts)
+    (steady : KeepsFirstSound m.body.nabc_lines m.pair.gathered.first_kind found.is.syllable) where
   abbrev pub r : SyllableParts
   r = parts f m.body.nabc_lines p.canonical m.limits found
 
@@ -77,7 +77,7 @@ module _ (m : ScoreMachine) (at : Place) (t : List ℕ) (given : List PlacedSyll
   pub past_is : past ≡ place_past at (t ++ chars f.spelled.now)
   past_is = ap (λ (q : Place). place_past q (chars f.spelled.now)) runs.place ∙ sym (place_append at t (chars f.spelled.now))
 
-  module _ (one : UnplacedSyllable) (makes : Makes m.body.nabc_lines m.body.macros next r spans one) where
+  module _ (one : UnplacedSyllable) (makes : ReadsAlike m.body.nabc_lines m.body.macros next r spans one) where
     pub between : (s : HeldScore) (made : List UnplacedSyllable) → length made ≤ 1 → s.gathered ≡ record m.pair.gathered { made = made; total = p.canonical; eu = p.spans.eu; nlba = p.spans.nlba } → IsBetween m.limits s
     between s made few is = grind arith
 
@@ -89,9 +89,9 @@ module _ (m : ScoreMachine) (at : Place) (t : List ℕ) (given : List PlacedSyll
     steady_one g e = subst (λ (k : Option ItemKind). SoundsNoMore (is_some k) (sounds one)) (sym e)
         (sounds_no_more f m.body.nabc_lines p.canonical m.limits found spans one makes.made m.pair.gathered.first_kind steady)
 
-    through_one : GoesThrough m.limits m.body.nabc_lines m.body.macros next runs.s (chars f.spelled.now) (given_before runs.s one) past (past_one runs.s past one)
+    through_one : StepsOver m.limits m.body.nabc_lines m.body.macros next runs.s (chars f.spelled.now) (given_before runs.s one) past (after_one runs.s past one)
     through_one =
-        subst (λ (u : List ℕ). GoesThrough m.limits m.body.nabc_lines m.body.macros next runs.s u (given_before runs.s one) (place_past next u) (past_one runs.s (place_past next u) one))
+        subst (λ (u : List ℕ). StepsOver m.limits m.body.nabc_lines m.body.macros next runs.s u (given_before runs.s one) (place_past next u) (after_one runs.s (place_past next u) one))
         (sym (characters_are f m.body.nabc_lines p.canonical m.limits found))
         (makes.through m.limits runs.s (between runs.s (runs.held ∷ []) (omega arith) runs.gathered) (steady_one runs.s.gathered (ap (λ (g : Gathered). g.first_kind) runs.gathered)) (ap spans_of runs.gathered)
         (leaves runs.s.gathered (ap (λ (g : Gathered). g.total) runs.gathered)))
@@ -103,7 +103,7 @@ module _ (m : ScoreMachine) (at : Place) (t : List ℕ) (given : List PlacedSyll
     given_is = grind (arith, word)
 
     -- through the syllable the one held before is given
-    pub through_all : GoesThrough m.limits m.body.nabc_lines m.body.macros at (held_score m) (t ++ chars f.spelled.now) given past (past_one runs.s past one)
+    pub through_all : StepsOver m.limits m.body.nabc_lines m.body.macros at (held_score m) (t ++ chars f.spelled.now) given past (after_one runs.s past one)
     through_all = grind (arith, given_is, through_both, through_one)
 
     eu_is : one.eu ≡ (past_found p f).spans.eu
@@ -130,8 +130,8 @@ module _ (m : ScoreMachine) (at : Place) (t : List ℕ) (given : List PlacedSyll
         runs.s.gathered (runs.held ∷ []) p.spans.eu p.spans.nlba runs.gathered
         ∙ ap₂ (λ a b. record m.pair.gathered { made = one ∷ []; total = (past_found p f).canonical; eu = a; nlba = b }) eu_is nlba_is
 
-    pub lent_is : (runs.s.has_lent || nat_lt 0 (length runs.s.gathered.made)) ≡ true
-    lent_is = ap (λ (g : Gathered). runs.s.has_lent || nat_lt 0 (length g.made)) runs.gathered ∙ or-true runs.s.has_lent
+    pub lent_is : (runs.s.is_preceded || nat_lt 0 (length runs.s.gathered.made)) ≡ true
+    lent_is = ap (λ (g : Gathered). runs.s.is_preceded || nat_lt 0 (length g.made)) runs.gathered ∙ or-true runs.s.is_preceded
 
     preceding_is : with_one p one ≡ past_found p f
     preceding_is =
@@ -149,9 +149,9 @@ module _ (m : ScoreMachine) (at : Place) (t : List ℕ) (given : List PlacedSyll
       spells = spelled_there f m.body.nabc_lines p.canonical m.limits found spans one makes.made begins;
       runs = record {
         held = one;
-        s = past_one runs.s past one;
+        s = after_one runs.s past one;
         earlier = given;
-        through = subst (λ (q : Place). GoesThrough m.limits m.body.nabc_lines m.body.macros at (held_score m) (t ++ chars f.spelled.now) given q (past_one runs.s past one)) past_is through_all;
+        through = subst (λ (q : Place). StepsOver m.limits m.body.nabc_lines m.body.macros at (held_score m) (t ++ chars f.spelled.now) given q (after_one runs.s past one)) past_is through_all;
         gathered = gathered_is;
         given_are = ap (λ b. given ++ record { made = one; position = position_by (not b || one.text.word_start) begins } ∷ []) (sym lent_is);
         before = before_is placed refl;
@@ -168,7 +168,7 @@ module _ (m : ScoreMachine) (at : Place) (t : List ℕ) (given : List PlacedSyll
       where
         few_given : length given ≤ length (t ++ chars f.spelled.now)
         few_given =
-            let l = length-append runs.earlier (record { made = runs.held; position = position_by (not runs.s.has_lent || runs.held.text.word_start) starts } ∷ []) in
+            let l = length-append runs.earlier (record { made = runs.held; position = position_by (not runs.s.is_preceded || runs.held.text.word_start) starts } ∷ []) in
             let n = length-append t (chars f.spelled.now) in
             let some = some_are f m.body.nabc_lines p.canonical m.limits found in
             omega (arith, ap (λ (ss : List PlacedSyllable). length ss) runs.given_are, l, n, runs.few, some)
@@ -184,7 +184,7 @@ module _ (m : ScoreMachine) (at : Place) (t : List ℕ) (given : List PlacedSyll
         record { line = omega (arith, e, few, line); column = omega (arith, e, few, column); bytes = (let n = bytes_encodes (spelled r) in omega (arith, n, e, line)) }
 
     -- what it makes
-    pub found_one : (one : UnplacedSyllable) × Makes m.body.nabc_lines m.body.macros next r spans one
+    pub found_one : (one : UnplacedSyllable) × ReadsAlike m.body.nabc_lines m.body.macros next r spans one
     found_one = law m.body.nabc_lines m.body.macros next r spans found.is.is_regular fits small
 
     pub goes_on : (begins : Bool) → GoesOnWith m at t given p f r begins

@@ -32,7 +32,7 @@ use Rattle.gabc_body.specs.witness.SyllableBuilder.{past_text as builder_past_te
 use Rattle.gabc_body.specs.witness.PartsByKept.{PartRead, InText, InNotes, fresh, emitted, part_after}
 use Rattle.gabc_body.specs.witness.TextsByKept.{is_end, view_past, Says, SaysEnd, TextGoes, GoesByKept, GoesIn, GoesBy}
 use Rattle.gabc_body.proofs.gathering.EventsOfOnePoint.{with_all_append}
-use Rattle.gabc_body.proofs.by_kept.ReadingStands.{fits_next, size_push, size_of_ascii, Stands, StandsAfter}
+use Rattle.gabc_body.proofs.by_kept.ReadingAgreesWithEvents.{fits_next, size_push, size_of_ascii, Stands, StandsAfter}
 use Rattle.gabc_body.proofs.by_kept.SnippetsAreGathered.{silent}
 use Rattle.gabc_body.proofs.by_kept.TextsAreGathered.{SpansStand, Grows, text_grows, texts_found}
 use Rattle.gabc_body.proofs.by_kept.TextsAreGathered as texts

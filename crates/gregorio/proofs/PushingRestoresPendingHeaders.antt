@@ -26,9 +26,9 @@ found_errors (f ∷ fs) = ap (λ (b : Bool). is_error_finding f || b) (found_err
 
 -- ---- after one input more
 
-past_one : (xs : List Char) (x : Char) (h : HeaderStageState) → stage_past h (inputs_of (xs ++ x ∷ [])) ≡ stage_after (stage_past h (inputs_of xs)) (Ok x)
-past_one [] x h = refl
-past_one (y ∷ xs) x h = past_one xs x (stage_after h (Ok y))
+after_one : (xs : List Char) (x : Char) (h : HeaderStageState) → stage_past h (inputs_of (xs ++ x ∷ [])) ≡ stage_after (stage_past h (inputs_of xs)) (Ok x)
+after_one [] x h = refl
+after_one (y ∷ xs) x h = after_one xs x (stage_after h (Ok y))
 
 text_past : (xs : List Char) (x : Char) → text_in (xs ++ x ∷ []) ≡ text_in xs ++ x.c ∷ []
 text_past [] x = refl
@@ -79,7 +79,7 @@ pushed_on law limits hasher t x old new error found scalar p is found_is =
       xs = p.xs ++ x ∷ [];
       text = text_past p.xs x ∙ ap (λ (cs : List ℕ). cs ++ x.c ∷ []) p.text;
       scalars = All-push IsScalar t x.c p.scalars scalar;
-      past = is ∙ (ap (λ (s : HeaderStageState). stage_after s (Ok x)) p.past ∙ sym (past_one p.xs x (fresh_stage limits hasher)));
+      past = is ∙ (ap (λ (s : HeaderStageState). stage_after s (Ok x)) p.past ∙ sym (after_one p.xs x (fresh_stage limits hasher)));
       holds = subst (λ (s : HeaderStageState). HoldsSo limits (t ++ x.c ∷ []) (error || found) s.progress) (sym is)
           (subst (λ (l : Limits). HoldsSo limits (t ++ x.c ∷ []) (error || found) (progress_after l old.progress (Ok x))) (sym at)
           (subst (λ (b : Bool). HoldsSo limits (t ++ x.c ∷ []) (error || b) (progress_after limits old.progress (Ok x)))

@@ -43,7 +43,7 @@ use Rattle.gabc_score.specs.machine.PartKeeps.{IsReading}
 use Rattle.gabc_score.specs.machine.PartMakes.{PartLaws, FollowEach, HoldUnits, PartMakes, characters_of}
 use Rattle.gabc_score.specs.machine.ScoreMachine.{IsScoreAt}
 use Rattle.gabc_score.specs.machine.ScoreStage.{placed_after, with_held}
-use Rattle.gabc_body.proofs.holding.SnippetsAreHeld.{bytes_are_size}
+use Rattle.gabc_body.proofs.holding.SnippetsLieInKeptText.{bytes_are_size}
 use Rattle.gabc_score.proofs.score_events.FewAndShortAreLent.{short_within}
 
 pub none_held : (lines : ℕ) (p : Preceding) (made : List UnplacedSyllable) → made ≡ [] → HoldUnits lines p made
@@ -57,19 +57,19 @@ follow_dropped zero first p ms h = h
 follow_dropped (suc k) first p [] h = tt
 follow_dropped (suc k) first p (m ∷ ms) h = follow_dropped k false (with_one p m) ms h.1
 
-pub units_past : (lines macros l : ℕ) (before : BodyPart) (p passed : Preceding) (spans : Spans) (has_lent : Bool) (was g turned : Gathered) (now : List BodyEvent) → length was.builder.kept < 2 ^ 64
-    → g ≡ with_all was now → turned ≡ with_held g → l ≡ lines → spans ≡ (with_each p was.made).spans → passed ≡ with_placed p (take (length g.made - 1) (placed_after has_lent g.made))
+pub units_past : (lines macros l : ℕ) (before : BodyPart) (p passed : Preceding) (spans : Spans) (is_preceded : Bool) (was g turned : Gathered) (now : List BodyEvent) → length was.builder.kept < 2 ^ 64
+    → g ≡ with_all was now → turned ≡ with_held g → l ≡ lines → spans ≡ (with_each p was.made).spans → passed ≡ with_placed p (take (length g.made - 1) (placed_after is_preceded g.made))
     → PartMakes lines macros before now → IsReading lines macros before spans was → HoldUnits lines p was.made → HoldUnits l passed turned.made
 unfolding PartMakes HoldUnits
-units_past lines macros l before p passed spans has_lent was g turned now fits is turn same after given makes r h = rw (turn, same, given) held
+units_past lines macros l before p passed spans is_preceded was g turned now fits is turn same after given makes r h = rw (turn, same, given) held
   where
     all : HoldUnits lines p g.made
     all = subst (λ (k : Gathered). HoldUnits lines p k.made) (sym is) (makes p was fits (subst (λ (k : Spans). IsReading lines macros before k was) after r) h)
 
-    held : HoldUnits lines (with_placed p (take (length g.made - 1) (placed_after has_lent g.made))) (with_held g).made
+    held : HoldUnits lines (with_placed p (take (length g.made - 1) (placed_after is_preceded g.made))) (with_held g).made
     held laws = record {
       units = All-drop (HoldsSomeUnit lines) (length g.made - 1) g.made (all laws).units;
-      follow = follow_dropped (length g.made - 1) (not has_lent) p g.made (all laws).follow;
+      follow = follow_dropped (length g.made - 1) (not is_preceded) p g.made (all laws).follow;
     }
 
 -- what holds of those that were made holds of the one that is held

@@ -44,10 +44,10 @@ use Rattle.gabc_body.specs.witness.Gatherer.{Gathered, with_event, awaits}
 use Rattle.gabc_body.specs.witness.SyllableBuilder.{OpenSyllable, past_snippet as builder_past_snippet}
 use Rattle.gabc_body.specs.witness.PartsByKept.{SnippetState, InText, InNotes, fresh, notes_step, nabc_step, step, past_notes, emitted, part_after}
 use Rattle.gabc_body.specs.witness.TextsByKept.{GoesByKept, TextsGoByKept}
-use Rattle.gabc_body.proofs.by_kept.ReadingStands.{fits_next, counts_fit, codes_placed, size_push, after_mark_is, Stands, StandsAfter, state_of}
+use Rattle.gabc_body.proofs.by_kept.ReadingAgreesWithEvents.{fits_next, counts_fit, codes_placed, size_push, after_mark_is, Stands, StandsAfter, state_of}
 use Rattle.gabc_body.proofs.by_kept.SnippetsAreGathered.{whole_is_front, scalars_front, scalars_push, count_notes, count_nabc, of_findings, of_notes, findings_pass, findings_stay, findings_found, ended_found, SnippetEnds, snippet_ends, Sounds, sounds, silent, unsounded}
 use Rattle.gabc_body.proofs.by_kept.TextsAreGathered.{open_front}
-use Rattle.gabc_body.proofs.by_kept.TextsStand.{found_only}
+use Rattle.gabc_body.proofs.by_kept.TextCharacterKeepsAgreement.{found_only}
 use Rattle.gabc_body.proofs.order.FindingsOfParts.{found}
 use Rattle.gabc_body.proofs.texts_of_body.SeamsOfCharacters.{size, size_append}
 

@@ -18,7 +18,7 @@ use Rattle.gabc_body.specs.declared.events.BodyEvent.TheVariants.{Text}
 use Rattle.gabc_body.specs.Events.{PartAhead, InText, InNotes, first_list, other_lists, events_in, texts_by_definition, text_from, snippet_from, next_line, after_mark}
 use Rattle.gabc_body.specs.Units.{Mark, Opens, Next, Closes, CutPart, EndedPart, BodyUnit, LastUnit, JustText, cut_part, whole, part_onward, events_through, mark_in, EndsAfter, snippets_with, units_pieces, last_characters, part_following, Cuts, events_of_cutting}
 use Rattle.gabc_body.proofs.texts_of_body.SeamsOfCharacters.{size, size_append}
-use Rattle.gabc_body.proofs.holding.SnippetsAreHeld.{bytes_are_size}
+use Rattle.gabc_body.proofs.holding.SnippetsLieInKeptText.{bytes_are_size}
 use Rattle.gabc_body.proofs.holding.SyllablesHoldParts.{fits_back}
 use Rattle.gabc_body.specs.SyllablesOfUnits.{characters_from}
 use Rattle.gabc_body.proofs.syllables_of_units.UnitsGiveSyllables.{units_whole}

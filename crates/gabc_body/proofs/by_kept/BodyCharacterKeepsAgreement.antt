@@ -17,10 +17,10 @@ use Rattle.gabc_body.specs.witness.Gatherer.{Gathered}
 use Rattle.gabc_body.specs.witness.SyllableBuilder.{OpenSyllable}
 use Rattle.gabc_body.specs.witness.PartsByKept.{PartRead, InComment, InText, InNotes, part_at, emitted, part_after}
 use Rattle.gabc_body.specs.witness.TextsByKept.{GoesByKept, GoesIn, TextsGoByKept}
-use Rattle.gabc_body.proofs.by_kept.ReadingStands.{Fits, fits_next, counts_fit, codes_placed, Stands, StandsAfter}
-use Rattle.gabc_body.proofs.by_kept.SnippetsStand.{snippet_step}
+use Rattle.gabc_body.proofs.by_kept.ReadingAgreesWithEvents.{Fits, fits_next, counts_fit, codes_placed, Stands, StandsAfter}
+use Rattle.gabc_body.proofs.by_kept.SnippetCharacterKeepsAgreement.{snippet_step}
 use Rattle.gabc_body.proofs.by_kept.TextsAreGathered.{SpansStand}
-use Rattle.gabc_body.proofs.by_kept.TextsStand.{text_step, found_only}
+use Rattle.gabc_body.proofs.by_kept.TextCharacterKeepsAgreement.{text_step, found_only}
 use Rattle.gabc_body.proofs.texts_of_body.SeamsOfCharacters.{size}
 
 -- ---- the comment before the body

@@ -29,10 +29,10 @@ use Rattle.gregorio.specs.witness.Engine.{Written}
 use Rattle.gregorio.specs.machine.Engine.{event_of_item}
 use Rattle.gregorio.specs.machine.InStep.{AreInOnePart, PassesAll, PassesOn, RunsInStep, StayInStep}
 use Rattle.gregorio.specs.machine.ScoreWriter.{ScoreWriterState}
-use Rattle.gregorio.specs.machine.TellsInStep.{BeginsBody, IsInHeads, IsTelling, StayTelling, TellsInBody, begun}
+use Rattle.gregorio.specs.machine.InSync.{BeginsBody, IsInHeads, IsTelling, StayTelling, TellsInBody, begun}
 use Rattle.gregorio.proofs.pieces.HeadersStayInStep.{HeadersEndAt, HeadersEndSo, stands_in_front}
 use Rattle.gregorio.proofs.pieces.PartsStayInStep.{in_body, same_next}
-use Rattle.gregorio.proofs.pieces.WrittenGoesOn.{running_before, went_on_past}
+use Rattle.gregorio.proofs.pieces.WriterKeepsPaceWithScore.{running_before, went_on_past}
 
 -- ---- lines
 

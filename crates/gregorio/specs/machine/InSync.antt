@@ -48,13 +48,13 @@ pub record TellsInBody (d : DecoderState) (s : ScoreStageState) : Type 0 where
   pub comment : is_after_cr d ≡ true → is_in_comment s.body.part ≡ false
 
 -- as long as no more bytes were taken than there may be
-pub record TellsInStep (d : DecoderState) (s : ScoreStageState) (w : Written) : Type 0 where
+pub record IsInSync (d : DecoderState) (s : ScoreStageState) (w : Written) : Type 0 where
   pub line : 1 ≤ d.place.line
   pub body : w.headed ≡ true → d.taken ≤ d.limit → TellsInBody d s
 
 -- while the engine runs
 abbrev pub IsTelling : DecoderState → ScoreWriterState → Type 0
-IsTelling d w = is_none w.writer.written.ended ≡ true → TellsInStep d w.score w.writer.written
+IsTelling d w = is_none w.writer.written.ended ≡ true → IsInSync d w.score w.writer.written
 
 -- At these items it goes on so, if the decoder moves on with them.
 abbrev pub StayTelling : HeaderStageState → ScoreWriterState → List (Result Char Fault) → ScoreWriterState → Type 0

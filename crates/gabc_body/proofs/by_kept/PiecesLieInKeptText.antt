@@ -18,7 +18,7 @@ use Rattle.gabc_text.specs.declared.text_event.TextEvent.TheVariants as out
 use Rattle.gabc_text.specs.declared.text_event.TextPart.{TextPart}
 use Rattle.gabc_text.specs.declared.text_event.TextPart.TheVariants as part
 use Rattle.gabc_body.specs.witness.TextsByKept.{PiecesStand}
-use Rattle.gabc_body.proofs.by_kept.ReadingStands.{codes_placed}
+use Rattle.gabc_body.proofs.by_kept.ReadingAgreesWithEvents.{codes_placed}
 use Rattle.gabc_body.proofs.texts_of_body.SeamsOfCharacters.{size, size_append}
 use Rattle.gabc_body.proofs.texts_of_body.BodyFits.{bytes_encodes}
 

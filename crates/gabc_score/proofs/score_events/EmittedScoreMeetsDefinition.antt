@@ -26,7 +26,7 @@ use Rattle.gabc_body.proofs.gathering.EventsOfOnePoint.{gathered_all, code_is}
 use Rattle.gabc_body.proofs.gathering.EventsOfOnePoint.{made_after}
 use Rattle.gabc_body.proofs.gathering.EndOfBody.{made_by_last, open_by_last, fault_is}
 use Rattle.gabc_body.proofs.gathering.FirstNotes.{SaysSame, same_gathered, same_code, says_with_first, findings_with_first}
-use Rattle.gabc_score.proofs.score_events.HeldSyllables.{without, MayGo, all_without, all_go, last_without, last_goes, code_without, but_last_goes, placed_rest, placed_now, held_then, given_then_is}
+use Rattle.gabc_score.proofs.score_events.GivenSyllablesCanBeDropped.{without, MayGo, all_without, all_go, last_without, last_goes, code_without, but_last_goes, placed_rest, placed_now, held_then, given_then_is}
 
 -- no fewer syllables are made later
 made_grows : (before now : List BodyEvent) → count_made before ≤ count_made (events_onto now before)
@@ -41,7 +41,7 @@ module _ (limits : Limits) (head : ℕ) (small : limits.syllable < 2 ^ 64 - 1) (
   holding at before = record {
     next = at;
     gathered = without (count_made before - 1) (gathered limits.syllable head before);
-    has_lent = nat_lt 1 (count_made before);
+    is_preceded = nat_lt 1 (count_made before);
   }
 
   -- it holds the same if the same was gathered
