@@ -1,5 +1,5 @@
 -- The text of joined contents, and of joined attributes.
-use Rattle.std.proofs.Common.{◌≡◌, ◌++◌, ◌∷◌, [], List, refl, ap, sym, ◌∙◌, append_assoc, append-nil, ℕ, arith}
+use Rattle.std.proofs.Common.{◌≡◌, ◌++◌, [], List, refl, append_assoc, append-nil, arith}
 use Rattle.std.proofs.lemmas.List.Concat.{flat_map-append}
 use Rattle.gabc_svg.specs.Xml.{Attribute, Content, Nothing, Characters, Element, Empty, and_then, written, written_attribute, written_attributes}
 

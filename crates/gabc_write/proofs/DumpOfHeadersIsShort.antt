@@ -3,7 +3,7 @@ use Rattle.std.proofs.Common.{◌≡◌, ℕ, ◌+◌, ◌*◌, ◌≤◌, List,
 use Rattle.std.proofs.lemmas.Str.{encodes-append}
 use Rattle.std.specs.List.{flat_map}
 use lib.Utf8.{encode, encodes}
-use Rattle.gabc_headers.specs.Canonical.{header_lines, canonical_heads, printed_value, wants_lines}
+use Rattle.gabc_headers.specs.Canonical.{header_lines, canonical_heads, printed_value}
 use Rattle.gabc_headers.specs.Canonical as canonical
 use Rattle.gabc_write.specs.DumpLines.{escaped_byte, escaped, line_of_header, dump_heads}
 

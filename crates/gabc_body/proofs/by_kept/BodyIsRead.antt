@@ -1,9 +1,6 @@
 -- What is read of a body by what is kept is what the definition says by what is emitted.
 use Rattle.std.proofs.Common.{◌≡◌, ℕ, ◌+◌, ◌<◌, ◌≤◌, ◌^◌, true, List, [], ◌∷◌, ◌++◌, map, length, encode_utf8_all, Option, Some, None, refl, sym, ap, subst, ◌∙◌, append-nil, arith}
-use Rattle.std.specs.List.{All}
-use Rattle.std.specs.Char.{IsScalar}
 use Rattle.std.proofs.lemmas.Bool.{and_parts}
-use Rattle.std.proofs.lemmas.List.Elements.{All-head, All-tail}
 use Rattle.std.proofs.lemmas.List.{take-append-drop}
 use lib.Utf8.{scalar, scalars}
 use Rattle.gabc_headers.specs.Book.{nabc_lines_of, macros_of}
@@ -30,7 +27,7 @@ use Rattle.gabc_body.specs.Body.{EventsToStop, events_onto, events_to_stop, stop
 use Rattle.gabc_body.specs.Body as today
 use Rattle.gabc_body.specs.Events.{texts_by_definition, events_at_end}
 use Rattle.gabc_body.specs.NoteBeforeClef.{first_of, found_first, with_first, with_first_each, score_events}
-use Rattle.gabc_body.specs.Reading.{BodyRead, begun, past, kept_bytes, code_now, stops_by, read_on, result_of, body_by}
+use Rattle.gabc_body.specs.Reading.{BodyRead, begun, past, code_now, stops_by, read_on, body_by}
 use Rattle.gabc_body.specs.Reading as read
 use Rattle.gabc_body.specs.Score.{heads_text, after_heads}
 use Rattle.gabc_body.specs.witness.EmittedScore.{emitted_body}

@@ -1,21 +1,19 @@
 -- What was read by what is kept stands to what was gathered of the events.
-use Rattle.std.proofs.Common.{◌≡◌, ℕ, ◌+◌, ◌<◌, ◌≤◌, ◌^◌, ◌&&◌, ◌==◌, Bool, true, false, cond, List, [], ◌∷◌, ◌++◌, length, encode_utf8_all, None, is_some, refl, sym, ap, ◌∙◌, append_assoc, length-append, arith}
-use Rattle.std.specs.Char.{len_utf8}
+use Rattle.std.proofs.Common.{◌≡◌, ℕ, ◌+◌, ◌<◌, ◌≤◌, ◌^◌, ◌&&◌, ◌==◌, Bool, true, false, cond, List, [], ◌∷◌, ◌++◌, length, encode_utf8_all, None, is_some, refl, sym, ap, ◌∙◌, append_assoc, arith}
 use Rattle.std.proofs.lemmas.Bool.{and_parts}
-use Rattle.std.proofs.lemmas.Str.{length-encode, len_utf8_bounds, len_utf8_ascii}
-use lib.Utf8.{encode, scalar, scalars}
+use Rattle.std.proofs.lemmas.Str.{len_utf8_bounds, len_utf8_ascii}
+use lib.Utf8.{scalar, scalars}
 use Rattle.gabc_places.specs.Place.{is_line_feed, next_place, place_past, placed_characters_from}
 use Rattle.gabc_places.specs.declared.code.Finding.{Finding}
 use Rattle.gabc_places.specs.declared.place.Place.{Place}
 use Rattle.gabc_text.specs.Events.{CountsFit, codes_of}
 use Rattle.gabc_text.specs.KeptText.{view_of_kept}
-use Rattle.gabc_text.specs.View.{bytes_of}
 use Rattle.gabc_text.specs.declared.text_event.TextEvent.{TextEvent}
 use Rattle.gabc_notes.specs.KeptNotes.{in_raw}
 use Rattle.gabc_body.specs.declared.events.BodyEvent.{BodyEvent}
 use Rattle.gabc_body.specs.Events.{after_mark}
 use Rattle.gabc_body.specs.NoteBeforeClef.{found_first}
-use Rattle.gabc_body.specs.Reading.{Part, Reading, BodyRead, at_start}
+use Rattle.gabc_body.specs.Reading.{Reading, BodyRead, at_start}
 use Rattle.gabc_body.specs.Reading as read
 use Rattle.gabc_body.specs.witness.BodyBuilder.{with_all}
 use Rattle.gabc_body.specs.witness.Gatherer.{Gathered}

@@ -36,7 +36,7 @@ use Rattle.gabc_body.specs.declared.events.BodyEvent.TheVariants.{Notes}
 use Rattle.gabc_body.specs.declared.snippets.Snippet.{Snippet}
 use Rattle.gabc_body.specs.Events.{next_line, after_mark, texts_by_definition}
 use Rattle.gabc_body.specs.NoteBeforeClef.{found_first}
-use Rattle.gabc_body.specs.Reading.{Part, Reading, BodyRead, no_place, at_start, found_within, found_at, sound_codes, whole_of, with_found, with_fate, with_syllable, with_snippet_ended, past_snippet, past}
+use Rattle.gabc_body.specs.Reading.{Part, Reading, BodyRead, no_place, at_start, found_within, found_at, sound_codes, whole_of, with_found, with_fate, with_syllable, past_snippet, past}
 use Rattle.gabc_body.specs.Reading as read
 use Rattle.gabc_body.specs.SpansPast.{open_past}
 use Rattle.gabc_body.specs.Syllable.{UnplacedSyllable, snippet_at}

@@ -3,7 +3,7 @@ use Rattle.std.proofs.Common.{◌≡◌, ℕ, ◌+◌, ◌<◌, ◌^◌, ◌&&�
 use Rattle.std.specs.Option.{option_map_or}
 use Rattle.std.proofs.lemmas.List.{take-append-drop}
 use Rattle.std.proofs.lemmas.Str.{encodes-append, chars-encodes}
-use lib.Utf8.{encode, encodes, scalar, scalars}
+use lib.Utf8.{scalar, scalars}
 use Rattle.gabc_places.specs.declared.code.Finding.{Finding}
 use Rattle.gabc_places.specs.declared.place.Place.{Place}
 use Rattle.gabc_patterns.specs.Reads.{longest, is_read, items_by, whole_front}

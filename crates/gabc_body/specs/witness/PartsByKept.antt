@@ -9,7 +9,7 @@ use Rattle.gabc_text.specs.declared.text_event.TextEvent.{TextEvent}
 use Rattle.gabc_notes.specs.declared.stage.NoteEvent.{NoteEvent}
 use Rattle.gabc_body.specs.declared.events.BodyEvent.{BodyEvent}
 use Rattle.gabc_body.specs.declared.events.BodyEvent.TheVariants.{Text}
-use Rattle.gabc_body.specs.Events.{PartAhead, is_text_end, note_event, first_list, other_lists, Texts, text_from, next_line, after_mark}
+use Rattle.gabc_body.specs.Events.{PartAhead, is_text_end, note_event, first_list, other_lists, Texts, next_line, after_mark}
 use Rattle.gabc_body.specs.Events as emitting
 use Rattle.gabc_notes.specs.KeptNotes.{fate_in_notes}
 use Rattle.gabc_nabc.specs.KeptNabc.{fate_in_nabc}

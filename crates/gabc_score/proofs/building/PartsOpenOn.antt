@@ -19,7 +19,7 @@ use Rattle.gabc_score.proofs.building.PartsOfKeptText.{text_goes_on}
 use Rattle.gabc_body.specs.declared.events.BodyEvent.{BodyEvent}
 use Rattle.gabc_text.proofs.resuming.StagesKeep.{fresh_keeps}
 use Rattle.gabc_text.proofs.resuming.EndedAndFreshStagesHaveNothingOpen.{opener_fresh}
-use Rattle.gabc_score.specs.machine.PartSteps.{PartSteps, SnippetSteps}
+use Rattle.gabc_score.specs.machine.PartSteps.{PartSteps}
 use Rattle.gabc_score.specs.machine.PartSteps as step
 
 -- what is open stays

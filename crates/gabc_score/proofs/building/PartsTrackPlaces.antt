@@ -16,7 +16,7 @@ use Rattle.gabc_score.proofs.building.SnippetsTakeCharacters.{close_mark, stays_
 use Rattle.gabc_score.proofs.building.PartsOfKeptText.{text_goes_on}
 use Rattle.gabc_body.specs.declared.events.BodyEvent.{BodyEvent}
 use Rattle.gabc_text.proofs.resuming.StagesKeep.{fresh_keeps}
-use Rattle.gabc_score.specs.machine.PartSteps.{PartSteps, SnippetSteps, Begins}
+use Rattle.gabc_score.specs.machine.PartSteps.{PartSteps, Begins}
 use Rattle.gabc_score.specs.machine.PartSteps as step
 
 -- a part that reads a snippet counts no place

@@ -1,5 +1,5 @@
 -- What is collected of a machine over a body is what the body says.
-use Rattle.std.proofs.Common.{◌≡◌, ℕ, ◌+◌, ◌-◌, ◌<◌, ◌^◌, List, [], ◌∷◌, ◌++◌, length, None, sym, ap, ◌∙◌, arith, append-nil}
+use Rattle.std.proofs.Common.{◌≡◌, ℕ, ◌+◌, ◌-◌, ◌<◌, ◌^◌, List, [], ◌∷◌, ◌++◌, length, None, ap, ◌∙◌, arith, append-nil}
 use Rattle.gabc_places.specs.StageLaw.{concat_of}
 use Rattle.gabc_places.specs.Place.{next_place, is_line_feed, place_past, placed_characters_from}
 use Rattle.gabc_places.specs.declared.code.Finding.{Finding}

@@ -1,5 +1,5 @@
 -- What a taker takes of a run is said by the body.
-use Rattle.std.proofs.Common.{◌≡◌, ◌+◌, ◌≤◌, ℕ, Option, List, [], ◌∷◌, ◌++◌, map, length, refl, sym, ap, ◌∙◌, append_assoc, arith}
+use Rattle.std.proofs.Common.{◌≡◌, ◌+◌, ℕ, Option, List, [], ◌∷◌, ◌++◌, map, refl, sym, ap, ◌∙◌, append_assoc, arith}
 use Rattle.std.proofs.lemmas.List.{length-append, map-append}
 use Rattle.std.proofs.lemmas.Str.{chars-append}
 use Rattle.std.specs.Str.{IsUtf8, chars}
@@ -15,7 +15,7 @@ use Rattle.gabc_headers.specs.declared.head_event.HeadEvent.{HeadEvent}
 use Rattle.gabc_headers.specs.declared.head_event.HeadEvent.TheVariants as head_event
 use Rattle.gabc_body.specs.declared.body_result.BodyResult.{BodyResult}
 use Rattle.gabc_body.specs.declared.ending.InputEnding.{InputEnding}
-use Rattle.gabc_body.specs.ScoreEvents.{ScoreOutput, Syllable, ending_events, findings_in, syllables_in, fault_in}
+use Rattle.gabc_body.specs.ScoreEvents.{ScoreOutput, Syllable, findings_in, syllables_in, fault_in}
 use Rattle.gabc_body.specs.Syllable.{PlacedSyllable}
 use Rattle.gabc_score.specs.GivesSyllables.{Runs}
 use Rattle.gabc_score.specs.witness.ScoreStage.{ScoreStageState, left_of}

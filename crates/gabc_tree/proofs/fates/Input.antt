@@ -15,7 +15,7 @@ use Rattle.gabc_body.specs.Reading.{BodyRead, past}
 use Rattle.gabc_body.specs.Reading as read
 use Rattle.gabc_body.specs.declared.ending.InputEnding.{InputEnding}
 use Rattle.gabc_tree.specs.Fates.{out_by_reading, reached_after}
-use Rattle.gabc_tree.specs.NotKept.{Reached, start, from_here, out_in_body, is_silent, past_shown}
+use Rattle.gabc_tree.specs.NotKept.{Reached, start, from_here, out_in_body, past_shown}
 use Rattle.gabc_tree.specs.NotKept as beside
 use Rattle.gabc_tree.proofs.fates.Coming.{makes_last}
 use Rattle.gabc_tree.proofs.fates.FoundLater.{before_next, from_later}

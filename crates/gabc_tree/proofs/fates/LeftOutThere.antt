@@ -11,7 +11,7 @@ use Rattle.gabc_body.specs.ReadAlone.{read_of}
 use Rattle.gabc_body.specs.Reading.{BodyRead, past, code_now}
 use Rattle.gabc_body.specs.declared.ending.InputEnding.{InputEnding}
 use Rattle.gabc_tree.specs.Fates.{fate_at, reached_after, is_error}
-use Rattle.gabc_tree.specs.NotKept.{Reached, start, is_silent, out_of}
+use Rattle.gabc_tree.specs.NotKept.{Reached, is_silent}
 use Rattle.gabc_tree.specs.NotKept as beside
 use Rattle.gabc_tree.proofs.fates.Coming.{is_whole}
 use Rattle.gabc_tree.proofs.fates.FoundLater.{end_finds, now_of, found_later}

@@ -37,7 +37,7 @@ use Rattle.gabc_nodes.specs.declared.kind.Kind.TheVariants as kind
 use Rattle.gabc_tree.specs.CodeNumber.{number_of_code}
 use Rattle.gabc_tree.specs.Fates.{fate_at, kept_at_end, is_cut, out_by_fate, out_by_reading, is_error, IsLeftOutThere, AreLeftOutThere, reached_after, read_first, IsWhatIsRead, AllAreFound}
 use Rattle.gabc_tree.specs.HeaderNodes.{head_end_by}
-use Rattle.gabc_tree.specs.NotKept.{Reached, begun, start, leaves_out, from_here, is_silent, out_of, out_by, out_in_body, but_first}
+use Rattle.gabc_tree.specs.NotKept.{Reached, begun, start, from_here, is_silent, out_of, out_by, out_in_body, but_first}
 use Rattle.gabc_tree.specs.NotKept as beside
 use Rattle.gabc_tree.specs.Tree.{ending_by, characters_before, kept_characters}
 use Rattle.gabc_tree.proofs.fates.OfHeaders.{heads_are, count_is}

@@ -1,5 +1,5 @@
 -- What the parts of a run do to its source and its sinks.
-use Rattle.std.specs.Prelude.{◌≡◌, ℕ, ◌+◌, ◌<◌, ◌≤◌, List, [], ◌++◌, length, take, ◌⊎◌}
+use Rattle.std.specs.Prelude.{◌≡◌, ℕ, ◌+◌, ◌≤◌, List, [], ◌++◌, length, take, ◌⊎◌}
 use Rattle.std.specs.Io.KnownBytes.{Appends, Consumes}
 use Rattle.gabc_places.specs.Calls.{GoesOn, NoneLate}
 use Rattle.gabc_places.specs.declared.limits.Limits.{Limits}

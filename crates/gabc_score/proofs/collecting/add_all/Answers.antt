@@ -1,5 +1,4 @@
 use Rattle.std.proofs.Common.{◌+◌, take, take_all, refl, sym, ap, subst, ◌∙◌, arith}
-use Rattle.gabc_body.specs.declared.body_result.BodyResult.{BodyResult}
 use Rattle.gabc_score.specs.machine.Collected.{IsSaid, result_past_all}
 use Rattle.gabc_score.proofs.score_events.OutputsAreCollected.{collected, past_more}
 use Rattle.gabc_score.proofs.collecting.add_all.Goals as goal

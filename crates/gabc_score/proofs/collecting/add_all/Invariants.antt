@@ -1,4 +1,4 @@
-use Rattle.std.proofs.Common.{◌≡◌, take}
+use Rattle.std.proofs.Common.{take}
 use Rattle.gabc_body.specs.declared.body_result.BodyResult.{BodyResult}
 use Rattle.gabc_score.specs.machine.Collected.{IsSaid, result_past_all}
 use Rattle.gabc_score.proofs.collecting.add_all.Given as goal

@@ -1,4 +1,4 @@
-use Rattle.std.proofs.Common.{◌≡◌, ◌≤◌, [], length, refl, sym, ap, subst, ◌∙◌, append-nil, arith}
+use Rattle.std.proofs.Common.{◌≤◌, [], length, refl, sym, ap, subst, ◌∙◌, append-nil, arith}
 use Rattle.gabc_body.specs.ScoreEvents.{outputs_of}
 use Rattle.gabc_body.specs.witness.Gatherer.{Gathered}
 use Rattle.gabc_score.specs.ScoreStage.{Lends}
