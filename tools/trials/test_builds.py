@@ -23,7 +23,7 @@ CHECKS = [
     "try_wrong_bodies --check",
     "check_code ",
 ]
-PROVED = ["lib low", "check call_rows", "run call_rows", "check vectors", "run vectors"]
+PROVED = ["lib low", "run call_rows", "run vectors"]
 STEPS = "".join(
     f"quick_test: proving {at} of 3: {crate}\n"
     for at, crate in enumerate(("low", "call_rows", "vectors"), 1)
