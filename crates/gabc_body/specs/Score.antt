@@ -22,7 +22,7 @@ heads_text t = take (head_len t + 2) t
 abbrev pub after_heads : List ℕ → List ℕ
 after_heads t = drop (head_len t + 2) t
 
--- the body of a text with these headers, which ended so
+-- the body of a text with these headers and this ending
 abbrev pub body_in : Limits → InputEnding → List ℕ → Heads → BodyResult
 body_in limits ending t heads =
     body_by limits (bytes_len (canonical_heads heads.book)) (nabc_lines_of heads.book) (macros_of heads.book) heads.findings (place_after t) ending
