@@ -45,7 +45,7 @@ pub record AreCut (IsPoint : List ℕ → List ℕ → Type 0) (out messages : U
 abbrev pub NoneOrAll : List ℕ → List ℕ → List ℕ → List ℕ → Type 0
 NoneOrAll output lines o l = ((o ≡ []) × (l ≡ [])) ⊎ ((o ≡ output) × (l ≡ lines))
 
--- At some point of these bytes an engine has written this, and nothing waits in it.
+-- At some point of these bytes an engine has written this, and is prompt.
 pub record Knows (old : EngineState) (bytes : List ℕ) (ending : SourceEnding) (output lines : List ℕ) : Type 0 where
   pub front : List ℕ
   pub at : SourceEnding
@@ -58,7 +58,7 @@ pub record Knows (old : EngineState) (bytes : List ℕ) (ending : SourceEnding) 
 abbrev pub StreamsAreCut : Use → Use → EngineState → SourceEnding → List ℕ → Type 0
 StreamsAreCut out messages old ending bytes = AreCut (Knows old bytes ending) out messages (streams_left old ending bytes).output (streams_left old ending bytes).messages
 
--- Nothing waits in the engine `new`, and it writes in the same format as `old`.
+-- The engine `new` is prompt, and writes in the same format as `old`.
 pub record IsPromptAs (old new : EngineState) : Type 0 where
   pub format : new.written.format ≡ old.written.format
   pub prompt : IsPrompt old.written.format (streams_left new Broken [])

@@ -15,7 +15,7 @@ pub record AreFieldsIn (phase : PhaseFields) (s : StateFields) : Type 0 where
   pub phase_is : s.phase ≡ phase
 
 -- A stage over a score, under the limits of the state, reports what the fields of its score say, at
--- the place of the state, and some text makes a stage report this.
+-- the place of the state, and its report is that of a text.
 pub record IsSetDown (s : StateFields) (f : ScoreFields) (stage : ScoreStageState) : Type 0 where
   pub limits_are : ReportsLimits s stage.limits
   pub body : stage.part ≡ Body
