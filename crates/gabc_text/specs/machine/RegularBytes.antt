@@ -48,7 +48,7 @@ abbrev pub last_styles : List Style → List PieceFacts → List Style
 last_styles old [] = old
 last_styles old (p ∷ ps) = last_styles p.styles ps
 
--- no style is common to both, so that none stays open between them
+-- the two lists have no common prefix: no style stays open between them
 abbrev pub AreApart : List Style → List Style → Type 0
 AreApart old new = after_common old new ≡ (old, new)
 

@@ -25,7 +25,7 @@ first_mark n l = if has_mark n l then Some (length (before_mark n l)) else None
 abbrev pub first_colon : List ℕ → Option ℕ
 first_colon l = if has_colon l then Some (length (before_colon l)) else None
 
--- the value of the header ends at that byte of the text
+-- the value of the header may end at byte `mark` of the text
 pub record IsHeaderWithin (text : List ℕ) (header : Header) (mark : ℕ) : Type 0 where
   pub value : header.value ≤ mark
   pub marked : mark ≤ length text
