@@ -73,7 +73,7 @@ begun = record { made = []; eu = false; nlba = false; sounded = false; found = [
 abbrev pub kept_bytes : Reading → List ℕ
 kept_bytes r = encode_utf8_all (r.before ++ r.kept)
 
--- ---- what is found
+-- ---- the findings
 
 -- a macro is found at its bracket, all else of notes at the character
 abbrev pub place_by : Code → Place → Place → Place

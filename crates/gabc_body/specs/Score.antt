@@ -31,8 +31,8 @@ body_in limits ending t heads =
 abbrev pub with_body : Heads → BodyResult → Score
 with_body heads body = record { book = Some heads.book; syllables = body.syllables; findings = body.findings; fault = body.fault }
 
--- A fault of the headers that has the end as its point gives way to the way in which the text
--- ended.
+-- A fault of the headers whose point is the end counts only if the text ended whole; else the fault
+-- of the ending does, if there is one.
 abbrev pub head_fault_by : InputEnding → Bool → Fault → Option Fault
 head_fault_by ending false fault = Some fault
 head_fault_by Whole true fault = Some fault

@@ -135,7 +135,7 @@ on_at None k = None
 abbrev pub next_state : DescriptorState → NabcClass → Option DescriptorState
 next_state s k = option_or (going_on s k) (on_at (falling_back s) k)
 
--- what was read is an NABC snippet
+-- the text read so far is an NABC snippet
 abbrev pub whole_at : DescriptorState → Bool
 whole_at Start = true
 whole_at Glyph = true

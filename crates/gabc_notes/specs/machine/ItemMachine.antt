@@ -188,7 +188,7 @@ kind_at_end CapitalZ = Some BreakK
 kind_at_end At = Some FusionK
 kind_at_end _ = None
 
--- what was read is a snippet
+-- the text read so far is a snippet
 abbrev pub whole_at : ItemState → Bool
 whole_at Dash = false
 whole_at Raw = false
@@ -205,7 +205,7 @@ attribute_state (Done Attribute) = true
 attribute_state _ = false
 
 -- The character, of one byte and no mark, brings the reading from a state outside raw to another,
--- at which what was read is a snippet.
+-- at which the text read so far is a snippet.
 pub record IsShortStep (s : ItemState) (c : ℕ) (next : ItemState) : Type 0 where
   pub step : next_state s (class_of_character c) ≡ Some next
   pub outside : raw_state s ≡ false

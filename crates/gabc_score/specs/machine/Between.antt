@@ -84,7 +84,7 @@ pub record IsAloneWith (limits : Limits) (g : Gathered) (lists : List (List Body
   pub alone : is_alone limits g lists ≡ true
   pub gathered : with_all g (concat_of lists) ≡ with_one g m
 
--- ---- what a regular syllable makes
+-- ---- the syllable that a regular one is read as
 
 -- The syllable `m` keeps the spelling of `r`, with one blank for those before its text. Without
 -- them the spelling is its canonical text, and `m` has the text and the snippets of `r`, each in

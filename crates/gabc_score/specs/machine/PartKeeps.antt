@@ -1,5 +1,5 @@
 -- The kept text of the current syllable, cut into parts. The part of the body keeps the last of
--- them, and the state gathered is what they all say.
+-- them, and the state gathered is that of the events of all.
 use Rattle.std.specs.Prelude.{◌≡◌, ◌≢◌, ◌<◌, ◌^◌, ℕ, zero, suc, nat_lt, List, [], ◌∷◌, ◌++◌, map, length, true, cond, None, encode_utf8_all}
 use Rattle.std.specs.List.{flat_map}
 use Rattle.gabc_places.specs.Place.{saturating_next_place}
@@ -56,7 +56,7 @@ abbrev pub line_after : ℕ → ℕ → List (List ℕ) → ℕ
 line_after lines line [] = line
 line_after lines line (s ∷ earlier) = line_after lines (next_line lines line) earlier
 
--- ---- what the parts say
+-- ---- the events of the parts
 
 -- the events of a snippet, and of one that has ended at its `|`
 abbrev pub snippet_events : ℕ → List ℕ → List BodyEvent
@@ -77,7 +77,7 @@ abbrev pub said_by : ℕ → KeptParts → List BodyEvent
 said_by lines (in_text k) = text_events (text.said_of k)
 said_by lines (in_notes t earlier k) = events_before lines t earlier ++ snippet_events (line_after lines 0 earlier) k
 
--- ---- what keeps them
+-- ---- the part that keeps them
 
 -- A text that a stage kept has ended at its `(`.
 pub record IsEndedText (t : List ℕ) : Type 0 where
@@ -133,7 +133,7 @@ pub record ReadAlike (g h : Gathered) : Type 0 where
   pub nlba : g.nlba ≡ h.nlba
 
 -- A part keeps the last part of the kept text of the current syllable, before which `spans` are
--- open, and `g` has gathered what all its parts say.
+-- open, and `g` has gathered the events of all its parts.
 pub record IsReading (lines macros : ℕ) (part : BodyPart) (spans : Spans) (g : Gathered) : Type 0 where
   pub parts : KeptParts
   pub keeps : PartKeeps lines macros part parts

@@ -24,7 +24,7 @@ use Rattle.gabc_score.specs.machine.PartKeeps.{IsEndedText, IsReading}
 abbrev pub characters_of : List ℕ → List Char
 characters_of t = placed_characters_from (record { line = 0; column = 0 }) t
 
--- Laws of texts and snippets: a text that has ended was said in full, the spans of a view stand for
+-- Laws of texts and snippets: a text that has ended was read in full, the spans of a view stand for
 -- it, and a snippet that is whole is kept again.
 pub record PartLaws : Type 0 where
   pub said : (t : List ℕ) → IsEndedText t → length (encode_utf8_all (t ++ 40 ∷ [])) < 2 ^ 64 → IsSaidInFull t []

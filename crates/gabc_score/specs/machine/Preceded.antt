@@ -36,8 +36,9 @@ after_headers head = record { before = no_syllable head; after = no_syllable hea
 abbrev pub EndsBefore : ℕ → Snippet → Type 0
 EndsBefore n s = s.span.to < n
 
--- The state gathered counts what `before` does with the syllables made and not emitted. A note or a
--- clef has come in these, or in the snippets of the current syllable that have ended.
+-- The totals of the state gathered are those of `before` with the syllables made and not emitted.
+-- Whether a note or a clef has come is by these, and by the snippets of the current syllable that
+-- have ended.
 pub record IsPreceded (before : Preceding) (g : Gathered) : Type 0 where
   pub follows : g.follows ≡ nat_lt 0 (with_each before g.made).syllables
   pub total : g.total ≡ (with_each before g.made).canonical

@@ -57,8 +57,8 @@ pub record NoneIsWhole (before : Preceding) (g : Gathered) : Type 0 where
   pub none_made : g.made ≡ []
 
 -- In the body the counts hold, no limit is passed, the kept text is within its limit, the state
--- gathered is what its parts say, and the pending syllable holds a unit, whose spans follow from
--- those before it. In front of the first text no syllable is whole.
+-- gathered is that of the events of its parts, and the pending syllable holds a unit, whose spans
+-- follow from those before it. In front of the first text no syllable is whole.
 pub record IsInBody (m : ScoreMachine) : Type 0 where
   pub rests : IsAtRest m
   pub counts : CountsHold m.body.part m.pair.gathered.builder
@@ -71,7 +71,7 @@ pub record IsInBody (m : ScoreMachine) : Type 0 where
   pub within : HoldsWithin m.limits m.bounds.before m.pair.gathered
   pub front : is_in_front m.body.part ≡ true → NoneIsWhole m.bounds.before m.pair.gathered
 
--- the memory stays reserved: for what is found with one input, and for syllables within the limit
+-- the memory stays reserved: for the findings of one input, and for syllables within the limit
 pub record KeepsMemory (m : ScoreMachine) : Type 0 where
   pub room : 9 ≤ m.found.limit
   pub limit : m.pair.gathered.limit ≡ m.limits.syllable

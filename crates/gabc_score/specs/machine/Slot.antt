@@ -47,7 +47,7 @@ pub record IsReserved (limit : ℕ) (s : Syllable) : Type 0 where
   pub pieces : room_for limit ≤ s.text.pieces.capacity
   pub snippets : room_for limit ≤ s.snippets.capacity
 
--- ---- what fits into the room
+-- ---- room for events
 
 abbrev pub FitsKept : ℕ → OpenSyllable → ℕ → Type 0
 FitsKept limit o n = length o.kept + n ≤ room_for limit

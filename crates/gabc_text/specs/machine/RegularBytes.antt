@@ -127,7 +127,8 @@ abbrev pub is_style : Option Style → Style → Bool
 is_style None s = false
 is_style (Some r) s = is_same r s
 
--- the bytes of some pieces, all in this style, if in one, and none a span mark
+-- the bytes of some pieces, the first and the last in this style, or in none; the last is no blank,
+-- and none is a span mark
 pub record IsPart (style : Option Style) (bytes : List ℕ) : Type 0 where
   pub pieces : List PieceFacts
   pub spells : IsSpelled (text_of_tokens (print_from None 0 [] pieces)) bytes
@@ -148,11 +149,11 @@ mark_length (Some mark) = length (tag_of mark)
 abbrev pub nothing_before : Before
 nothing_before = record { style = None; word = false; centre = false }
 
--- what is known of a text with a part after it
+-- the facts about a text with a part after it
 abbrev pub through : Before → Part → Before
 through b p = record { style = p.style; word = true; centre = b.centre }
 
--- the bytes of a regular text that has no translation, of which this is known; this span mark, if
+-- the bytes of a regular text without a translation, with these facts; this span mark, if there is
 -- one, is the only one in it
 pub record IsBegun (mark : Option SpanMark) (before : Before) (bytes : List ℕ) : Type 0 where
   pub pieces : List PieceFacts

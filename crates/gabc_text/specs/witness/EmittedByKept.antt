@@ -38,7 +38,7 @@ pub record TextState : Type 0 where
 abbrev pub before_it : TextState → List Token
 before_it s = reverse (tokens s.kept)
 
--- a character that is part of nothing before it may open something
+-- the place of the opener with a character: its own, if it belongs to nothing before it
 abbrev pub inner_with : TextState → Char → Place
 inner_with s x = cond (belongs (before_it s) x.c) s.inner x.place
 

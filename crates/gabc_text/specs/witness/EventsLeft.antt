@@ -77,7 +77,7 @@ parts_by facts progress k last to None =
     (cond (is_whole_translation k && not facts.translated) (part.Translation (record { from = count_plus progress.start 1; to = last }) ∷ [])
     [])
 
--- the findings where the token ends
+-- the codes of the findings at the end of the token
 abbrev pub codes_by : TextFacts → TokenKind → TagEffect → List Code
 codes_by facts k so = late_codes_by (has_style facts.styles) facts.begun facts.ended k so
 
@@ -167,7 +167,8 @@ module _ (read : List ℕ) (s : TextStage) where
   abbrev pub bytes_at : List Token → ℕ
   bytes_at before = bytes_past s.progress.kept (kept_since before)
 
-  -- a token begins where the one before it ends; the first where the state says
+  -- the place of the token: the end of the one before it; of the first token, the place in the
+  -- state
   abbrev pub place_at : List Token → Place
   place_at [] = s.progress.place
   place_at (k ∷ before) = next_at (k ∷ before)

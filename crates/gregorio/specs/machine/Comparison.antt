@@ -2,7 +2,7 @@
 use Rattle.std.proofs.Common.{◌≡◌, ◌==◌, ℕ, List, [], ◌∷◌, ◌++◌, Bool, true, false, Option, Some, None, refl}
 use Rattle.std.specs.Prelude.{if◌then◌else◌}
 
--- what is left of a text after these bytes, if it begins with them
+-- the rest of a text after these bytes, if it begins with them
 abbrev pub left_past : List ℕ → List ℕ → Option (List ℕ)
 left_past [] text = Some text
 left_past (b ∷ bytes) [] = None

@@ -80,8 +80,8 @@ pub record IsFedFrom (source out messages : Use) (old new : EngineState) (count 
   pub goes_on : GoesOn source.calls_old source.calls_new
   pub fed : IsFed out messages old new bytes
 
--- A source was read up to the limit or its end, and an engine took its bytes. The source ended so,
--- and no call of it was late.
+-- A source was read as far as the limit allows, and ended so. No call of it was late, and an engine
+-- took its bytes.
 pub record IsFedAll (limit : ℕ) (source out messages : Use) (old new : EngineState) (ending : SourceEnding) : Type 0 where
   pub bytes : List ℕ
   pub reads : ReadsSource source.old source.new source.calls_old source.calls_new limit bytes ending

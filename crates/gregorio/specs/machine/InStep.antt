@@ -45,7 +45,7 @@ pub record PassesOn (old : ScoreStageState) (w : Written) (x : HeadEvent) (new :
   pub in_heads : old.part ≡ score_part.Heads → outputs ≡ given_in_heads x
   pub tells : TellsOn old x new.score
 
--- what is written after the headers, if they are at this event
+-- the state of what is written after this event, whose headers are written if it has them
 abbrev pub written_at : Written → HeadEvent → Written
 written_at w x = after_heads w (writes_heads w x)
 

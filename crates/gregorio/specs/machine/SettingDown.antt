@@ -13,7 +13,7 @@ use Rattle.gregorio_state.specs.Fields.{ScoreFields}
 use Rattle.gregorio.specs.Saved.{held_count, held_text}
 use Rattle.gregorio.specs.SavedState.{before_held}
 
--- the places of what is open
+-- the places of the openers
 abbrev pub openers_reported : ScoreFields → Openers
 openers_reported f = record { notes = f.notes_opener; inner = f.inner_opener }
 

@@ -128,7 +128,7 @@ abbrev pub is_heads : HeadEvent → Bool
 is_heads (head_event.Heads lines macros canonical) = true
 is_heads _ = false
 
--- the headers are not written yet, and the run goes on
+-- the headers are not written yet, and the run is not over
 abbrev pub is_before_heads : Written → Bool
 is_before_heads w = not (w.headed || is_some w.ended)
 
