@@ -192,7 +192,8 @@ abbrev pub stops_by : Option Code → Place → BodyRead → BodyRead × Option 
 stops_by (Some code) here b later = (b, Some (fault_at here code))
 stops_by None here b later = later
 
--- The body read past the characters before the first at which a limit is passed.
+-- The body read past the characters before the first at which a limit is passed, and the fault of
+-- this limit.
 abbrev pub read_on : Limits → ℕ → ℕ → ℕ → BodyRead → List Char → BodyRead × Option Fault
 read_on limits head lines macros b [] = (b, None)
 read_on limits head lines macros b (x ∷ xs) =

@@ -15,7 +15,8 @@ AreWritten limit first [] = Unit {0}
 AreWritten limit first (m ∷ ms) = (length (canonical (first || m.text.word_start) m) ≤ limit) × AreWritten limit false ms
 
 -- so are those of the syllables not emitted, after the totals `before`; the canonical file is
--- within the limit of an input
+-- within the limit of an input; before the first syllable no span is open and no note or clef has
+-- come
 pub record HoldsWithin (limits : Limits) (before : Preceding) (g : Gathered) : Type 0 where
   pub written : AreWritten limits.syllable (before.syllables == 0) g.made
   pub file : is_none g.made ≡ false → g.total < limits.input

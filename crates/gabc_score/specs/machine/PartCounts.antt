@@ -13,7 +13,8 @@ use Rattle.gabc_body.specs.witness.SyllableBuilder.{OpenSyllable, nothing_open}
 abbrev pub CountsInNotes : OpenSyllable → Type 0
 CountsInNotes o = (length o.snippets ≤ o.from) × (o.from ≤ length o.kept)
 
--- in a text there are no more pieces, with those that it owes, than bytes are kept, and no snippets
+-- in the comment in front nothing is read; in a text there are no more pieces, with those that it
+-- owes, than kept bytes, and no snippets
 abbrev pub CountsHold : BodyPart → OpenSyllable → Type 0
 CountsHold part.Comment o = o ≡ nothing_open
 CountsHold (part.Text stage) o = (length o.view.pieces + pieces_owed stage ≤ length o.kept) × ((o.from ≤ length o.kept) × (o.snippets ≡ []))

@@ -12,7 +12,7 @@ use Rattle.gabc_body.specs.witness.Gatherer.{Gathered}
 abbrev pub spans_of : Gathered → Spans
 spans_of g = record { eu = g.eu; nlba = g.nlba }
 
--- the totals after all that was gathered, if there are n syllables before the last one
+-- the totals after all that was gathered; `syllables` is the number of those before the last one
 abbrev pub after_gathered : ℕ → Gathered → Preceding
 after_gathered syllables g = record { syllables = min (syllables + 1) most; canonical = g.total; spans = spans_of g; sounded = is_some g.first_kind }
 

@@ -144,7 +144,7 @@ pub record PassesAgain (before : ScoreMachine) (x : Char) (after : ScoreMachine)
 abbrev pub moved : Place → ScoreMachine → ScoreMachine
 moved place m = record m { next = place; body = record m.body { part = moved_part place m.body.part } }
 
--- In the body the character c is read, at the place of the opener outside or inside.
+-- In the body the character c is read, at the place of what is open in the part.
 pub record TakesAgain (before : ScoreMachine) (c : ℕ) (openers : Openers) (after : ScoreMachine) : Type 0 where
   pub run : IsRunAlike before after
   pub was : after.part ≡ score_part.Body → before.part ≡ score_part.Body

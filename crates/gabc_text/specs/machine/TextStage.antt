@@ -76,7 +76,7 @@ abbrev pub events_of_step : TextStage → Step → ℕ → List TextEvent
 events_of_step t (Stays state) last = []
 events_of_step t (Ends k s) last = events_of_token t.facts t.progress k s last
 
--- the machine past the character that it keeps at this one
+-- the machine with this character counted, and what is kept of it
 abbrev pub stage_past_char : TextStage → ℕ → TextStage
 stage_past_char t c = record t { progress = progress_past t.progress c (keep t.facts t.state c) }
 

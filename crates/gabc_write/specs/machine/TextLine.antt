@@ -8,7 +8,7 @@ abbrev pub begun_after : Bool → List ℕ → Bool
 begun_after begun [] = begun
 begun_after begun (c ∷ t) = true
 
--- the part of the line that these bytes add: the word `text:` before the first of them
+-- the part of the line that these bytes add, with `text:` before it if the line has not begun
 abbrev pub line_part : Bool → List ℕ → List ℕ
 line_part begun [] = []
 line_part begun (c ∷ t) = (if begun then [] else codes "text:") ++ escaped (c ∷ t)
