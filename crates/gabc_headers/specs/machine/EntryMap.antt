@@ -63,7 +63,7 @@ abbrev pub AreWithin : {K : Type 0} → List ℕ → List (K × Span) → Type 0
 AreWithin text [] = Unit {0}
 AreWithin text (e ∷ es) = IsWithin text e.1 × AreWithin text es
 
--- the end of the last of these spans, or 0
+-- the largest end of these spans, or 0
 abbrev pub values_end : {K : Type 0} → List (K × Span) → ℕ
 values_end [] = 0
 values_end (e ∷ es) = max e.1.to (values_end es)
