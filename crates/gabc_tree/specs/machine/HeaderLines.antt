@@ -36,7 +36,7 @@ abbrev pub row_of : List ℕ → List ℕ
 row_of [] = []
 row_of (c ∷ t) = if c == 10 then [] else c ∷ row_of t
 
--- the header begins before that byte
+-- the name of the header, and the beginning of its value, are not after byte `n`
 abbrev pub IsOpen : ℕ → Option Header → Type 0
 IsOpen n None = Unit {0}
 IsOpen n (Some h) = (h.name.from ≤ n) × (h.name.to ≤ n) × (h.value ≤ n)
