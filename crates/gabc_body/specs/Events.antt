@@ -46,7 +46,8 @@ abbrev pub is_close : NoteEvent → Bool
 is_close (note_out.Ended note_end.Close kept) = true
 is_close out = false
 
--- the place of the innermost open bracket: that of the snippet, or else the `(`
+-- the end of a snippet; if it is cut, at the innermost open bracket: that of the snippet, or else
+-- the `(`
 abbrev pub innermost : Place → NoteEnd → NoteEnd
 innermost opened (note_end.Cut place) = note_end.Cut (if place.line == 0 then opened else place)
 innermost opened how = how

@@ -36,8 +36,8 @@ module _ (lines macros : ℕ) (at : Place) (u : BodyUnit) (after : List Char) (b
 
   -- The unit is read as one syllable, whole with its last character and not before, and nothing of
   -- the next one is read. The syllable holds the unit; the spans open after it follow from those
-  -- before. No more is kept on the way, nor of the syllable, than the unit keeps. No bracket is
-  -- left open.
+  -- before. No more is kept on the way, nor of the syllable, than the unit keeps. The unit leaves
+  -- no bracket open.
   pub record GivesOneSyllable : Type 0 where
     pub made : UnplacedSyllable
     pub none_earlier : (n : ℕ) → n < length (characters_in u) → all_syllables (emitted_within n) ≡ all_syllables before
