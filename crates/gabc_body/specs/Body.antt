@@ -1,6 +1,6 @@
--- What a body says, by the lists of what is emitted of it: one for each character, and one for the
--- end. A thing that is emitted in the list of a character becomes known there. In these definitions
--- `before` is what was emitted so far, the nearest first.
+-- The content of a body, by its lists of events: one for each character, and one for the end. An
+-- output in the list of a character becomes known at this character. In these definitions `before`
+-- are the events so far, the nearest first.
 use Rattle.std.specs.Prelude.{ℕ, ◌+◌, ◌||◌, ◌&&◌, not, nat_lt, List, [], ◌∷◌, ◌++◌, Bool, true, false, cond, length, Option, Some, None, is_some}
 use Rattle.std.specs.List.{list_any}
 use Rattle.std.specs.Option.{option_map}
@@ -31,8 +31,8 @@ use Rattle.gabc_body.specs.Canonical.{canonicals, canonical_bytes, with_position
 abbrev pub is_longer : ℕ → List ℕ → Bool
 is_longer limit bytes = nat_lt limit (length bytes)
 
--- F5: the kept text that is being read, or the kept or canonical text of one of these syllables, is
--- longer than a syllable may be
+-- F5: the kept text of the current syllable, or the kept or canonical text of one of these
+-- syllables, is longer than a syllable may be
 abbrev pub is_over : ℕ → List UnplacedSyllable → List ℕ → Bool
 is_over limit made kept =
     is_longer limit kept
@@ -44,15 +44,15 @@ is_none [] = true
 is_none (x ∷ xs) = false
 
 -- F7: the canonical file of these syllables, with its last LF, is longer than the input may be;
--- `head` are the bytes of its headers
+-- `head` is the number of bytes of its headers
 abbrev pub is_full : ℕ → ℕ → List UnplacedSyllable → Bool
 is_full limit head made = not (is_none made) && nat_lt limit (head + canonical_bytes made + 1)
 
--- which limit is passed, at one point the one with the lowest number
+-- the code of the limit that is passed, if one is; of two at one point, the lower one
 abbrev pub code_by : Limits → ℕ → List UnplacedSyllable → List ℕ → Option Code
 code_by limits head made kept = cond (is_over limits.syllable made kept) (Some F5) (cond (is_full limits.input head made) (Some F7) None)
 
--- the code of the limit that is passed where this was emitted, if one is
+-- the code of the limit that is passed after these events, if one is
 abbrev pub code_at : Limits → ℕ → List BodyEvent → Option Code
 code_at limits head before = code_by limits head (all_syllables before) (kept_of (since_close before))
 

@@ -28,12 +28,12 @@ canonical starts m =
     ++ (translation_text m.kept m.text.translation
     ++ (codes "(" ++ (with_bars m.kept m.snippets ++ codes ")"))))
 
--- From this byte on the kept text of a syllable is its canonical text but for the LF before a word.
+-- From byte `n` on the kept text of a syllable is its canonical text without the LF before a word.
 pub record IsKeptFrom (n : ℕ) (m : UnplacedSyllable) : Type 0 where
   pub within : n ≤ length m.kept
   pub rest_is : canonical false m ≡ drop n m.kept
 
--- the same of a byte, if one is known
+-- the same for a byte, if one is known
 abbrev pub StandsFrom : Option ℕ → UnplacedSyllable → Type 0
 StandsFrom None m = Unit {0}
 StandsFrom (Some n) m = IsKeptFrom n m
@@ -50,7 +50,7 @@ canonical_bytes ms = sum_by (λ (text : List ℕ). length text) (canonicals true
 
 -- ---- the position
 
--- of a syllable that begins a word or not, before a word's beginning or not
+-- the position of a syllable, by whether it begins a word, and whether the next one does
 abbrev pub position_by : Bool → Bool → Position
 position_by true true = One
 position_by true false = Beginning

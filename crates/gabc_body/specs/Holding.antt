@@ -32,7 +32,7 @@ abbrev pub IsSnippetOf : ℕ → List ℕ → Type 0
 IsSnippetOf zero t = IsSnippet gabc t
 IsSnippetOf (suc line) t = IsSnippet nabc t
 
--- what a snippet of a line keeps of these characters, without an unfinished end
+-- the kept text of a snippet on a line, read from these characters, without an unfinished end
 abbrev pub kept_on_line : ℕ → List Char → List ℕ
 kept_on_line zero xs = trim gabc (notes.kept (reverse xs))
 kept_on_line (suc line) xs = trim nabc (nabc.kept_of (codes_of xs))
@@ -46,8 +46,8 @@ abbrev pub in_brackets : (ReadSnippet → List ℕ) → List ReadSnippet → Rea
 in_brackets part earlier last = bracket_with part earlier ++ (part last ++ codes ")")
 
 -- After this text and these snippets, a snippet stands for its kept text, which its characters keep
--- and which is a snippet of its line. That is the line whose turn it is, of GABC and n NABC
--- lines.
+-- and which is a snippet of its line. This is the line whose turn it is, of GABC and `lines` lines
+-- of NABC.
 pub record IsHeld (lines : ℕ) (whole text : List ℕ) (before : List ReadSnippet) (s : ReadSnippet) : Type 0 where
   pub line_is : s.snippet.line ≡ length before % (lines + 1)
   pub kept_is : s.kept ≡ kept_on_line s.snippet.line s.characters
@@ -56,7 +56,7 @@ pub record IsHeld (lines : ℕ) (whole text : List ℕ) (before : List ReadSnipp
   pub after : stands.prefix ≡ text ++ bracket_with (λ b. b.kept) before
 
 -- Notes that were read from these characters: after the text the whole has the kept texts of their
--- snippets, each held in its place.
+-- snippets, each in its place.
 pub record HoldsNotes (lines : ℕ) (characters whole text : List ℕ) (snippets : List Snippet) : Type 0 where
   pub earlier : List ReadSnippet
   pub last : ReadSnippet
@@ -73,10 +73,10 @@ pub record HoldsNoNotes (characters whole text : List ℕ) (snippets : List Snip
 
 -- ---- the syllable
 
--- A syllable holds its parts. Somewhere in the input stand the characters of its text, and after
--- them those of its notes. Its view is the view of the text that begins there, and the spans of the
--- view stand for what it says in the whole that the syllable keeps: the kept text of its text, and
--- its notes.
+-- A syllable holds its parts. The characters of its text are somewhere in the input, and after them
+-- those of its notes. Its view is the view of the text that begins there, and the spans of the view
+-- stand for what it says in the whole that the syllable keeps: the kept text of its text, and its
+-- notes.
 pub record Holds (Notes : List ℕ → List ℕ → List ℕ → List Snippet → Type 0) (input : List ℕ) (m : UnplacedSyllable) : Type 0 where
   pub before : List ℕ
   pub text : List ℕ

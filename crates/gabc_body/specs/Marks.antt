@@ -2,7 +2,7 @@
 use Rattle.std.specs.Prelude.{◌≡◌, ℕ, List, [], ◌∷◌, Option, Some, None}
 use Rattle.gabc_body.specs.Units.{EndedPart, BodyUnit, LastUnit, JustText, OpenNotes, Units}
 
--- each of these ends at this character
+-- each of these parts ends at this character
 abbrev pub EndAt : ℕ → List EndedPart → Type 0
 EndAt c [] = Unit {0}
 EndAt c (e ∷ es) = (e.end.c ≡ c) × EndAt c es
@@ -13,7 +13,7 @@ pub record EndsAtItsMarks (u : BodyUnit) : Type 0 where
   pub nexts : EndAt 124 u.nexts
   pub final : u.final.end.c ≡ 41
 
--- each of these units does
+-- each of these units ends at its marks
 abbrev pub EndAtTheirMarks : List BodyUnit → Type 0
 EndAtTheirMarks [] = Unit {0}
 EndAtTheirMarks (u ∷ us) = EndsAtItsMarks u × EndAtTheirMarks us

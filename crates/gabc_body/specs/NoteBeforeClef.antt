@@ -1,8 +1,8 @@
 -- A note before any clef. Of the items of all GABC snippets that have ended, in order, the first
 -- that is a note or a clef is a note: this is found with the mark that ends the snippet of this
--- note. What a score emits is what its body emits, and after it this finding.
+-- note. The events of a score are those of its body, and after them this finding.
 --
--- In these definitions `before` is what was emitted so far, the nearest first.
+-- In these definitions `before` are the events so far, the nearest first.
 use Rattle.std.specs.Prelude.{ℕ, ◌==◌, List, [], ◌∷◌, ◌++◌, map, Bool, true, false, cond, Option, Some, None}
 use Rattle.std.specs.List.{flat_map}
 use Rattle.gabc_places.specs.declared.code.Code.TheVariants.{W12}
@@ -35,26 +35,26 @@ gabc_ended (t ∷ before) = gabc_with (gabc_ended before) (part_of (since_close 
 abbrev pub first_of : List BodyEvent → Option ItemKind
 first_of before = first_note_or_clef (flat_map (λ kept. items_of kept) (gabc_ended before))
 
--- the first of the two was none, and is a note now
+-- neither had come, and a note comes first now
 abbrev pub is_first_note : Option ItemKind → Option ItemKind → Bool
 is_first_note None (Some Note) = true
 is_first_note was now = false
 
--- then it is found, at this place
+-- the finding of this, at this place, if so
 abbrev pub found_first : Option ItemKind → Option ItemKind → Place → List Finding
 found_first was now place = cond (is_first_note was now) (record { place = place; code = W12 } ∷ []) []
 
--- what a score emits at a character, of which its body emits this
+-- the events of a score at a character, by those of its body
 abbrev pub with_first : List BodyEvent → Char → List BodyEvent → List BodyEvent
 with_first before x now = now ++ map (λ f. event.Notes 0 (note.Found f)) (found_first (first_of before) (first_of (events_onto now before)) x.place)
 
--- what it emits of these characters and of the end, of which its body emits these lists
+-- the events of a score for these characters and the end, by the lists of its body
 abbrev pub with_first_each : List BodyEvent → List Char → List (List BodyEvent) → List (List BodyEvent)
 with_first_each before [] lists = lists
 with_first_each before (x ∷ xs) [] = []
 with_first_each before (x ∷ xs) (now ∷ lists) = with_first before x now ∷ with_first_each (events_onto (with_first before x now) before) xs lists
 
--- what a score emits of the characters of its body, with n NABC lines and the macros of these
--- bits
+-- the events of a score for the characters of its body, with this number of NABC lines and the
+-- macros of these bits
 abbrev pub score_events : ℕ → ℕ → List Char → List (List BodyEvent)
 score_events lines macros xs = with_first_each [] xs (body_events lines macros xs)

@@ -1,4 +1,4 @@
--- A text that is one syllable, by all that it emits.
+-- A text that is one syllable, by all its events.
 use Rattle.std.specs.Prelude.{◌≡◌, ℕ, ◌<◌, ◌≤◌, List, [], ◌∷◌, ◌++◌, length}
 use Rattle.std.specs.List.{All}
 use Rattle.gabc_places.specs.declared.place.Place.{Place}
@@ -12,16 +12,16 @@ use Rattle.gabc_body.specs.Syllable.{UnplacedSyllable, since_close, kept_of, all
 use Rattle.gabc_body.specs.UnitRead.{first_events}
 
 module _ (lines macros : ℕ) (at : Place) (text : List ℕ) where
-  -- what the first n characters of a text emit, which begins at this place
+  -- the events of the first n characters of a text that begins at this place
   abbrev pub emitted_first : ℕ → List BodyEvent
   emitted_first n = first_events lines macros at (placed_characters_from at text) n
 
-  -- the same, the nearest first, with this before it
+  -- the same after `before`, the nearest first
   abbrev pub emitted_after : List BodyEvent → ℕ → List BodyEvent
   emitted_after before n = events_onto (emitted_first n) before
 
-  -- Where these spans are open, the text is this one syllable, whole with the last character and
-  -- not before, and no more than n bytes are kept on the way. What is found are warnings.
+  -- If these spans are open, the text is this one syllable, whole with the last character and not
+  -- before, and no more than `limit` bytes are kept on the way. All findings are warnings.
   pub record IsOneSyllable (spans : Spans) (limit : ℕ) (m : UnplacedSyllable) : Type 0 where
     pub before : List BodyEvent
     pub leaves : LeavesOpen spans before
@@ -30,8 +30,8 @@ module _ (lines macros : ℕ) (at : Place) (text : List ℕ) where
     pub few : (n : ℕ) → n ≤ length text → length (kept_of (since_close (emitted_after before n))) ≤ limit
     pub warnings : All IsWarning (findings_of (emitted_after [] (length text)))
 
-  -- By itself, with nothing before it, the text is one syllable, whole with the last character and
-  -- not before.
+  -- Alone, with nothing before it, the text is one syllable, whole with the last character and not
+  -- before.
   pub record IsOneAlone : Type 0 where
     pub syllable : UnplacedSyllable
     pub none_earlier : (n : ℕ) → n < length text → all_syllables (emitted_after [] n) ≡ []

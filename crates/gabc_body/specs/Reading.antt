@@ -1,6 +1,6 @@
--- What a body says, read a character after the other. What has been read of a syllable is what is
--- kept of it, whether a comment is open, and where what is open begins: from this alone the reading
--- goes on.
+-- The content of a body, read character by character. The state of the current syllable is its kept
+-- text, whether a comment is open, and the places of its openers: from this alone the reading
+-- continues.
 use Rattle.std.specs.Prelude.{ℕ, ◌+◌, List, [], ◌∷◌, ◌++◌, Bool, true, false, cond, not, ◌||◌, ◌&&◌, ◌==◌, nat_lt, length, map, reverse, codes, encode_utf8_all, Option, Some, None, is_some}
 use Rattle.gabc_places.specs.Fate.{Fate, Keep, Comment, Ends, LeaveOut}
 use Rattle.gabc_places.specs.declared.code.Code.{Code}
@@ -28,16 +28,16 @@ use Rattle.gabc_body.specs.Canonical.{with_positions}
 use Rattle.gabc_body.specs.SpansPast.{open_past}
 use Rattle.gabc_body.specs.Syllable.{UnplacedSyllable, snippet_at}
 
--- ---- what has been read
+-- ---- the state of the reading
 
--- a text, or the snippet of that line
+-- a text, or a snippet on this line
 pub data Part : Type 0 where
   InText : Part
   InNotes : ℕ → Part
 
--- Of the syllable that is read: the part that is read with what is kept of it; what is kept of the
--- parts before it, with their marks; the kept text of its text, and its snippets so far; whether a
--- comment is open; and the places of the `(` and of what is open inside the part.
+-- The current syllable: its current part, with what is kept of it; what is kept of the parts before
+-- it, with their marks; the kept text of its text, and its snippets so far; whether a comment is
+-- open; and the places of the `(` and of what is open inside the part.
 pub record Reading : Type 0 where
   pub part : Part
   pub kept : List ℕ
@@ -48,8 +48,8 @@ pub record Reading : Type 0 where
   pub paren : Place
   pub inner : Place
 
--- Of the body: its syllables so far, which spans are open after them, whether a note or a clef has
--- come, what was found, and the syllable that is read.
+-- The body so far: its syllables, the spans open after them, whether a note or a clef has come, the
+-- findings, and the current syllable.
 pub record BodyRead : Type 0 where
   pub made : List UnplacedSyllable
   pub eu : Bool
@@ -69,11 +69,11 @@ at_start comment = record { part = InText; kept = []; before = []; text = []; sn
 abbrev pub begun : BodyRead
 begun = record { made = []; eu = false; nlba = false; sounded = false; found = []; reading = at_start true }
 
--- all that is kept of the syllable, in bytes
+-- the kept text of the syllable, in bytes
 abbrev pub kept_bytes : Reading → List ℕ
 kept_bytes r = encode_utf8_all (r.before ++ r.kept)
 
--- ---- what is found
+-- ---- the findings
 
 -- a macro is found at its bracket, all else of notes at the character
 abbrev pub place_by : Code → Place → Place → Place
@@ -100,13 +100,13 @@ abbrev pub kept_as : Part → List ℕ → ℕ → ℕ
 kept_as InText kept c = kept_char (reverse (tokens kept)) c
 kept_as (InNotes line) kept c = c
 
--- where what is open with the character begins: of a text and of GABC, if it goes on, there, and
--- else here; nothing opens in NABC
+-- the place of what is open with the character: in a text and in GABC the same as before, if the
+-- character belongs to it, else that of the character; in NABC nothing opens
 abbrev pub inner_by : Part → List ℕ → Place → Char → Place
 inner_by InText kept inner x = cond (belongs (reverse (tokens kept)) x.c) inner x.place
 inner_by (InNotes line) kept inner x = cond (not (line == 0) || notes.in_raw kept) inner x.place
 
--- what is found with the character: in a text where what it is part of begins
+-- the findings with the character: in a text they are at the beginning of what it is part of
 abbrev pub found_by : ℕ → Part → List ℕ → Place → Char → List Finding
 found_by macros InText kept inner x = found_at (codes_with (reverse (tokens (kept ++ kept_as InText kept x.c ∷ [])))) (inner_by InText kept inner x)
 found_by macros (InNotes line) kept inner x =
@@ -136,7 +136,7 @@ sound_codes sounded first = []
 abbrev pub with_sound : Option Bool → Place → BodyRead → BodyRead
 with_sound first here b = with_found (found_at (sound_codes b.sounded first) here) (record b { sounded = b.sounded || is_some first })
 
--- what is kept of a snippet of that line, without an unfinished end
+-- the kept text of a snippet on this line, without an unfinished end
 abbrev pub whole_of : ℕ → List ℕ → List ℕ
 whole_of line kept = cond (line == 0) (whole_front gabc kept) (whole_front nabc kept)
 
@@ -147,7 +147,7 @@ with_snippet_ended line here b =
     (with_sound (first_sound (items_by gabc (whole_front gabc kept))) here (with_found (found_at (notes.found_at_end kept) here) b))
     (with_found (found_at (nabc_text.found_at_end kept) here) b)
 
--- the syllable of this kept text, whose text is t, with these snippets
+-- the body with the syllable of this kept text, whose text is `t`, with these snippets
 abbrev pub with_syllable : List ℕ → List ℕ → List Snippet → BodyRead → BodyRead
 with_syllable kept t snippets b =
     let view = view_of_kept t in
@@ -177,7 +177,7 @@ with_fate lines macros b x (LeaveOut None) = record b { reading = record b.readi
 with_fate lines macros b x (LeaveOut (Some code)) = with_found (found_at (code ∷ []) x.place) (record b { reading = record b.reading { comment = false } })
 with_fate lines macros b x Ends = with_end lines b.reading.part b x
 
--- a comment goes on up to an LF
+-- a comment continues up to an LF
 abbrev pub past : ℕ → ℕ → BodyRead → Char → BodyRead
 past lines macros b x =
     cond (b.reading.comment && not (x.c == 10)) b
@@ -192,7 +192,8 @@ abbrev pub stops_by : Option Code → Place → BodyRead → BodyRead × Option 
 stops_by (Some code) here b later = (b, Some (fault_at here code))
 stops_by None here b later = later
 
--- What is read of the characters before the first at which a limit is passed.
+-- The body read past the characters before the first at which a limit is passed, and the fault of
+-- this limit.
 abbrev pub read_on : Limits → ℕ → ℕ → ℕ → BodyRead → List Char → BodyRead × Option Fault
 read_on limits head lines macros b [] = (b, None)
 read_on limits head lines macros b (x ∷ xs) =
@@ -223,7 +224,7 @@ ended here b =
 abbrev pub result_of : List Finding → BodyRead → Option Fault → BodyResult
 result_of found b fault = record { syllables = with_positions b.made; findings = found ++ b.found; fault = fault }
 
--- a fault of the end hides what has its point there
+-- a fault of the end hides the findings and the syllable whose point is the end
 abbrev pub result_by_code : List Finding → Place → BodyRead → BodyRead → Option Code → BodyResult
 result_by_code found here b all (Some code) = result_of found b (Some (fault_at here code))
 result_by_code found here b all None = result_of found all None
@@ -243,7 +244,7 @@ abbrev pub result_by : Limits → ℕ → List Finding → Place → InputEnding
 result_by limits head found here ending (b, Some fault) = result_of found b (Some fault)
 result_by limits head found here ending (b, None) = result_at_end limits head found here ending b
 
--- What a body says with these characters, whose end is at this place. `head` are the bytes of the
--- canonical headers with `%%`, and `found` is what was found in the headers.
+-- The content of a body of these characters, whose end is at this place. `head` is the number of
+-- bytes of the canonical headers with `%%`, and `found` are the findings in the headers.
 abbrev pub body_by : Limits → ℕ → ℕ → ℕ → List Finding → Place → InputEnding → List Char → BodyResult
 body_by limits head lines macros found here ending xs = result_by limits head found here ending (read_on limits head lines macros begun xs)

@@ -22,7 +22,7 @@ heads_text t = take (head_len t + 2) t
 abbrev pub after_heads : List ℕ → List ℕ
 after_heads t = drop (head_len t + 2) t
 
--- the body of a text with these headers, which ended so
+-- the body of a text with these headers and this ending
 abbrev pub body_in : Limits → InputEnding → List ℕ → Heads → BodyResult
 body_in limits ending t heads =
     body_by limits (bytes_len (canonical_heads heads.book)) (nabc_lines_of heads.book) (macros_of heads.book) heads.findings (place_after t) ending
@@ -31,8 +31,8 @@ body_in limits ending t heads =
 abbrev pub with_body : Heads → BodyResult → Score
 with_body heads body = record { book = Some heads.book; syllables = body.syllables; findings = body.findings; fault = body.fault }
 
--- A fault of the headers that has the end as its point gives way to the way in which the text
--- ended.
+-- A fault of the headers whose point is the end counts only if the text ended whole; else the fault
+-- of the ending does, if there is one.
 abbrev pub head_fault_by : InputEnding → Bool → Fault → Option Fault
 head_fault_by ending false fault = Some fault
 head_fault_by Whole true fault = Some fault

@@ -1,8 +1,8 @@
--- What a score emits of what a header stage gives it: one list for each event that comes in, and
--- one for their end. A thing stands in the list of the event with which it becomes known.
+-- The outputs of a score for the events of a header stage: one list for each event, and one for
+-- their end. An output is in the list of the event with which it becomes known.
 --
--- In these definitions `before` is what the body emitted so far, the nearest first, `now` and
--- `lists` are what it emits next, as specs/Events.antt says, and `head` are the bytes of the
+-- In these definitions `before` are the events of the body so far, the nearest first, `now` and
+-- `lists` are its next ones, as specs/Events.antt says, and `head` is the number of bytes of the
 -- canonical headers with `%%`.
 use Rattle.std.specs.Prelude.{ℕ, ◌-◌, List, [], ◌∷◌, ◌++◌, Bool, true, false, length, map, take, drop, Option, Some, None, Result, Ok, Err}
 use Rattle.gabc_places.specs.declared.code.Code.{Code}
@@ -30,8 +30,8 @@ use Rattle.gabc_body.specs.Score.{head_fault_by}
 use Rattle.gabc_body.specs.Syllable.{UnplacedSyllable, PlacedSyllable, all_syllables}
 use Rattle.gabc_body.specs.SyllablesOfUnits.{body_characters}
 
--- An output of a score, with the syllable itself where the code names the slot that holds it. After
--- a stop or the end comes nothing.
+-- An output of a score, with the syllable itself, for which the code names its slot. Nothing comes
+-- after a stop or the end.
 pub data ScoreOutput : Type 0 where
   Found : Finding → ScoreOutput
   Stop : Fault → ScoreOutput
@@ -40,14 +40,14 @@ pub data ScoreOutput : Type 0 where
 
 -- ---- syllables
 
--- A syllable is given when the next one is made, for then it is known whether it ends its word; the
--- last one is given at the stop or the end. Until then it is held. Of these syllables, those that
--- were not given when n were made: from the held one on.
+-- A syllable is emitted when the next one is made, for then it is known whether it ends its word;
+-- the last one is emitted at the stop or the end. Until then it is pending. Of these syllables,
+-- those not emitted when the first `count` were made: from the pending one on.
 abbrev pub not_given : ℕ → List UnplacedSyllable → List PlacedSyllable
 not_given count made = drop (count - 1) (with_positions made)
 
--- those of them that are given with the character at which these are made: all but the last, which
--- is held
+-- those of them that are emitted with the character at which these are made: all but the last,
+-- which is pending
 abbrev pub given_now : ℕ → List UnplacedSyllable → List PlacedSyllable
 given_now count made = drop (count - 1) (take (length made - 1) (with_positions made))
 
@@ -66,7 +66,7 @@ outputs_of findings syllables = map (λ f. Found f) findings ++ map (λ s. Sylla
 abbrev pub outputs_at : List BodyEvent → List BodyEvent → List ScoreOutput
 outputs_at before now = outputs_of (findings_now now) (given_now (count_made before) (all_syllables (events_onto now before)))
 
--- the held syllable
+-- the pending syllable, if there is one
 abbrev pub held_output : List BodyEvent → List ScoreOutput
 held_output before = outputs_of [] (not_given (count_made before) (all_syllables before))
 
@@ -74,7 +74,8 @@ held_output before = outputs_of [] (not_given (count_made before) (all_syllables
 abbrev pub outputs_at_stop : List BodyEvent → Fault → List ScoreOutput
 outputs_at_stop before fault = held_output before ++ Stop fault ∷ []
 
--- at the end, which is at this place: there is a fault, or the last text is closed
+-- the outputs at the end, which is at this place: those of a fault, or those of a last text that is
+-- closed
 abbrev pub outputs_at_end : Place → List BodyEvent → List BodyEvent → Option Fault → List ScoreOutput
 outputs_at_end at before now (Some fault) = outputs_at_stop before fault
 outputs_at_end at before now None =
@@ -92,13 +93,13 @@ characters_in (head_event.Stop fault ∷ xs) = []
 characters_in (head_event.Found f ∷ xs) = characters_in xs
 characters_in (head_event.Heads lines macros canonical ∷ xs) = characters_in xs
 
--- what follows a character, at which a limit is passed or none
+-- the lists from a character on, by the code of the limit that is passed at it, if one is
 abbrev pub outputs_by : Option Code → Char → List BodyEvent → List BodyEvent → List HeadEvent → List (List ScoreOutput) → List (List ScoreOutput)
 outputs_by (Some code) x before now xs later = outputs_at_stop before (fault_at x.place code) ∷ silence xs
 outputs_by None x before now xs later = outputs_at before now ∷ later
 
--- What is emitted after the headers, the next character of the body at this place. Where what comes
--- in just ceases, the source has failed.
+-- The outputs after the headers, the next character of the body at this place. If the inputs just
+-- cease, the source has failed.
 abbrev pub body_outputs : Limits → ℕ → Place → List BodyEvent → List (List BodyEvent) → List HeadEvent → List (List ScoreOutput)
 body_outputs limits head at before lists [] = held_output before ∷ []
 body_outputs limits head at before (now ∷ lists) (head_event.Body x ∷ xs) =
@@ -117,8 +118,8 @@ body_outputs limits head at before lists (head_event.Heads lines macros canonica
 abbrev pub first_place : Place
 first_place = record { line = 1; column = 1 }
 
--- What is emitted from the headers on, where texts are read so: what is found in the headers and
--- what stops them is passed on.
+-- The outputs from the headers on, if texts are read so: findings and the fault of the headers are
+-- passed on.
 abbrev pub score_outputs : Texts → Limits → List HeadEvent → List (List ScoreOutput)
 score_outputs texts limits [] = [] ∷ []
 score_outputs texts limits (head_event.Heads lines macros canonical ∷ xs) =
@@ -129,9 +130,9 @@ score_outputs texts limits (head_event.Stop fault ∷ xs) = (Stop fault ∷ []) 
 score_outputs texts limits (head_event.End ∷ xs) = (End ∷ []) ∷ silence xs
 score_outputs texts limits (head_event.Body x ∷ xs) = [] ∷ score_outputs texts limits xs
 
--- ---- what comes in
+-- ---- the inputs
 
--- how what comes in ceases
+-- the inputs of an ending
 abbrev pub ending_events : InputEnding → List HeadEvent
 ending_events Whole = head_event.End ∷ []
 ending_events Broken = []
@@ -160,7 +161,7 @@ HasNoEnd [] = Unit {0}
 HasNoEnd (head_event.End ∷ xs) = ⊥
 HasNoEnd (x ∷ xs) = HasNoEnd xs
 
--- ---- what outputs say
+-- ---- the content of outputs
 
 abbrev pub findings_in : List ScoreOutput → List Finding
 findings_in [] = []

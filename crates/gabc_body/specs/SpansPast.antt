@@ -1,4 +1,4 @@
--- Which spans of several syllables are open after a syllable, by those that are open before it.
+-- The spans of several syllables that are open after a syllable, by those open before it.
 use Rattle.std.specs.Prelude.{◌≡◌, ℕ, List, [], ◌∷◌, Bool, codes}
 use Rattle.gabc_text.specs.declared.view.Piece.{Piece}
 use Rattle.gabc_body.specs.declared.before.Spans.{Spans}

@@ -8,15 +8,15 @@ use Rattle.gabc_places.specs.StageLaw.{concat_of}
 use Rattle.gabc_body.specs.declared.events.BodyEvent.{BodyEvent}
 use Rattle.gabc_body.specs.Body.{events_onto, code_at, fault_at, EventsToStop}
 
--- In these definitions lists holds what is emitted of each character and of the end, and `first`
--- was emitted before them, the nearest first. A point is an index of a character.
+-- In these definitions `lists` are the events of each character and of the end, and `first` are
+-- those before them, the nearest first. A point is an index of a character.
 
--- what was emitted through n points
+-- the events through n points
 abbrev pub events_in_points : List BodyEvent → List (List BodyEvent) → ℕ → List BodyEvent
 events_in_points first lists n = events_onto (concat_of (take n lists)) first
 
--- The reading stops at a character: there a limit is passed, and at no earlier one. What was
--- emitted of the characters before it is emitted.
+-- The reading stops at a character: there a limit is passed, and at no earlier one. The events of
+-- the characters before it are emitted.
 pub record StopsAt (limits : Limits) (head : ℕ) (first : List BodyEvent) (xs : List Char) (lists : List (List BodyEvent)) (r : EventsToStop) : Type 0 where
   pub prefix : List Char
   pub here : Char
@@ -28,8 +28,8 @@ pub record StopsAt (limits : Limits) (head : ℕ) (first : List BodyEvent) (xs :
   pub before : r.before ≡ events_in_points first lists (length prefix)
   pub fault : r.fault ≡ Some (fault_at here.place code)
 
--- No character stops the reading: no limit is passed at any of them. All is emitted, and after it
--- what is emitted of the end.
+-- No character stops the reading: no limit is passed at any of them. All events are emitted, and
+-- after them those of the end.
 pub record NeverStops (limits : Limits) (head : ℕ) (first : List BodyEvent) (xs : List Char) (lists : List (List BodyEvent)) (r : EventsToStop) : Type 0 where
   pub none : (n : ℕ) → n < length xs → code_at limits head (events_in_points first lists (suc n)) ≡ None
   pub before : r.before ≡ events_in_points first lists (length xs)

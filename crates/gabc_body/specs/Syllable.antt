@@ -1,6 +1,5 @@
--- What a score says of a syllable, by what was emitted of its characters. In these definitions
--- `before` is what was emitted so far, the nearest first, and `events` is what was emitted of one
--- syllable, the nearest first.
+-- A syllable of a score, by the events of its characters. In these definitions `before` are the
+-- events so far, and `events` those of one syllable, both the nearest first.
 use Rattle.std.specs.Prelude.{ℕ, ◌+◌, ◌-◌, ◌||◌, ◌&&◌, nat_lt, nat_le, List, [], ◌∷◌, ◌++◌, Bool, true, false, cond, length, take, drop, codes, string_bytes, encode_utf8, bytes_eq}
 use Rattle.gabc_places.specs.declared.place.Span.{Span}
 use Rattle.gabc_text.specs.declared.view.PieceKind.{PieceKind}
@@ -44,7 +43,7 @@ abbrev pub closes : BodyEvent → Bool
 closes (event.Notes line (note.Ended Close n)) = true
 closes _ = false
 
--- what was emitted since the last `)`
+-- the events since the last `)`
 abbrev pub since_close : List BodyEvent → List BodyEvent
 since_close [] = []
 since_close (t ∷ before) = cond (closes t) [] (t ∷ since_close before)
@@ -64,7 +63,7 @@ is_seam (byte ∷ bytes) = begins_character byte
 abbrev pub prefix_of : ℕ → List ℕ → List ℕ
 prefix_of n bytes = cond (is_seam (drop n bytes)) (take n bytes) bytes
 
--- what is kept of the part that is being read, a text or a snippet
+-- the kept bytes of the current part, a text or a snippet
 abbrev pub part_with : List ℕ → BodyEvent → List ℕ
 part_with part (event.Text (text.Kept c)) = part ++ encode_utf8 c.c
 part_with part (event.Text (text.Ended Notes)) = []
@@ -77,8 +76,8 @@ abbrev pub part_of : List BodyEvent → List ℕ
 part_of [] = []
 part_of (t ∷ events) = part_with (part_of events) t
 
--- The parts that have ended, each with the mark that ended it. What a snippet keeps at its end is
--- emitted there.
+-- The parts that have ended, each with the mark that ended it. How many bytes a snippet keeps at
+-- its end is emitted there.
 abbrev pub ended_parts_with : List ℕ → List ℕ → BodyEvent → List ℕ
 ended_parts_with ended part (event.Text (text.Ended Notes)) = ended ++ (part ++ codes "(")
 ended_parts_with ended part (event.Notes line (note.Ended Next n)) = ended ++ (prefix_of n part ++ codes "|")
@@ -123,7 +122,7 @@ view_of (t ∷ events) = view_with (view_of events) t
 unfoldable pub slice : Span → List ℕ → List ℕ
 slice span bytes = take (span.to - span.from) (drop span.from bytes)
 
--- the characters of a span: none, unless it begins and ends between characters of the text
+-- the bytes of a span: none, unless it begins and ends between characters of the text
 abbrev pub text_at : Span → List ℕ → List ℕ
 text_at span bytes =
     cond (nat_le span.from span.to && (nat_le span.to (length bytes) && (is_seam (drop span.from bytes) && is_seam (drop span.to bytes))))
@@ -152,7 +151,7 @@ is_nlba before = is_open (codes "<nlba>") (codes "</nlba>") before
 
 -- ---- the syllables
 
--- the syllable of these events, where spans are open or not
+-- the syllable of these events, with these spans open after it or not
 abbrev pub syllable_by : List BodyEvent → Bool → Bool → UnplacedSyllable
 syllable_by events eu nlba = record { text = view_of events; kept = kept_of events; snippets = snippets_of events; eu = eu; nlba = nlba }
 

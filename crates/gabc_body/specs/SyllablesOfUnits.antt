@@ -47,13 +47,13 @@ abbrev pub characters_from : List BodyUnit → LastUnit → List Char
 characters_from [] last = last_in last
 characters_from (u ∷ units) last = characters_in u ++ characters_from units last
 
--- those of all units of a body, with what stands after the last `)`
+-- those of all units of a body, with those after the last `)`
 abbrev pub unit_characters : Option Units → List Char
 unit_characters None = []
 unit_characters (Some u) = characters_from u.closed u.last
 
--- A unit of a score: all that stands from its text on, its notes from their `(` through their `)`,
--- and the characters of each snippet of its notes. A last text has no notes.
+-- A unit of a score: all characters of the body from its text on, its notes from their `(` through
+-- their `)`, and the characters of each snippet of its notes. A last text has no notes.
 pub record ScoreUnit : Type 0 where
   pub text : List ℕ
   pub notes : List ℕ
@@ -101,7 +101,7 @@ abbrev pub begins_word : List ScoreUnit → ScoreUnit → Bool
 begins_word [] u = true
 begins_word (b ∷ before) u = (view_in u.text).word_start
 
--- so does the next unit; the end of the units counts as one that does
+-- the same of the next unit; the end of the units counts as one that begins a word
 abbrev pub next_begins_word : List ScoreUnit → Bool
 next_begins_word [] = true
 next_begins_word (u ∷ after) = (view_in u.text).word_start
@@ -128,8 +128,9 @@ pub record HoldsUnit (lines : ℕ) (u : ScoreUnit) (m : UnplacedSyllable) : Type
   pub stands : StandsForView whole m.text u.text
   pub notes : NotesAre lines u u.snippets whole m.snippets
 
--- A syllable is that of a unit which stands between these: it holds the unit, it lies in the spans
--- that the texts through its own leave open, and it stands in its word where its unit does.
+-- A syllable is that of a unit between these units: it holds the unit, the spans open after it are
+-- those that the texts through its own leave open, and its position in its word is that of the
+-- unit.
 pub record IsSyllableOf (lines : ℕ) (before : List ScoreUnit) (u : ScoreUnit) (after : List ScoreUnit) (s : PlacedSyllable) : Type 0 where
   pub holds : HoldsUnit lines u s.made
   pub eu_is : IsTrue s.made.eu ↔ IsLeftOpen (codes "<eu>") (codes "</eu>") (tags_in (before ++ u ∷ []))
@@ -148,7 +149,7 @@ pub record AreSyllablesOf (lines : ℕ) (units : List ScoreUnit) (syllables : Li
 abbrev pub body_characters : List ℕ → List Char
 body_characters t = placed_characters_after (heads_text t) (after_heads t)
 
--- the body of a text with this book is cut so
+-- the body of a text with this book has this cutting
 abbrev pub IsBodyCut : List (List ℕ × List ℕ) → List ℕ → BodyCutting → Type 0
 IsBodyCut book t cut = IsCut texts_by_definition (nabc_lines_of book) (macros_of book) (body_characters t) cut
 
@@ -166,13 +167,13 @@ units_within n None = []
 units_within n (Some u) = take (count_within n u.closed) (closed_units u.closed u.last)
 
 -- The first n characters of a body come before its stop, the first point at which a limit is
--- passed. Where none is passed at a character, all do.
+-- passed. If none is passed at a character, these are all.
 abbrev pub AreBeforeStop : Limits → ℕ → List Char → List (List BodyEvent) → ℕ → Type 0
 AreBeforeStop limits head xs lists n =
     let r = events_to_stop limits head [] xs lists in
     (NeverStops limits head [] xs lists r × (n ≡ length xs)) ⊎ ((s : StopsAt limits head [] xs lists r) × (n ≡ length s.prefix))
 
--- the first n characters of the body of a text with this book do
+-- the same of the body of a text with this book
 abbrev pub AreBeforeBodyStop : Limits → List (List ℕ × List ℕ) → List ℕ → ℕ → Type 0
 AreBeforeBodyStop limits book t n =
     let xs = body_characters t in

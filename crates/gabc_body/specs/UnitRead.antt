@@ -13,30 +13,31 @@ use Rattle.gabc_body.specs.SpansPast.{eu_past, nlba_past}
 use Rattle.gabc_body.specs.Units.{BodyUnit}
 use Rattle.gabc_body.specs.WithinLimits.{KeepsWithin}
 
--- A syllable holds some unit with notes: one snippet, where there are no NABC lines. That is said
--- of the syllable alone, whatever it was read from.
+-- A syllable holds some unit with notes: one snippet, if there are no NABC lines. That is said of
+-- the syllable alone, whatever it was read from.
 pub record HoldsSomeUnit (lines : ℕ) (m : UnplacedSyllable) : Type 0 where
   pub unit : ScoreUnit
   pub noted : unit.snippets ≢ []
   pub single : lines ≡ 0 → length unit.snippets ≤ 1
   pub holds : HoldsUnit lines unit m
 
--- what the first n of these characters emit, where a text begins with them at this place
+-- the events of the first n of these characters, if a text begins with them at this place
 abbrev pub first_events : ℕ → ℕ → Place → List Char → ℕ → List BodyEvent
 first_events lines macros at xs n = concat_of (take n (events_from texts_by_definition lines macros (text_from texts_by_definition at xs) xs))
 
 module _ (lines macros : ℕ) (at : Place) (u : BodyUnit) (after : List Char) (before : List BodyEvent) where
-  -- what was emitted, the nearest first, after the first n characters of a unit whose text begins
-  -- at this place, with those characters after it and this before it
+  -- the events, the nearest first, after the first n characters of a unit whose text begins at this
+  -- place, with the characters `after` after it and the events `before` before it
   abbrev pub emitted_within : ℕ → List BodyEvent
   emitted_within n = events_onto (first_events lines macros at (characters_in u ++ after) n) before
 
   abbrev pub emitted_through : List BodyEvent
   emitted_through = emitted_within (length (characters_in u))
 
-  -- The unit gives one syllable. It gives it with its last character, and nothing of the next one.
-  -- The syllable holds the unit; which spans are open after it follows from those before. No more
-  -- is kept on the way, nor of the syllable, than the unit keeps. No bracket is left open.
+  -- The unit is read as one syllable, whole with its last character and not before, and nothing of
+  -- the next one is read. The syllable holds the unit; the spans open after it follow from those
+  -- before. No more is kept on the way, nor of the syllable, than the unit keeps. The unit leaves
+  -- no bracket open.
   pub record GivesOneSyllable : Type 0 where
     pub made : UnplacedSyllable
     pub none_earlier : (n : ℕ) → n < length (characters_in u) → all_syllables (emitted_within n) ≡ all_syllables before

@@ -1,4 +1,4 @@
--- The cutting of a body: a comment, then units, and what stands after the last `)`.
+-- The cutting of a body: a comment, then units, and the characters after the last `)`.
 --
 -- A unit is a text with the `(` that ends it, and a note part: snippets of the lines 0, 1, .. and 0
 -- again, the last of which ends at a `)`, each other at a `|`. Read one after the other, these are
@@ -14,8 +14,8 @@ use Rattle.gabc_body.specs.Events.{PartAhead, InComment, InText, InNotes, is_tex
 
 -- ---- parts
 
--- How a part ends: a text at its `(`, a snippet at a `)`, or at a `|` after which stands a snippet
--- of that line, in the notes whose `(` is there.
+-- The end of a part: of a text its `(`; of a snippet a `)`, or a `|` before a snippet on this line,
+-- in notes whose `(` is at this place.
 pub data Mark : Type 0 where
   Opens : Mark
   Next : ℕ → Place → Mark
@@ -32,7 +32,7 @@ pub record Cutting : Type 0 where
   pub pieces : List CutPart
   pub last : List Char
 
--- the characters that are cut so
+-- the characters of a cutting
 abbrev pub whole : List CutPart → List Char → List Char
 whole [] last = last
 whole (p ∷ pieces) last = p.characters ++ p.end ∷ whole pieces last
@@ -43,14 +43,14 @@ part_onward InComment = InComment
 part_onward (InText lists) = InText (other_lists lists)
 part_onward (InNotes line opened lists) = InNotes line opened (other_lists lists)
 
--- what is emitted of the characters of a part and of the point after them: the character that ends
--- the part, or the end
+-- the events of the characters of a part and of the point after them: the character that ends the
+-- part, or the end
 abbrev pub events_through : PartAhead → List Char → List (List BodyEvent)
 events_through part [] = events_in part ∷ []
 events_through part (x ∷ xs) = events_in part ∷ events_through (part_onward part) xs
 
 module _ (lines : ℕ) where
-  -- the end of a part that its first list has
+  -- the end of a part in its first list
   abbrev pub mark_in : PartAhead → Option Mark
   mark_in InComment = None
   mark_in (InText lists) = if list_any is_text_end (first_list lists) then Some Opens else None
@@ -70,7 +70,7 @@ module _ (lines : ℕ) where
   EndsAfter part (x ∷ xs) mark = (mark_in part ≡ None) × EndsAfter (part_onward part) xs mark
 
 module _ (texts : Texts) (lines macros : ℕ) where
-  -- the part that begins with the characters xs, after a part that ended so at x
+  -- the part that begins with the characters `xs`, after a part with this end at `x`
   abbrev pub part_following : Mark → Char → List Char → PartAhead
   part_following Opens x xs = snippet_from lines macros 0 x.place xs
   part_following (Next line opened) x xs = snippet_from lines macros line opened xs
@@ -81,7 +81,7 @@ module _ (texts : Texts) (lines macros : ℕ) where
   Cuts part [] last = Endless lines part last
   Cuts part (p ∷ pieces) last = EndsAfter lines part p.characters p.mark × Cuts (part_following p.mark p.end (whole pieces last)) pieces last
 
-  -- what parts emit that are cut so, one after the other
+  -- the events of parts that are cut so, one after the other
   abbrev pub events_of_cutting : PartAhead → List CutPart → List Char → List (List BodyEvent)
   events_of_cutting part [] last = events_through part last
   events_of_cutting part (p ∷ pieces) last = events_through part p.characters ++ events_of_cutting (part_following p.mark p.end (whole pieces last)) pieces last
@@ -117,8 +117,8 @@ last_characters (JustText xs) = xs
 last_characters (OpenNotes text nexts xs) = xs
 
 module _ (lines : ℕ) where
-  -- snippets that end at a `|`, from that line on in the notes whose `(` is there, and the parts
-  -- after them
+  -- snippets that end at a `|`, from this line on, in notes whose `(` is at this place, and the
+  -- parts after them
   abbrev pub snippets_with : ℕ → Place → List EndedPart → List CutPart → List CutPart
   snippets_with line opened [] more = more
   snippets_with line opened (e ∷ nexts) more =
@@ -165,7 +165,7 @@ module _ (texts : Texts) (lines macros : ℕ) where
       let ys = whole cut.pieces cut.last in
       (xs ≡ comment ++ ys) × (NoLf comment × (BeginsWithLf ys × Cuts texts lines macros (first_text texts ys) cut.pieces cut.last))
 
-  -- a body of these characters is cut so: the parts of its units are those of the body
+  -- a body of these characters has this cutting: the parts of its units are those of the body
   abbrev pub IsCut : List Char → BodyCutting → Type 0
   IsCut xs cut = IsCutFrom xs cut.comment (option_map (cutting_of lines) cut.units)
 
@@ -173,7 +173,7 @@ module _ (texts : Texts) (lines macros : ℕ) where
   events_of_parts None = events_at_end InComment ∷ []
   events_of_parts (Some cut) = events_of_cutting texts lines macros (first_text texts (whole cut.pieces cut.last)) cut.pieces cut.last
 
-  -- what a body emits that is cut so: nothing of the comment, then what each part emits through its
-  -- end, and what the last part emits
+  -- the events of a body with this cutting: none for the comment, then those of each part through
+  -- its end, and those of the last part
   abbrev pub events_of_body_cutting : BodyCutting → List (List BodyEvent)
   events_of_body_cutting cut = map (λ (x : Char). []) cut.comment ++ events_of_parts (option_map (cutting_of lines) cut.units)

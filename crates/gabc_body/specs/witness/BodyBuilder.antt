@@ -1,4 +1,4 @@
--- What the builder of a body does.
+-- The builder of a body, at a point and at the end.
 use Rattle.std.specs.Prelude.{◌+◌, ◌||◌, ◌&&◌, not, nat_lt, List, [], ◌∷◌, ◌++◌, Bool, cond, Option, Some, None}
 use Rattle.std.specs.Option.{option_map}
 use Rattle.gabc_places.specs.declared.code.Code.{Code}
@@ -12,17 +12,17 @@ use Rattle.gabc_body.specs.declared.events.BodyEvent.{BodyEvent}
 use Rattle.gabc_body.specs.Body.{is_longer, is_none, events_onto, findings_of, fault_at}
 use Rattle.gabc_body.specs.witness.Gatherer.{Gathered, with_event}
 
--- ---- what is emitted at a point
+-- ---- the events of a point
 
 abbrev pub with_all : Gathered → List BodyEvent → Gathered
 with_all g [] = g
 with_all g (t ∷ now) = with_all (with_event g t) now
 
--- what is found among these is added to what was found at the point
+-- the findings of a point, with those of these events
 abbrev pub with_found : BoundedList Finding → List BodyEvent → BoundedList Finding
 with_found r now = record r { items = r.items ++ findings_of (events_onto now []) }
 
--- which limit is passed
+-- the code of the limit that is passed, if one is
 abbrev pub code_in : Limits → Gathered → Option Code
 code_in limits g =
     cond (is_longer g.limit g.builder.kept || g.over) (Some F5)

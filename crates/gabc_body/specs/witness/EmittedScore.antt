@@ -1,4 +1,4 @@
--- What a text says as a score, by all that its body emits.
+-- The score of a text, by all events of its body.
 use Rattle.std.specs.Prelude.{ℕ, List, [], None, Result, Ok, Err}
 use Rattle.gabc_places.specs.declared.limits.Limits.{Limits}
 use Rattle.gabc_places.specs.Place.{place_after, placed_characters_after}
@@ -15,7 +15,7 @@ use Rattle.gabc_body.specs.Body.{body_of}
 use Rattle.gabc_body.specs.NoteBeforeClef.{score_events}
 use Rattle.gabc_body.specs.Score.{heads_text, after_heads, with_body, head_fault_by}
 
--- the body of a text with these headers, which ended so
+-- the body of a text with these headers and this ending
 abbrev pub emitted_body : Limits → InputEnding → List ℕ → Heads → BodyResult
 emitted_body limits ending t heads =
     let xs = placed_characters_after (heads_text t) (after_heads t) in

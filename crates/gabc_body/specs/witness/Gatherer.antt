@@ -1,4 +1,4 @@
--- What the gatherer of syllables does with what is emitted.
+-- The gatherer of syllables, by the events of a body.
 use Rattle.std.specs.Prelude.{ℕ, ◌+◌, ◌||◌, ◌^◌, ◌-◌, min, nat_lt, ◌==◌, ◌&&◌, not, List, [], ◌∷◌, ◌++◌, Bool, true, false, cond, length, Option, Some, None, is_some, codes}
 use Rattle.gabc_places.specs.declared.place.Place.{Place}
 use Rattle.gabc_places.specs.declared.place.Span.{Span}
@@ -24,10 +24,10 @@ use Rattle.gabc_body.specs.Canonical.{canonical}
 use Rattle.gabc_body.specs.Body.{is_longer, empty_snippet, has_text}
 use Rattle.gabc_body.specs.witness.SyllableBuilder.{OpenSyllable, nothing_open, with_kept, past_text, snippet_from, past_snippet, made_from}
 
--- What was gathered: `follows` says whether a syllable stands before the one that is read, `total`
--- counts the canonical bytes of the headers and of the syllables that stand before, and `over`
--- says whether one that was made is longer than the limit. `first_kind` says which came first in
--- the GABC snippets that have ended, a note or a clef.
+-- The state gathered: `follows` says whether a syllable is before the current one, `total` is the
+-- number of canonical bytes of the headers and of the syllables before it, and `over` says whether
+-- one that was made is longer than the limit. `cut` is the place of the bracket that the end left
+-- open. `first_kind` says which came first in the GABC snippets that have ended, a note or a clef.
 pub record Gathered : Type 0 where
   pub limit : ℕ
   pub builder : OpenSyllable
@@ -73,7 +73,7 @@ with_text g (text.Ended end) = with_text_end g end
 abbrev pub awaits : Option ItemKind → ℕ → Bool
 awaits first line = (line == 0) && not (is_some first)
 
--- which came first, with the snippet of that line and span
+-- which came first, once the snippet of this line and span has ended
 abbrev pub first_past : Option ItemKind → ℕ → Span → List ℕ → Option ItemKind
 first_past first line span kept = cond (awaits first line) (first_note_or_clef (items_of (text_at span kept))) first
 

@@ -1,6 +1,6 @@
--- What a body emits, where a snippet is read by what is kept of it, in place of the lists that are
--- still to come. Texts are read as in `specs/Events.antt`. It is no promise: that it is
--- `body_events` is proved.
+-- The events of a body, if a snippet is read by its kept text, in place of the lists that are still
+-- to come. Texts are read as in `specs/Events.antt`. It is no promise: that it is `body_events` is
+-- proved.
 use Rattle.std.specs.Prelude.{ℕ, nat_lt, List, [], ◌∷◌, map, Bool, true, false, cond, not, ◌&&◌, ◌==◌, Option, Some, None}
 use Rattle.std.specs.List.{list_any}
 use Rattle.gabc_places.specs.declared.place.Place.{Place}
@@ -16,7 +16,7 @@ use Rattle.gabc_nabc.specs.KeptNabc.{fate_in_nabc}
 use Rattle.gabc_notes.specs.witness.NotesByKept as notes
 use Rattle.gabc_nabc.specs.witness.NabcByKept as nabc
 
--- what is kept of a snippet, the place of the bracket that is open, and whether a comment is
+-- the kept text of a snippet, the place of its open bracket, and whether a comment is open
 pub record SnippetState : Type 0 where
   pub kept : List ℕ
   pub inner : Place
@@ -25,7 +25,7 @@ pub record SnippetState : Type 0 where
 abbrev pub fresh : SnippetState
 fresh = record { kept = []; inner = record { line = 0; column = 0 }; comment = false }
 
--- what is emitted of a character, and the state after it, unless the snippet ends
+-- the events of a character, and the state after it, unless the snippet ends
 abbrev pub notes_step : Bool → ℕ → SnippetState → Char → List NoteEvent × Option SnippetState
 notes_step split macros s x =
     let fate = fate_in_notes split s.kept x.c in

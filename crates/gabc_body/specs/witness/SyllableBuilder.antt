@@ -1,12 +1,12 @@
--- What the gatherer does with what is emitted.
+-- The syllable that a gatherer builds.
 use Rattle.std.specs.Prelude.{ℕ, ◌+◌, List, [], ◌∷◌, ◌++◌, Bool, length, encode_utf8}
 use Rattle.gabc_text.specs.TextView.{ViewContent}
 use Rattle.gabc_body.specs.declared.snippets.Snippet.{Snippet}
 use Rattle.gabc_body.specs.Syllable.{UnplacedSyllable, prefix_of}
 use Rattle.gabc_text.specs.BuiltText.{empty_view}
 
--- a syllable that is being read: its kept text, the bytes of it that stand before the part that is
--- being read, its view and snippets
+-- the current syllable: its kept text, the number of its bytes before the current part, its view
+-- and snippets
 pub record OpenSyllable : Type 0 where
   pub kept : List ℕ
   pub from : ℕ

@@ -1,4 +1,4 @@
--- Events of texts as those of a body, and characters that stand nowhere.
+-- Events of texts as those of a body, and characters without a place.
 use Rattle.std.specs.Prelude.{ℕ, List, map}
 use Rattle.gabc_places.specs.declared.place.Char.{Char}
 use Rattle.gabc_text.specs.declared.text_event.TextEvent.{TextEvent}

@@ -1,5 +1,5 @@
--- How the lists that a text emits go by what is kept of it: the kept characters, the findings and
--- the end of each list, and when the parts of the view come.
+-- The lists of a text, by its kept text: the kept characters, the findings and the end of each
+-- list, and when the parts of the view come.
 use Rattle.std.specs.Prelude.{◌≡◌, ◌≤◌, ℕ, List, [], ◌∷◌, ◌++◌, Bool, true, false, not, ◌&&◌, ◌==◌, length, reverse, encode_utf8_all, Some, None}
 use Rattle.std.specs.List.{list_any}
 use Rattle.gabc_places.specs.Fate.{Fate, Keep, Comment, Ends, LeaveOut}
@@ -38,27 +38,27 @@ PiecesStand kept (out.Kept c ∷ os) = PiecesStand (kept ++ c.c ∷ []) os
 PiecesStand kept (out.Part (part.Piece p) ∷ os) = (p.span.to ≤ length (encode_utf8_all kept)) × PiecesStand kept os
 PiecesStand kept (o ∷ os) = PiecesStand kept os
 
--- after what is kept, these events keep this, find this, and end nothing
+-- after the text `kept` these events keep `more`, have these findings, and end nothing
 pub record Says (kept more : List ℕ) (found : List Finding) (now : List TextEvent) : Type 0 where
   pub goes_on : list_any is_end now ≡ false
   pub keeps : kept_in now ≡ more
   pub finds : found_in now ≡ found
   pub stand : PiecesStand kept now
 
--- they end a text of which this is kept, with this view so far: it says then what the kept text
--- says
+-- these events end a text with this kept text, and this view so far: the view is then that of the
+-- kept text
 pub record SaysEnd (kept : List ℕ) (found : List Finding) (how : TextEnd) (view : ViewContent) (now : List TextEvent) : Type 0 where
   pub front : List TextEvent
   pub ends : now ≡ front ++ out.Ended how ∷ []
   pub says : Says kept [] found front
   pub view_is : view_past view front ≡ view_of_kept kept
 
--- what is kept of a text, the place of what is open in it, whether a comment is open, and its view
--- so far, with the lists to come
+-- the kept text of a text, the place of its opener, whether a comment is open, and its view so far,
+-- with the lists to come
 abbrev pub TextGoes : Type 1
 TextGoes = List ℕ → Place → Bool → ViewContent → List (List TextEvent) → Type 0
 
--- the first list says this, and the others go on so
+-- the first list says this, and `later` holds of the others
 abbrev pub GoesPast : TextGoes → List ℕ → List ℕ → List Finding → Place → Bool → ViewContent → List (List TextEvent) → Type 0
 GoesPast later kept more found inner comment view lists =
     Says kept more found (first_list lists) × later (kept ++ more) inner comment (view_past view (first_list lists)) (other_lists lists)
@@ -70,7 +70,7 @@ GoesBy later (LeaveOut None) x kept inner view lists = GoesPast later kept [] []
 GoesBy later (LeaveOut (Some code)) x kept inner view lists = GoesPast later kept [] (found_at (code ∷ []) x.place) inner false view lists
 GoesBy later Ends x kept inner view lists = SaysEnd kept (found_at (codes_at_end (reverse (tokens kept))) x.place) ending.Notes view (first_list lists)
 
--- a comment goes on, or ends
+-- a comment continues, or ends
 abbrev pub GoesIn : Bool → TextGoes → Char → List ℕ → Place → ViewContent → List (List TextEvent) → Type 0
 GoesIn true later x kept inner view lists = GoesPast later kept [] [] inner true view lists
 GoesIn false later x kept inner view lists = GoesBy later (fate_by 0 InText kept x.c) x kept inner view lists
@@ -84,6 +84,6 @@ abbrev pub GoesByKept : Place → List Char → TextGoes
 GoesByKept here [] kept inner comment view lists = EndsBy (is_cut (reverse (tokens kept))) here kept inner view (first_list lists)
 GoesByKept here (x ∷ xs) kept inner comment view lists = GoesIn (comment && not (x.c == 10)) (GoesByKept here xs) x kept inner view lists
 
--- every text goes so, where no count of it reaches its last value
+-- the lists of every text are so, if no count of it reaches its last value
 abbrev pub TextsGoByKept : Type 0
 TextsGoByKept = (at : Place) (t : List ℕ) → CountsFit at t → GoesByKept (place_past at t) (placed_characters_from at t) [] no_place false empty_view (events_by_point at t)

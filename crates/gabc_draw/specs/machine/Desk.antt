@@ -9,7 +9,7 @@ use Rattle.gabc_pen.specs.Notes.{pitches_of_notes}
 abbrev pub bytes_of_group : Group → Bytes
 bytes_of_group g = record { begin = g.begin; end = g.end }
 
--- what a group shows: the same as the part that is made of it
+-- the notes and syllables that a group shows: those of the part that is made of it
 abbrev pub shown_by_group : Group → List Shown
 shown_by_group g =
     cond g.is_first (Syllable (bytes_of_group g) ∷ []) []
@@ -19,7 +19,7 @@ abbrev pub shown_by_groups : List Group → List Shown
 shown_by_groups groups = flat_map shown_by_group groups
 
 -- the notes and syllables shown by the groups that are ended, by the one that is begun, and by the
--- notes of the neume that is being read, which it will show
+-- notes of the current neume, which it will show
 abbrev pub shown_on : List Group → Group → List Note → List Shown
 shown_on groups group pending =
     shown_by_groups groups

@@ -1,4 +1,4 @@
--- What the events add to the headers and the findings.
+-- The headers and the findings of events.
 use Rattle.std.specs.Prelude.{ℕ, ◌+◌, ◌≤◌, List, [], ◌∷◌, ◌++◌, Bool, false, true, cond, codes, length, nat_lt, slice_range, Result, Ok, Err, Option, Some, None}
 use Rattle.gabc_places.specs.declared.place.Place.{Place}
 use Rattle.gabc_places.specs.declared.place.Span.{Span}
@@ -20,7 +20,7 @@ use Rattle.gabc_headers.specs.Lines.{bytes_len}
 use Rattle.gabc_headers.specs.Entries.{text_at}
 use Rattle.gabc_headers.specs.machine.Spans.{IsWithin}
 
--- the headers that count, with the spans of their values, and what was found
+-- the headers that count, with the spans of their values, and the findings
 pub record Collected : Type 0 where
   pub headers : List (List ℕ × Span)
   pub findings : List Finding
@@ -38,7 +38,7 @@ AreGoodEvents text (e ∷ es) = IsGoodEvent text e × AreGoodEvents text es
 abbrev pub finding_at : ℕ → Code → Finding
 finding_at k code = record { place = line_place k; code = code }
 
--- after an event
+-- the headers and findings after an event
 abbrev pub collected_with : List ℕ → HeaderEvent → Collected → Collected
 collected_with text (LeftOut k p) c = record { headers = c.headers; findings = c.findings ++ finding_at k E4 ∷ [] }
 collected_with text (Header k name value p) c =
@@ -49,7 +49,7 @@ collected_with text (Header k name value p) c =
     })
     (record { headers = c.headers; findings = c.findings ++ finding_at k E5 ∷ [] })
 
--- what is found at an event
+-- the findings of an event
 abbrev pub found_with : List ℕ → HeaderEvent → Collected → List Finding
 found_with text (LeftOut k p) c = finding_at k E4 ∷ []
 found_with text (Header k name value p) c =
@@ -64,12 +64,12 @@ of_headers headers = record { headers = headers; findings = [] }
 abbrev pub none : Collected
 none = of_headers []
 
--- what is found, if something is
+-- the finding as a list, if there is one
 abbrev pub found_list : Option Finding → List Finding
 found_list None = []
 found_list (Some finding) = finding ∷ []
 
--- after all of them
+-- the headers and findings after all of these events
 abbrev pub collected_with_all : List ℕ → List HeaderEvent → Collected → Collected
 collected_with_all text [] c = c
 collected_with_all text (e ∷ es) c = collected_with_all text es (collected_with text e c)
@@ -92,7 +92,8 @@ abbrev pub heads_at_score : Limits → Place → ℕ → Option ℕ → List (Li
 heads_at_score limits place body None book findings = heads_at_body limits place body book findings
 heads_at_score limits place body (Some k) book findings = Err (fault_in_value k false findings)
 
--- what stops the headers at the line `%%`, or how many bytes their canonical lines have
+-- the fault that stops the headers at the line `%%`, or the number of bytes of their canonical
+-- lines
 abbrev pub len_at_score : Limits → Place → Option ℕ → List (List ℕ × List ℕ) → Result ℕ Fault
 len_at_score limits place (Some k) book = Err (record { place = line_place k; code = F3 })
 len_at_score limits place None book =
@@ -100,7 +101,7 @@ len_at_score limits place None book =
     cond (nat_lt limits.header size) (Err (record { place = place; code = F4 }))
     (cond (nat_lt limits.input (size + 3)) (Err (record { place = place; code = F7 })) (Ok size))
 
--- what stops the headers at the end of the text, in an open value or outside
+-- the fault that stops the headers at the end of the text, in an open value or outside
 abbrev pub end_fault : Place → Option ℕ → Fault
 end_fault place None = record { place = place; code = F2 }
 end_fault place (Some k) = record { place = line_place k; code = F3 }
@@ -109,6 +110,6 @@ abbrev pub fault_at_end : Place → Option ℕ → List Finding → HeadFault
 fault_at_end place None findings = record { fault = record { place = place; code = F2 }; findings = findings; at_end = true }
 fault_at_end place (Some k) findings = fault_in_value k true findings
 
--- no header `name`
+-- W1, if there is no header `name`
 abbrev pub name_found : Place → List (List ℕ × List ℕ) → List Finding
 name_found place book = cond (has_header (codes "name") book) [] (record { place = place; code = W1 } ∷ [])

@@ -1,4 +1,4 @@
--- What is gathered: names with values, each name at the place of its first and with the value of
+-- The map of headers: names with values, each name at the place of its first and with the value of
 -- its last.
 use Rattle.std.specs.Prelude.{ℕ, ◌+◌, ◌<◌, ◌≤◌, ◌≡◌, length, map, max, List, [], ◌∷◌, Bool, true, false, not, ◌&&◌, IsUtf8}
 use Rattle.std.specs.Str.{chars}
@@ -11,8 +11,8 @@ use Rattle.gabc_headers.specs.Entries.{key_name, text_at}
 use Rattle.gabc_headers.specs.machine.Spans.{IsWithin}
 use Rattle.gabc_headers.specs.EntryMap.{is_annotation}
 
--- what a map of headers shows: the keys with the spans of their values, for how many it has room,
--- and from where it hashes names
+-- the state that a map of headers shows: the keys with the spans of their values, the number of
+-- headers for which it has room, and its hasher of names
 abbrev pub EntryMapState : Type 0
 EntryMapState = List (Key × Span) × ℕ × DefaultHasher
 
@@ -63,7 +63,7 @@ abbrev pub AreWithin : {K : Type 0} → List ℕ → List (K × Span) → Type 0
 AreWithin text [] = Unit {0}
 AreWithin text (e ∷ es) = IsWithin text e.1 × AreWithin text es
 
--- the end of the last of these spans, or 0
+-- the largest end of these spans, or 0
 abbrev pub values_end : {K : Type 0} → List (K × Span) → ℕ
 values_end [] = 0
 values_end (e ∷ es) = max e.1.to (values_end es)

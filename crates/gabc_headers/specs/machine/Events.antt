@@ -1,4 +1,4 @@
--- What the machine's events and its end stand for.
+-- The meaning of the machine's events and of its end.
 use Rattle.std.specs.Prelude.{◌≡◌, ℕ, ◌+◌, ◌<◌, ◌≤◌, List, [], ◌∷◌, ◌++◌, true, false, length, take, Option, Some, None}
 use Rattle.gabc_places.specs.declared.place.Span.{Span}
 use Rattle.gabc_places.specs.declared.code.Code.TheVariants.{F4}
@@ -60,7 +60,7 @@ abbrev pub open_part : Option ℕ → List HeaderPart
 open_part None = []
 open_part (Some k) = unended k ∷ []
 
--- the headers end so, at this point, where these parts are not emitted
+-- the headers end so, at this point, and these parts are not emitted
 abbrev pub EndsAs : ℕ → List ℕ → List HeaderPart → ℕ → HeaderEnding → Type 0
 EndsAs limit t rest stop (Score place body line) =
     (has_score (lines t) ≡ true) × (text_stops limit t ≡ []) × (stop ≡ head_len t + 1) × (place ≡ place_after (take (head_len t) t))

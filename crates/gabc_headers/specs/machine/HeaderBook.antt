@@ -1,4 +1,4 @@
--- What holds of a book.
+-- The invariant of a book.
 use Rattle.std.specs.Prelude.{ℕ, ◌<◌, ◌^◌, List}
 use Rattle.gabc_places.specs.declared.place.Span.{Span}
 use Rattle.gabc_headers.specs.declared.entry_map.Key.{Key}

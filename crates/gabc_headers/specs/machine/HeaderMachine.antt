@@ -38,7 +38,7 @@ abbrev pub then_take : HeaderMachine → HeaderStep → ℕ → HeaderMachine ×
 then_take r (Ended end) c = (r, Ended end)
 then_take r (Read event) c = take_one r c
 
--- after a `%` that is held back
+-- the step after a pending `%` at the beginning of a line
 abbrev pub held_push : HeaderMachine → ℕ → HeaderMachine × HeaderStep
 held_push r c = cond (c == 37) (r, Ended (Score r.place (r.bytes + 2) (open_in r.parts.state r.parts.header)))
     (then_take (take_one (record r { held = false }) 37).0 (take_one (record r { held = false }) 37).1 c)

@@ -1,4 +1,4 @@
--- What holds of a stage of headers where it stands.
+-- The invariant of a stage of headers, by its part.
 use Rattle.std.specs.Prelude.{◌≡◌, ℕ, ◌+◌, ◌/◌, ◌≤◌, List, [], ◌∷◌, Option}
 use Rattle.std.specs.Str.{chars}
 use Rattle.gabc_places.specs.declared.limits.Limits.{Limits}
@@ -23,7 +23,7 @@ Takes r es (c ∷ t) last all =
 abbrev pub headers_within : Limits → ℕ
 headers_within limits = limits.header / 3 + 1
 
--- In the headers: the machine has read the text, and what it emitted of headers is put.
+-- In the headers: the machine has read the text, and the headers that it emitted are in the map.
 pub record IsReading (limits : Limits) (text : List ℕ) (room : ℕ) (machine : HeaderMachine) (headers : EntryMapState) : Type 0 where
   pub events : List HeaderEvent
   pub taken : Takes (fresh_machine limits.header) [] (chars text) machine events

@@ -1,4 +1,4 @@
--- What stands round the value of a header on its canonical lines.
+-- The characters around the value of a header on its canonical lines.
 use Rattle.std.specs.Prelude.{ℕ, List, [], ◌∷◌, Bool, cond, codes}
 
 abbrev pub before_value : Bool → List ℕ → List ℕ

@@ -1,5 +1,6 @@
--- The part machine's steps, as the code has them; `next` is the place after the character. The
--- contract of `events_of_headers` does not rest on them: they are proved to do what it says.
+-- The part machine's steps, as the code has them; `at` is the point of the character, and `next`
+-- the byte after it. The contract of `events_of_headers` does not rest on them: they are proved to
+-- do what it says.
 use Rattle.std.specs.Prelude.{ℕ, ◌+◌, ◌-◌, Bool, true, false, ◌&&◌, cond, nat_lt, nat_le, Option, Some, None}
 use Rattle.gabc_places.specs.declared.place.Span.{Span}
 use Rattle.gabc_headers.specs.declared.characters.HeaderChar.{HeaderChar}

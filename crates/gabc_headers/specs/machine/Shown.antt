@@ -1,4 +1,4 @@
--- What is collected, without the room for it.
+-- The headers and findings collected, without the room for them.
 use Rattle.gabc_headers.specs.declared.collected.Collected.{Collected as Room}
 use Rattle.gabc_headers.specs.machine.Collected.{Collected}
 use Rattle.gabc_headers.specs.machine.EntryMap.{named_entries}

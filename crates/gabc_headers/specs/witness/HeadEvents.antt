@@ -1,5 +1,5 @@
--- What a stage of headers will still emit, in any state. Nobody has to believe it: the laws state
--- what a fresh stage emits.
+-- The events that a stage of headers has left, in any state. Nobody has to believe it: the laws
+-- state what a fresh stage emits.
 use Rattle.std.specs.Prelude.{ℕ, List, [], ◌∷◌, ◌++◌, if◌then◌else◌, length, drop, map, Result, Ok, Err}
 use Rattle.std.specs.declared.hash.DefaultHasher.{DefaultHasher}
 use Rattle.gabc_places.specs.declared.place.Char.{Char}
@@ -13,7 +13,7 @@ use Rattle.gabc_headers.specs.declared.head_event.HeadEvent.TheVariants.{Found, 
 use Rattle.gabc_headers.specs.Heads.{heads_of, findings_of}
 use Rattle.gabc_headers.specs.HeadEvents.{event_of_book}
 
--- where a header stage stands
+-- the progress of a stage of headers
 pub data HeadProgress : Type 0 where
   -- in the headers, of which this text is read
   reading : List ℕ → HeadProgress
@@ -26,8 +26,8 @@ pub data HeadProgress : Type 0 where
 abbrev pub new_findings : Limits → List ℕ → List ℕ → List Finding
 new_findings limits before after = drop (length (findings_of (heads_of limits before))) (findings_of (heads_of limits after))
 
--- Of a character: the text with it is stopped, by something else than its end; or what is found
--- more, and the headers if they are whole.
+-- The events of a character: a stop, if something else than the end stops the text with it; else
+-- the further findings, and the headers if they are whole.
 abbrev pub events_by : List Finding → Result Heads HeadFault → List HeadEvent
 events_by found (Ok heads) = map (λ f. Found f) found ++ event_of_book heads.book ∷ []
 events_by found (Err stopped) = if stopped.at_end then map (λ f. Found f) found else Stop stopped.fault ∷ []
@@ -39,12 +39,12 @@ abbrev pub progress_by : List ℕ → Result Heads HeadFault → HeadProgress
 progress_by t (Ok heads) = after_headers heads.book
 progress_by t (Err stopped) = if stopped.at_end then reading t else over
 
--- what stops the headers at the end of their text
+-- the stop of the headers at the end of their text
 abbrev pub events_at_end : Result Heads HeadFault → List HeadEvent
 events_at_end (Ok heads) = []
 events_at_end (Err stopped) = Stop stopped.fault ∷ []
 
--- what is given of an input: in the headers, after them, and after the last event
+-- the events of an input: in the headers, after them, and after the last event
 abbrev pub events_of_input : Limits → HeadProgress → Result Char Fault → List HeadEvent
 events_of_input limits (reading t) (Ok c) = events_at limits t c.c
 events_of_input limits (reading t) (Err fault) = Stop fault ∷ []
@@ -52,7 +52,7 @@ events_of_input limits (after_headers book) (Ok c) = Body c ∷ []
 events_of_input limits (after_headers book) (Err fault) = Stop fault ∷ []
 events_of_input limits over x = []
 
--- where a stage stands that has read one character more of the headers
+-- the progress after one character more of the headers
 abbrev pub progress_with : Limits → List ℕ → ℕ → HeadProgress
 progress_with limits t c = progress_by (t ++ c ∷ []) (heads_of limits (t ++ c ∷ []))
 
@@ -63,19 +63,19 @@ progress_after limits over x = over
 progress_after limits (reading t) (Err fault) = over
 progress_after limits (after_headers book) (Err fault) = over
 
--- what is given of the end of the inputs
+-- the events of the end of the inputs
 abbrev pub events_of_end : Limits → HeadProgress → List HeadEvent
 events_of_end limits (reading t) = events_at_end (heads_of limits t)
 events_of_end limits (after_headers book) = End ∷ []
 events_of_end limits over = []
 
--- a list for each input to come, and one for the end
+-- the events left: a list for each input to come, and one for the end
 abbrev pub events_left : Limits → HeadProgress → List (Result Char Fault) → List (List HeadEvent)
 events_left limits progress [] = events_of_end limits progress ∷ []
 events_left limits progress (x ∷ xs) = events_of_input limits progress x ∷ events_left limits (progress_after limits progress x) xs
 
--- what a stage of headers shows: its limits, where it stands, once the line `%%` is read the
--- headers, and from where it hashes names
+-- the state that a stage of headers shows: its limits, its progress, the headers once the line `%%`
+-- is read, and its hasher of names
 pub record HeaderStageState : Type 0 where
   pub limits : Limits
   pub progress : HeadProgress
@@ -86,7 +86,7 @@ pub record HeaderStageState : Type 0 where
 abbrev pub fresh_stage : Limits → DefaultHasher → HeaderStageState
 fresh_stage limits hasher = record { limits = limits; progress = reading []; book = []; hasher = hasher }
 
--- the headers are kept from where they are whole
+-- the headers are kept once they are whole
 abbrev pub book_at : HeadProgress → List (List ℕ × List ℕ) → List (List ℕ × List ℕ)
 book_at (after_headers book) old = book
 book_at (reading t) old = old
@@ -98,7 +98,7 @@ stage_at s progress = record s { progress = progress; book = book_at progress s.
 abbrev pub stage_after : HeaderStageState → Result Char Fault → HeaderStageState
 stage_after s x = stage_at s (progress_after s.limits s.progress x)
 
--- after all of these
+-- the stage after all of these inputs
 abbrev pub stage_past : HeaderStageState → List (Result Char Fault) → HeaderStageState
 stage_past s [] = s
 stage_past s (x ∷ xs) = stage_past (stage_after s x) xs

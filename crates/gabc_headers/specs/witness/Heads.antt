@@ -1,4 +1,4 @@
--- What is found in the headers of a text, and what stops them, by the parts of its lines.
+-- The findings in the headers of a text, and the faults that stop them, by the parts of its lines.
 use Rattle.std.specs.Prelude.{ℕ, List, Option, Result}
 use Rattle.gabc_places.specs.declared.limits.Limits.{Limits}
 use Rattle.gabc_places.specs.Findings.{Known, Stop}

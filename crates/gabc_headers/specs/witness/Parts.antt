@@ -4,8 +4,8 @@ use Rattle.std.specs.Prelude.{ℕ, ◌+◌, List, [], ◌∷◌, ◌++◌, ◌||
 use Rattle.gabc_headers.specs.Lines.{is_bare, has_mark, before_mark, mark_end, has_colon, before_colon, after_colon, lines, head_of}
 use Rattle.gabc_headers.specs.Parts.{HeaderPart, left_out, unended, name_of, bad_name_parts, ended_parts}
 
--- a line stands outside of the headers' values, or within the value of a header: the header's line,
--- its name (unless the header is left out), and the value so far
+-- a line is outside of the headers' values, or within the value of a header: the header's line, its
+-- name (unless the header is left out), and the value so far
 pub data LineContext : Type 0 where
   outside : LineContext
   within : ℕ → Option (List ℕ) → List ℕ → LineContext
@@ -21,7 +21,7 @@ parts_of_line outside k n l =
 parts_of_line (within j name v) k n l =
     cond (has_mark 2 l) (ended_parts j name (v ++ 10 ∷ before_mark 2 l) (n + mark_end 2 l)) []
 
--- where the line below line k stands
+-- the context of the line below line k
 abbrev pub context_below : LineContext → ℕ → List ℕ → LineContext
 context_below outside k l = cond (is_bare l || (not (has_colon l) || has_mark 1 (after_colon l))) outside (within k (name_of l) (after_colon l))
 context_below (within j name v) k l = cond (has_mark 2 l) outside (within j name (v ++ 10 ∷ l))
@@ -30,7 +30,8 @@ abbrev pub parts_left_open : LineContext → List HeaderPart
 parts_left_open outside = []
 parts_left_open (within j name v) = unended j ∷ []
 
--- the parts of these lines, the first of which stands there, has the number k and begins at point n
+-- the parts of these lines, the first of which is in this context, has the number k and begins at
+-- point n
 abbrev pub parts : LineContext → ℕ → ℕ → List (List ℕ) → List HeaderPart
 parts w k n [] = parts_left_open w
 parts w k n (l ∷ ls) = parts_of_line w k n l ++ parts (context_below w k l) (k + 1) (n + (length l + 1)) ls

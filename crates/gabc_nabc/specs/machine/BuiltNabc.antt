@@ -1,4 +1,4 @@
--- What is gathered of a stage's events. It is no promise.
+-- The values gathered from a stage's events. It is no promise.
 use Rattle.std.specs.Prelude.{ℕ, List, [], ◌∷◌, ◌++◌, Option, Some, None, string_bytes, encode_utf8}
 use Rattle.gabc_places.specs.declared.code.Finding.{Finding}
 use Rattle.gabc_notes.specs.declared.stage.NoteEnd.{NoteEnd}

@@ -1,5 +1,4 @@
--- The machine that reads parts a character at a time. It is no promise: that it reads the table is
--- proved.
+-- The ends of parts, and a text for each state of the machine over parts.
 use Rattle.std.specs.Prelude.{ℕ, List, [], Bool, true, false, codes, Option, Some, None}
 use Rattle.gabc_nabc.specs.declared.state.DescriptorState.{DescriptorState}
 use Rattle.gabc_nabc.specs.declared.state.DescriptorState.TheVariants.{Start, CodeL, CodeP, CodeS, Code, Glyph, Modified, GlyphH, Pitched, Joined, TailL, TailP, TailS, Points, PointsLetter, Letters, LettersMore, Counted, CountedH, Tail, Slash, Tick, Space}

@@ -12,11 +12,11 @@ abbrev pub regular_by : RegularState → ℕ → Option DescriptorState → Opti
 regular_by r c None = None
 regular_by r c (Some z) = if is_missing (first_at r.part r.letter) c then None else Some (record { part = z; letter = c })
 
--- where the reading stands after a character, if that is kept and nothing is found at it
+-- the state after a character, if it is kept and nothing is found at it
 abbrev pub regular_after : RegularState → ℕ → Option RegularState
 regular_after r c = regular_by r c (next_state r.part (class_of_character c))
 
--- a code that has a name, with a character after it that stands in no snippet
+-- a code that has a name, with a character after it that is in no snippet
 pub record IsLoneCode (bytes : List ℕ) : Type 0 where
   pub ends : 2 < length bytes
   pub named : is_known (slice_index bytes 0) (slice_index bytes 1) ≡ true

@@ -40,7 +40,7 @@ is_a_pitch LetterP = true
 is_a_pitch Pitch = true
 is_a_pitch _ = false
 
--- a code begins
+-- the state in which a code begins
 abbrev pub code_begun : NabcClass → Option DescriptorState
 code_begun LetterL = Some CodeL
 code_begun LetterP = Some CodeP
@@ -51,13 +51,13 @@ code_begun Pitch = Some Code
 code_begun Letter = Some Code
 code_begun _ = None
 
--- a part begins
+-- the state in which a part begins
 abbrev pub part_begun : NabcClass → Option DescriptorState
 part_begun SlashC = Some Slash
 part_begun TickC = Some Tick
 part_begun k = code_begun k
 
--- points or letters begin
+-- the state in which points or letters begin
 abbrev pub in_tail : NabcClass → Option DescriptorState
 in_tail LetterL = Some TailL
 in_tail LetterP = Some TailP
@@ -67,7 +67,7 @@ in_tail _ = None
 abbrev pub some_if : Bool → DescriptorState → Option DescriptorState
 some_if b s = if b then Some s else None
 
--- the part goes on
+-- the state in which the part continues
 abbrev pub going_on : DescriptorState → NabcClass → Option DescriptorState
 going_on Start k = part_begun k
 going_on CodeL LetterS = None
@@ -112,7 +112,7 @@ going_on Slash SlashC = Some Space
 going_on Tick TickC = Some Space
 going_on _ _ = None
 
--- where the reading stands if the part ended at its longest so far
+-- the state to fall back to, if the part ended at its longest so far
 abbrev pub falling_back : DescriptorState → Option DescriptorState
 falling_back Glyph = Some Start
 falling_back Modified = Some Start
@@ -131,11 +131,11 @@ abbrev pub on_at : Option DescriptorState → NabcClass → Option DescriptorSta
 on_at (Some s) k = going_on s k
 on_at None k = None
 
--- the part goes on, or it ended at its longest and the reading goes on from there
+-- the part continues, or it ended at its longest and the reading continues from there
 abbrev pub next_state : DescriptorState → NabcClass → Option DescriptorState
 next_state s k = option_or (going_on s k) (on_at (falling_back s) k)
 
--- what was read is an NABC snippet
+-- the text read so far is an NABC snippet
 abbrev pub whole_at : DescriptorState → Bool
 whole_at Start = true
 whole_at Glyph = true
@@ -148,7 +148,7 @@ whole_at Tick = true
 whole_at Space = true
 whole_at _ = false
 
--- the first letter of a code, by the last character kept
+-- the last character kept may be the first letter of a code
 abbrev pub awaits : DescriptorState → Bool
 awaits Code = true
 awaits CodeL = true
@@ -166,7 +166,7 @@ abbrev pub whole_if : Option DescriptorState → Bool
 whole_if None = false
 whole_if (Some z) = whole_at z
 
--- what is known of a character by the state before it and the next one
+-- the facts about a character, by the state before it and the next one
 abbrev pub facts_by_states : DescriptorState → Option DescriptorState → ℕ → ℕ → NabcFacts
 facts_by_states s o a c = record { whole = whole_at s; viable = is_some o; whole_after = whole_if o; unknown = is_missing (first_at s a) c }
 
@@ -189,8 +189,8 @@ event_list g = option_to_list g.first ++ option_to_list g.second
 abbrev pub comment_in : Bool → ℕ → Bool
 comment_in b c = (c == 37) || (b && not (c == 10))
 
--- the stage after a character that is kept outside a comment, where `whole` says that the kept
--- text with it is a snippet
+-- the stage after a character that is kept outside a comment; `whole` says whether the kept text
+-- with it is a snippet
 abbrev pub stage_kept : NabcStage → DescriptorState → Bool → ℕ → NabcStage
 stage_kept st z whole c = record st {
   state = z;
@@ -220,18 +220,18 @@ facts_at st c = facts_by_states st.state (next_at st c) st.letter c
 abbrev pub role_at : NabcStage → ℕ → NabcRole
 role_at st c = role_in st.comment (is_some (next_at st c)) c
 
--- what a character emits, and the stage after it
+-- the events of a character, and the stage after it
 abbrev pub stage_events_at : NabcStage → Char → List NoteEvent
 stage_events_at st x = if st.ended then [] else event_list (events_in (role_at st x.c) (facts_at st x.c) st.whole x)
 
 abbrev pub stage_after : NabcStage → ℕ → NabcStage
 stage_after st c = if st.ended then st else stage_moved_on st (role_at st c) (facts_at st c) (next_at st c) c
 
--- what the end emits
+-- the events of the end
 abbrev pub events_of_cut : NabcStage → List NoteEvent
 events_of_cut st = if st.ended then [] else Ended (Cut (record { line = 0; column = 0 })) st.kept ∷ []
 
--- What a stage will still emit for these characters and then the end.
+-- The events that a stage has left for these characters and then the end.
 abbrev pub events_left : NabcStage → List Char → List (List NoteEvent)
 events_left st [] = events_of_cut st ∷ []
 events_left st (x ∷ xs) = stage_events_at st x ∷ events_left (stage_after st x.c) xs

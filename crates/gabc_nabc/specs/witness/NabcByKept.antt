@@ -1,5 +1,5 @@
--- What is emitted of an NABC snippet by what is kept of it and whether a comment is open. It is no
--- promise: that it is `nabc_events` is proved.
+-- The events of an NABC snippet, by its kept text and whether a comment is open. It is no promise:
+-- that it is `nabc_events` is proved.
 use Rattle.std.specs.Prelude.{ℕ, List, [], ◌∷◌, ◌++◌, Bool, true, false, cond, not, ◌==◌, Some, None}
 use Rattle.gabc_places.specs.Fate.{Fate, Keep, Comment, Ends, LeaveOut}
 use Rattle.gabc_places.specs.StageLaw.{silence}
@@ -14,7 +14,7 @@ use Rattle.gabc_nabc.specs.Table.{nabc}
 use Rattle.gabc_nabc.specs.Events.{bytes_in}
 use Rattle.gabc_nabc.specs.KeptNabc.{fate_in_nabc, found_in_nabc, found_at_end}
 
--- what is emitted of a character of that fate
+-- the events of a character of this fate
 abbrev pub emitted_by : Fate → List ℕ → Char → List NoteEvent
 emitted_by Keep kept x = Kept x ∷ all_found (found_in_nabc kept x.c) x.place x.place
 emitted_by Comment kept x = []
@@ -22,8 +22,8 @@ emitted_by Ends kept x = all_found (found_at_end kept) x.place x.place ++ Ended 
 emitted_by (LeaveOut None) kept x = []
 emitted_by (LeaveOut (Some code)) kept x = finding_event x.place code ∷ []
 
--- What is emitted of these characters, a list for each, and of their end. A comment goes on up to
--- an LF.
+-- The events of these characters, a list for each, and of their end. A comment continues up to an
+-- LF.
 abbrev pub events_past : List ℕ → Bool → List Char → List (List NoteEvent)
 events_past kept comment [] = (Ended (Cut (record { line = 0; column = 0 })) (bytes_in kept) ∷ []) ∷ []
 events_past kept true (x ∷ xs) = [] ∷ events_past kept (not (x.c == 10)) xs

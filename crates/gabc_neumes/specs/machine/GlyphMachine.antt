@@ -16,12 +16,12 @@ use Rattle.gabc_neumes.specs.declared.state.JoinedBase.TheVariants as joined
 use Rattle.gabc_neumes.specs.declared.state.GlyphState.{GlyphState}
 use Rattle.gabc_neumes.specs.declared.state.GlyphState.TheVariants.{Start, One, Plain, Falling, Half, Climacus, Resumed, ResumedClimacus}
 
--- the class of a note of that shape at the height here, after one at the height before
+-- the class of a note of this shape at the height `here`, after one at the height `before`
 abbrev pub step_class : Shape → ℕ → ℕ → NoteClass
 step_class shape.Inclinatum before here = if nat_lt here before then PointDown else if nat_lt before here then PointUp else PointLevel
 step_class s before here = if is_joinable s then (if nat_lt here before then Down else if nat_lt before here then Up else Level) else Other
 
--- the class of a note, where the note before it is at that height, or there is none
+-- the class of a note, by the height of the note before it, if there is one
 abbrev pub class_at : Option ℕ → Note → NoteClass
 class_at None n = First n.shape
 class_at (Some before) n = step_class n.shape before n.height
@@ -78,7 +78,7 @@ plain_of (Some j) = Some (Plain j)
 abbrev pub state_if : Bool → GlyphState → Option GlyphState
 state_if b s = if b then Some s else None
 
--- the state after a note more, if a glyph goes on with it
+-- the state after a note more, if a glyph continues with it
 abbrev pub next_state : GlyphState → NoteClass → Option GlyphState
 next_state Start (First s) = Some (One s)
 next_state (One shape.Inclinatum) PointUp = Some (One shape.Inclinatum)
@@ -123,7 +123,7 @@ kind_at_end (Resumed j) = some_kind (base_of j) tail.Resupinus
 kind_at_end Climacus = some_kind base.Climacus tail.Plain
 kind_at_end ResumedClimacus = some_kind base.Climacus tail.Resupinus
 
--- letters that end in that state
+-- letters after which the machine is in this state
 abbrev pub joined_example : JoinedBase → List ℕ
 joined_example joined.Pes = codes "pU"
 joined_example joined.Clivis = codes "pD"

@@ -11,14 +11,14 @@ use Rattle.gabc_neumes.specs.declared.glyph.GlyphKind.{GlyphKind}
 use Rattle.gabc_neumes.specs.declared.glyphs.GlyphSearch.{GlyphSearch}
 use Rattle.gabc_neumes.specs.declared.state.GlyphState.{GlyphState}
 
--- The longest glyph that begins the notes is of that kind and has that many.
+-- The longest glyph that begins the notes is of this kind and has `count` notes.
 pub record IsFirstGlyph (notes : List Note) (kind : GlyphKind) (count : ℕ) : Type 0 where
   pub some : 0 < count
   pub within : count ≤ length notes
   pub item : IsItemOf neumes kind (take count (letters notes))
   pub none : (m : ℕ) → count < m → m ≤ length (letters notes) → ¬ IsItem neumes (take m (letters notes))
 
--- a search after a note more, if a glyph may go on with it
+-- a search after a note more, if a glyph may continue with it
 abbrev pub search_with : GlyphSearch → Note → Option GlyphSearch
 search_with s note =
     option_map

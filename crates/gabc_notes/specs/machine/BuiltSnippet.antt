@@ -1,4 +1,4 @@
--- What is gathered of the events of a stage.
+-- The values gathered from the events of a stage.
 use Rattle.std.specs.Prelude.{◌≡◌, ℕ, List, [], ◌∷◌, ◌++◌, Option, Some, None, string_bytes, encode_utf8}
 use Rattle.gabc_places.specs.declared.code.Finding.{Finding}
 use Rattle.gabc_places.specs.declared.place.Char.{Char}
@@ -29,13 +29,13 @@ with_events h (o ∷ os) = with_events (with_event h o) os
 abbrev pub no_snippet : BuiltSnippet
 no_snippet = record { kept = []; findings = []; end = None }
 
--- what a push gave was added
+-- the events of a push were added
 pub record PushIsAdded (old new : NoteStage) (x : Char) (before after : BuiltSnippet) : Type 0 where
   pub events : List NoteEvent
   pub law : (xs : List Char) → events_left old (x ∷ xs) ≡ events ∷ events_left new xs
   pub built : after ≡ with_events before events
 
--- what the end gave was added
+-- the events of the end were added
 pub record EndIsAdded (stage : NoteStage) (before after : BuiltSnippet) : Type 0 where
   pub events : List NoteEvent
   pub law : events_left stage [] ≡ events ∷ []

@@ -24,7 +24,7 @@ use Rattle.gabc_notes.specs.declared.state.FullItem.TheVariants.{Alteration, Cle
 use Rattle.gabc_notes.specs.declared.state.ItemState.{ItemState}
 use Rattle.gabc_notes.specs.declared.state.ItemState.TheVariants.{Start, Dash, DashPitch, Body, Pitch, ClefPitch, ClefFlat, Clef, Join, JoinPitch, JoinFlat, Altered, Sharp, Bar, Colon, BarAsked, BarSigned, Slash, Blanks, SmallZ, CapitalZ, Raw, SlashRaw, At, Done}
 
--- an item begins
+-- the state in which an item begins
 abbrev pub begun_item : CharClass → Option ItemState
 begun_item Hyphen = Some Dash
 begun_item ClefLetter = Some ClefPitch
@@ -67,7 +67,7 @@ in_break Plus = Some (Done Break)
 in_break Hyphen = Some (Done Break)
 in_break _ = None
 
--- the item goes on
+-- the state in which the item continues
 abbrev pub going_on : ItemState → CharClass → Option ItemState
 going_on Start k = begun_item k
 going_on (Done f) k = None
@@ -118,7 +118,7 @@ going_on SlashRaw k = Some SlashRaw
 going_on At Open = Some (Done Fusion)
 going_on _ _ = None
 
--- where the reading stands if the item ended at its longest so far
+-- the state to fall back to, if the item ended at its longest so far
 abbrev pub falling_back : ItemState → Option ItemState
 falling_back Start = None
 falling_back Dash = None
@@ -130,7 +130,7 @@ falling_back JoinFlat = Some Pitch
 falling_back Join = Some At
 falling_back _ = Some Start
 
--- the item goes on, or a new one begins
+-- the item continues, or a new one begins
 abbrev pub next_or_begun : ItemState → CharClass → Option ItemState
 next_or_begun s k = option_or (going_on s k) (begun_item k)
 
@@ -138,11 +138,11 @@ abbrev pub next_or_begun_at : Option ItemState → CharClass → Option ItemStat
 next_or_begun_at (Some s) k = next_or_begun s k
 next_or_begun_at None k = None
 
--- the item goes on, or it ended at its longest and the reading goes on from there
+-- the item continues, or it ended at its longest and the reading continues from there
 abbrev pub next_state : ItemState → CharClass → Option ItemState
 next_state s k = option_or (going_on s k) (next_or_begun_at (falling_back s) k)
 
--- a pitch but `b` begins an item
+-- in this state a pitch but `b` begins an item
 abbrev pub begins_item : ItemState → Bool
 begins_item Dash = false
 begins_item Join = false
@@ -150,7 +150,7 @@ begins_item Raw = false
 begins_item SlashRaw = false
 begins_item _ = true
 
--- a suffix or sign goes on with a note
+-- in this state a suffix or sign continues a note
 abbrev pub goes_on_note : ItemState → Bool
 goes_on_note DashPitch = true
 goes_on_note Body = true
@@ -188,7 +188,7 @@ kind_at_end CapitalZ = Some BreakK
 kind_at_end At = Some FusionK
 kind_at_end _ = None
 
--- what was read is a snippet
+-- the text read so far is a snippet
 abbrev pub whole_at : ItemState → Bool
 whole_at Dash = false
 whole_at Raw = false
@@ -205,7 +205,7 @@ attribute_state (Done Attribute) = true
 attribute_state _ = false
 
 -- The character, of one byte and no mark, brings the reading from a state outside raw to another,
--- at which what was read is a snippet.
+-- at which the text read so far is a snippet.
 pub record IsShortStep (s : ItemState) (c : ℕ) (next : ItemState) : Type 0 where
   pub step : next_state s (class_of_character c) ≡ Some next
   pub outside : raw_state s ≡ false
@@ -222,12 +222,12 @@ abbrev pub digit_of_prefix : MacroPrefix → Option ℕ
 digit_of_prefix (Last c) = digit_if (is_digit c) c
 digit_of_prefix _ = None
 
--- what is known of a character by the state before it and the next one
+-- the facts about a character, by the state before it and the next one
 abbrev pub facts_by_states : ItemState → Option ItemState → MacroPrefix → CharFacts
 facts_by_states s None n = record { raw = raw_state s; whole = whole_at s; viable = false; raw_after = false; whole_after = false; attribute = false; digit = digit_of_prefix n }
 facts_by_states s (Some z) n = record { raw = raw_state s; whole = whole_at s; viable = true; raw_after = raw_state z; whole_after = whole_at z; attribute = attribute_state z; digit = digit_of_prefix n }
 
--- what a bracket holds with a character more
+-- the content of a bracket with a character more
 abbrev pub prefix_with : MacroPrefix → ℕ → MacroPrefix
 prefix_with Closed c = if c == 91 then Opened else Other
 prefix_with Opened c = if is_in c (codes "nge") then Letter else Other

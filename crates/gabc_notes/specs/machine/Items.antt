@@ -1,4 +1,4 @@
--- The items of a kept text by the bytes where they begin and end.
+-- The longest item that begins a text, by its bytes.
 use Rattle.std.specs.Prelude.{◌<◌, ◌≤◌, ◌||◌, ◌&&◌, nat_le, ℕ, Bool, List, length, take, drop}
 use Rattle.std.specs.Str.{chars, IsUtf8}
 use Rattle.gabc_patterns.specs.LongestItems.{Longest, IsItem, IsItemOf}

@@ -12,20 +12,19 @@ use Rattle.gabc_notes.specs.declared.state.FullItem.TheVariants.{Attribute, Spac
 use Rattle.gabc_notes.specs.declared.state.ItemState.{ItemState}
 use Rattle.gabc_notes.specs.declared.state.ItemState.TheVariants.{Start, Body, Pitch, ClefPitch, SlashRaw, Done}
 
--- Where the reading stands: what the open bracket holds, and whether an `@[` is open.
+-- The state of the reading: its item, what the open bracket holds, and whether an `@[` is open.
 pub record RegularState : Type 0 where
   pub item : ItemState
   pub name : MacroPrefix
   pub fused : Bool
 
--- where no macro is defined a warning comes with the character c, which brings the item to z
+-- if no macro is defined, a warning comes with the character c, which brings the item to z
 abbrev pub warns_at : RegularState → ItemState → ℕ → Bool
 warns_at r z c =
     if raw_state r.item then attribute_state z && is_some (digit_of_prefix r.name)
     else ((c == 91) && (not (raw_state z) && r.fused)) || ((c == 93) && not r.fused)
 
--- where the reading stands after a character that brings the item there and is found fault with
--- nowhere
+-- the state after the character c, which brings the item to z without a warning
 abbrev pub regular_at : RegularState → ItemState → ℕ → RegularState
 regular_at r z c = record {
   item = z;
@@ -37,19 +36,19 @@ abbrev pub regular_by : RegularState → ℕ → Option ItemState → Option Reg
 regular_by r c None = None
 regular_by r c (Some z) = if warns_at r z c then None else Some (regular_at r z c)
 
--- where the reading stands after a character, if that is kept and nothing is found at it
+-- the state after a character, if it is kept and nothing is found at it
 abbrev pub regular_after : RegularState → ℕ → Option RegularState
 regular_after r c = regular_by r c (next_state r.item (class_of_character c))
 
 abbrev pub ends_regularly : RegularState → Bool
 ends_regularly r = whole_at r.item && not r.fused
 
--- how many bytes the longest regular prefix has, where the reading stands there after `read` bytes
--- and it had `before` bytes before
+-- the number of bytes of the longest regular prefix, if this is the state after `read` bytes, and
+-- it had `before` bytes before
 abbrev pub longest_at : RegularState → ℕ → ℕ → ℕ
 longest_at r read before = if ends_regularly r then read else before
 
--- ---- what the code sees of it, outside brackets and where one was opened
+-- ---- the state that the code has, outside brackets and after one was opened
 
 abbrev pub reading_at : RegularPoint → RegularState
 reading_at p = record { item = p.item; name = if raw_state p.item then Opened else Closed; fused = p.fused }
@@ -62,7 +61,7 @@ closed_item _ = Done Attribute
 abbrev pub closed_point : RegularPoint → RegularPoint
 closed_point p = record p { item = closed_item p.item }
 
--- a bracket goes on with it
+-- a bracket continues with it
 abbrev pub is_inside : ℕ → Bool
 is_inside c = not (c == 93)
 
@@ -85,7 +84,7 @@ abbrev pub is_front : List ℕ → Bool
 is_front [] = true
 is_front (c ∷ t) = begins_front c && list_all goes_on_front t
 
--- where the item stands after this character of a front
+-- the state of the item after this character of a front
 abbrev pub item_at : ℕ → ItemState
 item_at c = if is_in c (codes "cf") then ClefPitch else if begins_front c then Pitch else Body
 
@@ -93,7 +92,7 @@ abbrev pub item_from : ItemState → List ℕ → ItemState
 item_from s [] = s
 item_from s (c ∷ t) = item_from (item_at c) t
 
--- where the reading stands after a front
+-- the state of the reading after a front
 abbrev pub front_state : List ℕ → RegularState
 front_state t = record { item = item_from Start t; name = Closed; fused = false }
 

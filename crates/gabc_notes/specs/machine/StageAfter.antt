@@ -1,4 +1,4 @@
--- Where a stage stands after a character, and after a text.
+-- The state of a stage after a character, and after a text.
 use Rattle.std.specs.Prelude.{◌≡◌, ℕ, List, [], ◌∷◌, Bool, false, Option, if◌then◌else◌}
 use Rattle.gabc_places.specs.declared.place.Char.{Char}
 use Rattle.gabc_notes.specs.witness.StageEvents.{role_in, events_in, event_list}
@@ -23,7 +23,7 @@ facts_of s c = facts_by_states s.state (next_of s c) s.name
 abbrev pub role_of : NoteStage → ℕ → CharRole
 role_of s c = role_in s.split s.before.comment (facts_of s c) c
 
--- the stage after a character, and what it emits
+-- the stage after a character, and its events
 abbrev pub stage_after_one : NoteStage → Char → NoteStage
 stage_after_one s x = if s.ended then s else stage_after s (role_of s x.c) (facts_of s x.c) (next_of s x.c) x
 

@@ -1,5 +1,4 @@
--- The machine that reads items a character at a time. It is no promise: that it reads the table is
--- proved.
+-- A text for each state of the machine over items, and by it the events that a stage has left.
 use Rattle.std.specs.Prelude.{ℕ, List, [], ◌∷◌, codes, if◌then◌else◌}
 use Rattle.gabc_places.specs.declared.place.Char.{Char}
 use Rattle.gabc_places.specs.StageLaw.{silence}
@@ -48,7 +47,7 @@ example (Done Fusion) = codes "]"
 
 -- ---- the states of the stage
 
--- a text from an open bracket on that is so named
+-- a text from an open bracket on with this prefix of a macro's name
 abbrev pub example_prefix : MacroPrefix → List ℕ
 example_prefix Closed = []
 example_prefix Opened = codes "["
@@ -57,7 +56,7 @@ example_prefix Named = codes "[nm"
 example_prefix (Last c) = 91 ∷ 110 ∷ 109 ∷ c ∷ []
 example_prefix Other = codes "[other"
 
--- What a stage will still emit for these characters, and then the end: it depends on a text that
--- ends in its state.
+-- The events that a stage has left for these characters, and then the end: they depend on a text
+-- that ends in its state.
 abbrev pub events_left : NoteStage → List Char → List (List NoteEvent)
 events_left st xs = if st.ended then silence xs else events_after st.split st.macros (example st.state) (example_prefix st.name) st.before xs

@@ -1,5 +1,5 @@
--- What is emitted of a snippet by what is kept of it, whether a comment is open, and the place of
--- the bracket that is open. It is no promise: that it is `note_events` is proved.
+-- The events of a snippet, by its kept text, whether a comment is open, and the place of the
+-- bracket that is open. It is no promise: that it is `note_events` is proved.
 use Rattle.std.specs.Prelude.{ℕ, List, [], ◌∷◌, ◌++◌, Bool, true, false, cond, not, ◌&&◌, ◌==◌, Some, None}
 use Rattle.gabc_places.specs.Fate.{Fate, Keep, Comment, Ends, LeaveOut}
 use Rattle.gabc_places.specs.StageLaw.{silence}
@@ -25,7 +25,7 @@ abbrev pub all_found : List Code → Place → Place → List NoteEvent
 all_found [] inner here = []
 all_found (code ∷ found) inner here = finding_event (place_by code inner here) code ∷ all_found found inner here
 
--- what is emitted of a character of that fate
+-- the events of a character of this fate
 abbrev pub emitted_by : ℕ → Fate → List ℕ → Place → Char → List NoteEvent
 emitted_by macros Keep kept inner x = Kept x ∷ all_found (found_in_notes macros (kept ++ x.c ∷ [])) inner x.place
 emitted_by macros Comment kept inner x = []
@@ -33,7 +33,7 @@ emitted_by macros Ends kept inner x = all_found (found_at_end kept) inner x.plac
 emitted_by macros (LeaveOut None) kept inner x = []
 emitted_by macros (LeaveOut (Some code)) kept inner x = finding_event x.place code ∷ []
 
--- what is kept then
+-- the text kept then
 abbrev pub kept_by : Fate → List ℕ → ℕ → List ℕ
 kept_by Keep kept c = kept ++ c ∷ []
 kept_by _ kept c = kept
@@ -53,8 +53,8 @@ abbrev pub ends : Fate → Bool
 ends Ends = true
 ends _ = false
 
--- What is emitted of these characters, a list for each, and of their end. A comment goes on up to
--- an LF.
+-- The events of these characters, a list for each, and of their end. A comment continues up to an
+-- LF.
 abbrev pub events_past : Bool → ℕ → List ℕ → Place → Bool → List Char → List (List NoteEvent)
 events_past split macros kept inner comment [] = (Ended (Cut (cond (in_raw kept) inner (record { line = 0; column = 0 }))) (bytes_of kept) ∷ []) ∷ []
 events_past split macros kept inner comment (x ∷ xs) =

@@ -1,4 +1,4 @@
--- What a stage emits, character by character, by the kept text and what stands before a character.
+-- The events of a stage, character by character, by the kept text and the facts before a character.
 -- It is no promise: that it is `note_events` is proved.
 use Rattle.std.specs.Prelude.{ℕ, ◌+◌, ◌-◌, ◌^◌, min, List, [], ◌∷◌, ◌++◌, Bool, true, false, not, ◌&&◌, ◌||◌, ◌==◌, codes, if◌then◌else◌, Option, Some, None, option_to_list}
 use Rattle.std.specs.Char.{len_utf8}
@@ -24,7 +24,7 @@ abbrev pub is_attribute_kind : Option ItemKind → Bool
 is_attribute_kind (Some Attribute) = true
 is_attribute_kind _ = false
 
--- the kind of the item that ends where the reading stands
+-- the kind of the item that ends in this state
 abbrev pub kind_at : Munch ItemKind → Option ItemKind
 kind_at (within rows back) = end_kind rows
 kind_at _ = None
@@ -38,7 +38,7 @@ abbrev pub macro_digit : List ℕ → Option ℕ
 macro_digit (a ∷ l ∷ m ∷ d ∷ []) = digit_if ((a == 91) && (is_in l (codes "nge") && ((m == 109) && is_digit d))) d
 macro_digit _ = None
 
--- what is known of the character c after this kept text, in which raw is what stands from the open
+-- the facts about the character c after this kept text; `raw` is the part of it from the open
 -- bracket on
 abbrev pub char_facts : List ℕ → List ℕ → ℕ → CharFacts
 char_facts kept raw c = record {
@@ -74,7 +74,7 @@ fused_in b e x = if e.raw || e.raw_after then b.fused else ((x.c == 91) || (b.fu
 abbrev pub count_plus : ℕ → ℕ → ℕ
 count_plus kept c = min (kept + len_utf8 c) (2 ^ 64 - 1)
 
--- What stands before the next character. The place is that of the last character kept outside raw:
+-- The facts before the next character. The place is that of the last character kept outside raw:
 -- inside raw, of the bracket that opened it. The bytes are those of the kept text, and of its
 -- longest prefix that is a snippet.
 abbrev pub before_in : CharRole → Before → CharFacts → Char → Before
@@ -89,13 +89,13 @@ before_in Keep b e x = record {
 }
 before_in _ b e x = b
 
--- what a character emits: at most three events
+-- the events of a character: at most three
 pub record CharEvents : Type 0 where
   pub first : Option NoteEvent
   pub second : Option NoteEvent
   pub third : Option NoteEvent
 
--- What a character emits. At the end of the snippet an unfinished end is E6, and an open `@[` is
+-- The events of a character. At the end of the snippet an unfinished end is E6, and an open `@[` is
 -- W10.
 abbrev pub events_in : CharRole → ℕ → Before → CharFacts → Char → CharEvents
 events_in Keep macros b e x = record { first = Some (Kept x); second = warning_in macros b e x; third = None }
@@ -110,21 +110,22 @@ events_in _ macros b e x = record { first = None; second = None; third = None }
 abbrev pub event_list : CharEvents → List NoteEvent
 event_list g = option_to_list g.first ++ (option_to_list g.second ++ option_to_list g.third)
 
--- the end of the characters before the end of the snippet: the place is that of the open bracket
+-- the event of the end of the characters before that of the snippet: the place is that of the open
+-- bracket
 abbrev pub cut_event : Bool → Before → NoteEvent
 cut_event raw b = Ended (Cut (if raw then b.place else record { line = 0; column = 0 })) b.kept
 
--- what the text from the open bracket on is with a character more
+-- the text from the open bracket on, with a character more
 abbrev pub raw_with : CharFacts → List ℕ → ℕ → List ℕ
 raw_with e raw c = if e.raw_after then raw ++ c ∷ [] else []
 
--- what follows a character: nothing after the end; kept if it was kept, else left
+-- the lists after a character: `over` after the end, `kept` if it was kept, else `left`
 abbrev pub events_following : CharRole → List (List NoteEvent) → List (List NoteEvent) → List (List NoteEvent) → List (List NoteEvent)
 events_following Ends over kept left = over
 events_following Keep over kept left = kept
 events_following _ over kept left = left
 
--- What is emitted of the characters after this kept text, a list for each, and of their end, a list
+-- The events of the characters after this kept text, a list for each, and of their end, a list
 -- more.
 abbrev pub events_after : Bool → ℕ → List ℕ → List ℕ → Before → List Char → List (List NoteEvent)
 events_after split macros kept raw b [] = (cut_event (in_raw kept) b ∷ []) ∷ []

@@ -3,7 +3,7 @@ use Rattle.std.specs.Prelude.{List, map, slice_range, length}
 use Rattle.gabc_patterns.specs.LongestItems.{IsReadingBy}
 use Rattle.gabc_patterns.specs.Items.{ItemSpan, FollowOn}
 
--- the kind of a piece, and what it takes
+-- the kind of a piece, and its part of the list
 abbrev pub item_in : {K X : Type 0} → List X → ItemSpan K → K × List X
 item_in t i = (i.0, slice_range t i.1 i.2)
 

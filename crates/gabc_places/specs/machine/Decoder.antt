@@ -1,4 +1,4 @@
--- What a decoder does with a byte of a longer character.
+-- The step of a decoder at a byte of a longer character.
 use Rattle.std.specs.Prelude.{ℕ, [], ◌∷◌, ◌++◌}
 use Rattle.gabc_places.specs.DecoderMachine.{DecoderState}
 use Rattle.gabc_places.specs.witness.DecoderEvents.{DecoderStep, take_pending}

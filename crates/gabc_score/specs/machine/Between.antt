@@ -1,4 +1,4 @@
--- A score between two syllables: a text begins, of which nothing was read.
+-- A score between two syllables: a text begins, of which no character was read.
 use Rattle.std.specs.Prelude.{◌≡◌, ℕ, ◌+◌, ◌≤◌, ◌||◌, nat_lt, true, false, List, [], ◌∷◌, ◌++◌, length, map, take, is_some, encode_utf8_all, Bool}
 use Rattle.gabc_places.specs.declared.limits.Limits.{Limits}
 use Rattle.gabc_places.specs.declared.place.Place.{Place}
@@ -27,15 +27,15 @@ use Rattle.gabc_body.specs.witness.SyllableBuilder.{nothing_open}
 
 -- ---- one syllable more
 
--- what is gathered with this syllable, if the one held before is given
+-- the state gathered with this syllable, if the one pending before is emitted
 abbrev pub with_one : Gathered → UnplacedSyllable → Gathered
 with_one g m = record (with_made g m) { eu = m.eu; nlba = m.nlba; made = m ∷ [] }
 
--- the same of a score, whose next character stands at this place
+-- the state of a score with this syllable, the next character at this place
 abbrev pub after_one : HeldScore → Place → UnplacedSyllable → HeldScore
 after_one s next m = record { next = next; gathered = with_one s.gathered m; is_preceded = s.is_preceded || nat_lt 0 (length s.gathered.made) }
 
--- what is given then: the syllable held before, if there was one
+-- the syllable emitted with this one: the one pending before it, if there was one
 abbrev pub given_before : HeldScore → UnplacedSyllable → List PlacedSyllable
 given_before s m = take (length s.gathered.made) (placed_after s.is_preceded (s.gathered.made ++ m ∷ []))
 
@@ -46,7 +46,8 @@ abbrev pub SoundsNoMore : Bool → Bool → Type 0
 SoundsNoMore sounded sounds_now = (sounded || sounds_now) ≡ sounded
 
 module _ (limits : Limits) where
-  -- Nothing is read of the next syllable. One is held at most, and no limit is passed.
+  -- Nothing is read of the next syllable, which is not the first. At most one is pending, and no
+  -- limit is passed.
   pub record IsBetween (s : HeldScore) : Type 0 where
     pub nothing : s.gathered.builder ≡ nothing_open
     pub limit : s.gathered.limit ≡ limits.syllable
@@ -61,19 +62,19 @@ module _ (limits : Limits) where
     pub input : g.total + length (encode_utf8_all (spelled r)) + 1 ≤ limits.input
 
   module _ (lines macros : ℕ) where
-    -- what is still given if a text begins at this place
+    -- the outputs still to come, if a text begins at this place
     abbrev pub left_between : Place → HeldScore → List HeadEvent → List (List ScoreOutput)
     left_between at s xs = body_left limits s (events_from texts_by_stage lines macros (text_from texts_by_stage at (characters_in xs)) (characters_in xs)) xs
 
-    -- A text of some characters is read, with which only these syllables are given, and then stands
-    -- between two syllables again.
+    -- The characters `t` emit only the syllables `given`, and lead from one state between two
+    -- syllables to another.
     pub record StepsOver (at : Place) (s : HeldScore) (t : List ℕ) (given : List PlacedSyllable) (next : Place) (after : HeldScore) : Type 0 where
       pub points : List (List ScoreOutput)
       pub one_each : length points ≡ length t
       pub law : (xs : List HeadEvent) → left_between at s (text_inputs at t ++ xs) ≡ points ++ left_between next after xs
       pub given_are : concat_of points ≡ map (λ (s : PlacedSyllable). Syllable s) given
 
--- what is emitted at each character of a text that begins at this place
+-- the lists that a body emits for these characters of a text, the first of which is at this place
 abbrev pub lists_between : ℕ → ℕ → Place → List ℕ → List (List BodyEvent)
 lists_between lines macros at t = let us = placed_characters_from at t in take (length t) (events_from texts_by_stage lines macros (text_from texts_by_stage at us) us)
 
@@ -83,11 +84,12 @@ pub record GathersOneSyllable (limits : Limits) (g : Gathered) (lists : List (Li
   pub alone : is_alone limits g lists ≡ true
   pub gathered : with_all g (concat_of lists) ≡ with_one g m
 
--- ---- what a regular syllable makes
+-- ---- the syllable that a regular one is read as
 
--- It keeps its spelling, with one blank if there are some before its text, and its spelling is its
--- canonical text, text and snippets, each in its place. It holds a unit with the span marks of its
--- text, and which spans are open after it follows from those before.
+-- The syllable `m` keeps the spelling of `r`, with one blank for those before its text. Without
+-- them the spelling is its canonical text, and `m` has the text and the snippets of `r`, each in
+-- its place. It holds a unit with the span marks of this text, and the spans open after it follow
+-- from those before.
 pub record SpellsItself (lines : ℕ) (spans : Spans) (r : SyllableParts) (m : UnplacedSyllable) : Type 0 where
   pub kept : m.kept ≡ encode_utf8_all (kept_spelled r)
   pub starts : m.text.word_start ≡ has_gap r.gap
@@ -99,9 +101,10 @@ pub record SpellsItself (lines : ℕ) (spans : Spans) (r : SyllableParts) (m : U
   pub tags : span_tags unit.unit.text ≡ span_tags r.text
   pub follows : FollowsSpans spans m
 
--- If these spans are open, a regular syllable that begins at this place makes this one, whatever
--- was gathered before, if no note and no clef comes with it or one has come before: it is read to
--- its end, and the one held before is given.
+-- If `spans` are open, the regular syllable `r`, from `at` on, is read as `m`, whatever was
+-- gathered before, as long as it leaves room and no note or clef comes with it, or one has come
+-- before. The syllable pending before is emitted. If there is none, the text is this one syllable,
+-- without an error.
 pub record ReadsAlike (lines macros : ℕ) (at : Place) (r : SyllableParts) (spans : Spans) (m : UnplacedSyllable) : Type 0 where
   pub made : SpellsItself lines spans r m
   pub through : (limits : Limits) (s : HeldScore) → IsBetween limits s → SoundsNoMore (is_some s.gathered.first_kind) (sounds m) → spans_of s.gathered ≡ spans → LeavesRoomFor limits s.gathered r

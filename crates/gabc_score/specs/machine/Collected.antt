@@ -1,4 +1,4 @@
--- What is collected of what a stage over a score gives.
+-- The outputs of a stage over a score, collected.
 use Rattle.std.specs.Prelude.{◌≡◌, ◌≤◌, ◌+◌, ℕ, map, length, List, [], ◌∷◌, ◌++◌, Option, Some, None}
 use Rattle.std.specs.Str.{chars}
 use Rattle.gabc_places.specs.declared.code.Fault.{Fault}
@@ -25,11 +25,11 @@ abbrev pub fault_then : Option Fault → Option Fault → Option Fault
 fault_then (Some fault) later = Some fault
 fault_then None later = later
 
--- a result with what these outputs say after it
+-- a result with these outputs after it
 abbrev pub result_with : BodyResult → List ScoreOutput → BodyResult
 result_with r outputs = record { syllables = r.syllables ++ syllables_in outputs; findings = r.findings ++ findings_in outputs; fault = fault_then r.fault (fault_in outputs) }
 
--- a result past events, if these two syllables are borrowed
+-- a result with these events after it, if these two syllables are borrowed
 module _ (first second : PlacedSyllable) where
   abbrev pub result_past : BodyResult → ScoreEvent → BodyResult
   result_past r (event.Found f) = record r { findings = r.findings ++ f ∷ [] }
@@ -42,24 +42,24 @@ module _ (first second : PlacedSyllable) where
   result_past_all r [] = r
   result_past_all r (e ∷ es) = result_past_all (result_past r e) es
 
--- What was said so far is this: a taker, which was `first` before, took its syllables.
+-- The result so far is `r`: a taker, which was `first` before, took its syllables.
 pub record IsSaid {Taker : Type 0} (given_by : Taker → List PlacedSyllable → Taker) (first now : Taker) (findings : List Finding) (fault : Option Fault) (r : BodyResult) : Type 0 where
   pub taken : now ≡ given_by first r.syllables
   pub findings_are : findings ≡ r.findings
   pub fault_is : fault ≡ r.fault
 
--- What was said so far, and what these outputs say after it, are all of this.
+-- The result so far, with the outputs `left` after it, is `all`.
 pub record WillSay {Taker : Type 0} (given_by : Taker → List PlacedSyllable → Taker) (first now : Taker) (findings : List Finding) (fault : Option Fault) (left : List ScoreOutput) (all : BodyResult) : Type 0 where
   pub so_far : BodyResult
   pub said : IsSaid given_by first now findings fault so_far
   pub is : result_with so_far left ≡ all
 
--- these characters, and how they cease
+-- the inputs of these characters, and of their ending
 abbrev pub to_come : InputEnding → List Char → List HeadEvent
 to_come ending xs = map (λ x. head_event.Body x) xs ++ ending_events ending
 
--- From the front of this text, whose first character stands at `at`, these syllables were given,
--- and nothing else: what is to come of what is left, from `next` on, comes after them.
+-- The characters of `text` before `rest`, the first of them at `at`, emit these syllables, which a
+-- taker took, and nothing else. The outputs of `rest`, from `next` on, come after them.
 pub record PassesRun {Taker : Type 0} (given_by : Taker → List PlacedSyllable → Taker) (before : ScoreStageState) (at : Place) (text : List ℕ) (after : ScoreStageState) (next : Place) (rest : List ℕ) (old new : Taker) : Type 0 where
   pub syllables : List PlacedSyllable
   pub taken : new ≡ given_by old syllables
@@ -70,7 +70,7 @@ pub record PassesRun {Taker : Type 0} (given_by : Taker → List PlacedSyllable 
   pub column : next.column + length rest ≤ at.column + length text
   pub shorter : length rest ≤ length text
 
--- with how the input ended nothing is left but these outputs, which are emitted
+-- for this ending of the input the stage has these outputs left, and they are emitted
 pub record EndsAs (before : ScoreStageState) (ending : InputEnding) (old new : BoundedList ScoreEvent) (first second : PlacedSyllable) : Type 0 where
   pub outputs : List ScoreOutput
   pub law : concat_of (left_of before (ending_events ending)) ≡ outputs

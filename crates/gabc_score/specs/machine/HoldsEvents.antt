@@ -1,4 +1,4 @@
--- What two slots hold of the events of a point, and what is found among these.
+-- The events of a point, taken into two slots, and its findings.
 use Rattle.std.specs.Prelude.{◌≡◌, List, length}
 use Rattle.std.specs.List.{list_any}
 use Rattle.gabc_places.specs.BoundedList.{BoundedList, Fits}
@@ -11,14 +11,16 @@ use Rattle.gabc_score.specs.machine.PartPushes.{ClosesLast}
 use Rattle.gabc_score.specs.machine.Slot.{FitEach}
 use Rattle.gabc_score.specs.machine.SlotPair.{SlotPairState, used_by}
 
--- They can hold these: a slot reads, and each fits after those before it.
+-- There is room for the events: a slot reads, each event fits after those before it, a `)` is the
+-- last of them, and there is room for a finding of each.
 pub record CanHold (events : List BodyEvent) (pair : SlotPairState) (found : BoundedList Finding) : Type 0 where
   pub reads : pair.used ≡ Filling
   pub fits : FitEach pair.gathered events
   pub once : ClosesLast events
   pub room : Fits found (length events)
 
--- They have added them to what was gathered. With a `)` a syllable is whole.
+-- The events were added to the state gathered, and their findings to the room. With a `)` a
+-- syllable is whole.
 pub record HoldsEvents (events : List BodyEvent) (before : SlotPairState) (room : BoundedList Finding) (after : SlotPairState) (room_after : BoundedList Finding) : Type 0 where
   pub gathered : after.gathered ≡ with_all before.gathered events
   pub held : after.held ≡ before.held

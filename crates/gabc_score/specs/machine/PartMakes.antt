@@ -20,34 +20,35 @@ use Rattle.gabc_body.specs.witness.BodyBuilder.{with_all}
 use Rattle.gabc_body.specs.witness.Gatherer.{Gathered}
 use Rattle.gabc_score.specs.machine.PartKeeps.{IsEndedText, IsReading}
 
--- the characters of a kept text, placed anywhere
+-- the characters of a kept text, at places that do not matter
 abbrev pub characters_of : List ℕ → List Char
 characters_of t = placed_characters_from (record { line = 0; column = 0 }) t
 
--- Laws of texts and snippets: a text that has ended was said in full, the spans of a view stand for
+-- Laws of texts and snippets: a text that has ended was read in full, the spans of a view stand for
 -- it, and a snippet that is whole is kept again.
 pub record PartLaws : Type 0 where
   pub said : (t : List ℕ) → IsEndedText t → length (encode_utf8_all (t ++ 40 ∷ [])) < 2 ^ 64 → IsSaidInFull t []
   pub stands : (t : List ℕ) → StandsForView (kept t) (view_in t) t
   pub kept_again : (line : ℕ) (s : List ℕ) → IsSnippetOf line s → s ≡ kept_on_line line (characters_of s)
 
--- which spans are open after each of these follows from those before it, if p reports what stands
+-- the spans open after each of these syllables follow from those before it; `p` has the totals
 -- before the first
 unfoldable pub FollowEach : Preceding → List UnplacedSyllable → Type 0
 FollowEach p [] = Unit {0}
 FollowEach p (m ∷ ms) = FollowsSpans p.spans m × FollowEach (with_one p m) ms
 
--- after what p reports each of these syllables holds some unit, and their spans follow one another
+-- each of these syllables holds some unit, and their spans follow one another; `p` has the totals
+-- before the first
 pub record AreHeld (lines : ℕ) (p : Preceding) (made : List UnplacedSyllable) : Type 0 where
   pub units : All (HoldsSomeUnit lines) made
   pub follow : FollowEach p made
 
--- by these laws
+-- by these laws the syllables are so
 unfoldable pub HoldUnits : ℕ → Preceding → List UnplacedSyllable → Type 0
 HoldUnits lines p made = PartLaws → AreHeld lines p made
 
--- so do the syllables that were made after these events of a part, if those did that were made
--- before
+-- if the syllables made before these events of a part are so by these laws, those made after the
+-- events are, too
 unfoldable pub PartMakes : ℕ → ℕ → BodyPart → List BodyEvent → Type 0
 PartMakes lines macros before now =
     (p : Preceding) (g : Gathered) → length g.builder.kept < 2 ^ 64 → IsReading lines macros before (with_each p g.made).spans g → HoldUnits lines p g.made → HoldUnits lines p (with_all g now).made

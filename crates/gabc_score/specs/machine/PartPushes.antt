@@ -1,20 +1,20 @@
--- What a push to a part does, whose events are then in its room.
+-- The events of a push to a part.
 use Rattle.std.specs.Prelude.{◌≡◌, ℕ, List, [], ◌∷◌, length, ◌≤◌, Bool, true}
 use Rattle.gabc_places.specs.declared.place.Char.{Char}
 use Rattle.gabc_body.specs.declared.events.BodyEvent.{BodyEvent}
 use Rattle.gabc_body.specs.Syllable.{closes}
 
--- These are the events of x, and what is emitted from then on follows them.
+-- These are the events of x, at most `most`, and what is emitted from then on follows them.
 pub record Emits {O : Type 0} (before after : List Char → List (List O)) (x : Char) (most : ℕ) (events : List O) : Type 0 where
   pub few : length events ≤ most
   pub law : (xs : List Char) → before (x ∷ xs) ≡ events ∷ after xs
 
--- These are the events of the end.
+-- These are the events of the end, at most `most`.
 pub record EmitsLast {O : Type 0} (before : List Char → List (List O)) (most : ℕ) (events : List O) : Type 0 where
   pub few : length events ≤ most
   pub law : before [] ≡ events ∷ []
 
--- an event that ends a part so is the last of these
+-- an event for which `ends` holds is the last of these
 abbrev pub EndsLast : {O : Type 0} → (O → Bool) → List O → Type 0
 EndsLast ends [] = Unit {0}
 EndsLast ends (e ∷ es) = (ends e ≡ true → es ≡ []) × EndsLast ends es

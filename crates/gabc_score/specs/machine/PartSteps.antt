@@ -1,5 +1,5 @@
--- What a part of the body does with a character: which part reads the next one, and what is
--- emitted.
+-- The step of a part of the body at a character: its events, and the part that reads the next
+-- character.
 use Rattle.std.specs.Prelude.{◌≡◌, ◌≢◌, ◌≤◌, ℕ, List, [], length, map, true, false}
 use Rattle.std.specs.List.{list_any}
 use Rattle.gabc_places.specs.declared.place.Char.{Char}
@@ -26,31 +26,32 @@ use Rattle.gabc_score.specs.witness.BodyStage.{part_with}
 
 -- ---- a stage
 
--- The events of a text are few, and its pieces no more than what is kept.
+-- A character of a text has at most 8 events, and emits no more pieces than were owed or are kept
+-- with it.
 pub record TextBounds (before : TextStage) (events : List TextEvent) (after : TextStage) : Type 0 where
   pub few : length events ≤ 8
   pub pieces : PiecesArePaid before events after
 
--- The events of a snippet are few, and its `)` is the last.
+-- A character of a snippet has at most 3 events, and a `)` is the last of them.
 pub record NoteBounds (events : List NoteEvent) : Type 0 where
   pub few : length events ≤ 3
   pub once : EndsLast is_close events
 
 -- ---- a part
 
--- A part begins a snippet of that line, whose `(` stands there.
+-- A part is at the beginning of a snippet on this line, in notes whose `(` is at `opened`.
 pub record Begins (lines macros line : ℕ) (opened : Place) (part : BodyPart) : Type 0 where
   pub reads : (xs : List Char) → part_with part xs ≡ snippet_from lines macros line opened xs
   pub keeps : BeginsSnippet lines macros line part
   pub tells : OpensNotes opened part
 
--- A part that reads a snippet of that line takes a character with these events.
+-- A part in a snippet on this line takes a character with these events.
 pub data SnippetSteps (x : Char) : ℕ → Place → BodyPart → List NoteEvent → BodyPart → Type 0 where
   in_gabc : {opened : Place} {s t : NoteStage} {es : List NoteEvent} → gabc.Steps s x es t → SnippetSteps x 0 opened (part.Notes opened s) es (part.Notes opened t)
   in_nabc : {line : ℕ} {opened : Place} {s t : NabcStage} {es : List NoteEvent} → nabc.Steps s x es t → SnippetSteps x line opened (part.Nabc line opened s) es (part.Nabc line opened t)
 
 -- A part takes the character x with these events, and the other part reads the next one: the same
--- goes on, or the next begins. The comment in front goes on up to an LF.
+-- part continues, or the next begins. The comment in front continues up to an LF.
 pub data PartSteps (lines macros : ℕ) (x : Char) : BodyPart → List BodyEvent → BodyPart → Type 0 where
   in_front : x.c ≢ 10 → PartSteps lines macros x part.Comment [] part.Comment
   leaves_front : {now : List BodyEvent} {after : BodyPart} → x.c ≡ 10 → PartSteps lines macros x (part.Text (fresh_stage x.place)) now after → PartSteps lines macros x part.Comment now after
@@ -64,7 +65,7 @@ pub data PartSteps (lines macros : ℕ) (x : Char) : BodyPart → List BodyEvent
   snippet_closes : {line : ℕ} {opened : Place} {before same : BodyPart} {es : List NoteEvent} → SnippetSteps x line opened before es same → list_any is_next es ≡ false → list_any is_close es ≡ true
       → PartSteps lines macros x before (map (note_event line opened) es) (part.Text (fresh_stage (after_mark x.place)))
 
--- the events of a part with which it takes a character are within their bounds
+-- the events of this step are within their bounds
 abbrev pub IsBounded : {lines macros : ℕ} {x : Char} {before after : BodyPart} {now : List BodyEvent} → PartSteps lines macros x before now after → Type 0
 IsBounded (in_front h) = Unit {0}
 IsBounded (leaves_front h s) = IsBounded s
@@ -74,6 +75,6 @@ IsBounded (snippet_goes {es = es} s n c) = NoteBounds es
 IsBounded (snippet_next {es = es} s n b) = NoteBounds es
 IsBounded (snippet_closes {es = es} s n c) = NoteBounds es
 
--- so the part takes it
+-- a part takes a character with events within their bounds
 abbrev pub TakesChar : ℕ → ℕ → Char → BodyPart → List BodyEvent → BodyPart → Type 0
 TakesChar lines macros x before now after = (s : PartSteps lines macros x before now after) × IsBounded s

@@ -1,4 +1,4 @@
--- What a part does with the next character of a kept text that is read again.
+-- The step of a part at the next character of a kept text that is read again.
 use Rattle.std.specs.Prelude.{◌≡◌, ◌⊎◌, ◌<◌, ◌≤◌, ◌^◌, ◌&&◌, ◌==◌, ℕ, zero, suc, nat_lt, List, [], ◌∷◌, ◌++◌, length, Bool, true, false, cond, Some, None, unwrap_or, encode_utf8_all}
 use Rattle.std.specs.Option.{option_or}
 use Rattle.std.specs.Str.{chars}
@@ -26,7 +26,7 @@ use Rattle.gabc_score.specs.machine.ScoreMachine.{IsInBody, IsScore, shown}
 
 -- ---- the next character
 
--- After the kept text k of a snippet of that line the character c is kept again, or it is the `|`
+-- After the kept text k of a snippet on this line the character c is kept again, or it is the `|`
 -- at which the snippet ends.
 abbrev pub IsNextIn : ℕ → ℕ → List ℕ → ℕ → Type 0
 IsNextIn lines zero k c = notes.IsKeptAgain (nat_lt 0 lines) k c ⊎ ((c ≡ 124) × ((nat_lt 0 lines ≡ true) × IsSnippet gabc k))
@@ -47,40 +47,41 @@ abbrev pub BeginsComment : ℕ → KeptParts → Type 0
 BeginsComment lines (in_text k) = (text.begins_comment k ≡ true) × (text.kept_with k 37 ≡ [])
 BeginsComment lines (in_notes t earlier k) = BeginsIn (line_after lines 0 earlier) k
 
--- ---- where what is open began
+-- ---- the places of openers
 
--- the `(` of notes or else what is open in a text, and what is open in notes
+-- the place of the `(` of notes, or else of what is open in a text; and the place of what is open
+-- inside; 1:1 if there is none
 abbrev pub outer_of : Openers → Place
 outer_of o = unwrap_or (option_or o.notes o.inner) first_place
 
 abbrev pub inner_of : Openers → Place
 inner_of o = unwrap_or o.inner first_place
 
--- the place of the characters that are read again: in a text the one, in notes the other
+-- the place of the characters that are read again: in a text `outer`, in notes `inner`
 abbrev pub place_in : Place → Place → BodyPart → Place
 place_in outer inner part.Comment = outer
 place_in outer inner (part.Text stage) = outer
 place_in outer inner (part.Notes opened stage) = inner
 place_in outer inner (part.Nabc line opened stage) = inner
 
--- What is open began there.
+-- The openers of a part are at these places.
 pub record OpenAt (outer inner : Place) (part : BodyPart) : Type 0 where
   pub notes_at : (o : Place) → (openers_of part).notes ≡ Some o → o ≡ outer
   pub inner_at : (o : Place) → (openers_of part).inner ≡ Some o → o ≡ place_in outer inner part
 
--- notes whose `(` stands there, in which nothing else is open
+-- a part in notes whose `(` is at `opened`, in which nothing else is open
 abbrev pub OpensNotes : Place → BodyPart → Type 0
 OpensNotes opened part = (openers_of part ≡ record { notes = Some opened; inner = None }) × (is_in_comment part ≡ false)
 
--- ---- what a character does
+-- ---- the step at a character
 
--- With these events this is kept more, and no syllable becomes whole.
+-- From `g` to `h` the characters `more` are kept besides, and no syllable becomes whole.
 pub record Adds (g h : Gathered) (more : List ℕ) : Type 0 where
   pub kept : h.builder.kept ≡ g.builder.kept ++ encode_utf8_all more
   pub made : h.made ≡ g.made
 
--- At the character x a part that keeps p goes on. This is kept more, and whether a comment is open
--- then.
+-- At the character x a part that keeps `p` continues as `after`: it keeps `more` besides, and
+-- `comment` says whether a comment is open then.
 pub record Reads (before : BodyPart) (p : KeptParts) (x : Char) (more : List ℕ) (comment : Bool) (after : BodyPart) (now : List BodyEvent) : Type 0 where
   pub adds : (g : Gathered) → g.builder.kept ≡ encode_utf8_all (joined p) → g.builder.from ≡ length (encode_utf8_all (text_before p)) → length g.builder.kept < 2 ^ 64 → Adds g (with_all g now) more
   pub comment_is : is_in_comment after ≡ comment
@@ -101,8 +102,8 @@ pub record IsReportedBy (lines macros limit : ℕ) (part : BodyPart) (kept : Lis
   pub is : kept ≡ encode_utf8_all (joined parts)
   pub short : length kept ≤ limit
 
--- So a machine stands in the body: this was kept of the syllable that is read, what is open began
--- there, and a comment is open or not.
+-- The machine is in the body: `kept` is the kept text of the current syllable, its openers are at
+-- these places, and `comment` says whether a comment is open.
 pub record StandsSo (m : ScoreMachine) (openers : Openers) (kept : List ℕ) (comment : Bool) : Type 0 where
   pub body : m.part ≡ score_part.Body
   pub kept_is : m.pair.gathered.builder.kept ≡ kept
@@ -110,7 +111,7 @@ pub record StandsSo (m : ScoreMachine) (openers : Openers) (kept : List ℕ) (co
   pub front : is_in_front m.body.part ≡ false
   pub opens : OpenAt (outer_of openers) (inner_of openers) m.body.part
 
--- Nothing has changed in the body but what is read of a syllable.
+-- In the body nothing has changed but the current syllable.
 pub record IsSameBut (before after : ScoreMachine) : Type 0 where
   pub body : before.part ≡ score_part.Body
   pub bounds : after.bounds ≡ before.bounds
@@ -122,14 +123,14 @@ pub record IsRunAlike (before after : ScoreMachine) : Type 0 where
   pub lines : after.body.nabc_lines ≡ before.body.nabc_lines
   pub macros : after.body.macros ≡ before.body.macros
 
--- With these events it has come to this part.
+-- With these events the machine has reached this part, and gathered them.
 pub record HasPassed (before : ScoreMachine) (part : BodyPart) (now : List BodyEvent) (after : ScoreMachine) : Type 0 where
   pub part_is : after.body.part ≡ part
   pub gathered : after.pair.gathered ≡ with_all before.pair.gathered now
   pub same : IsSameBut before after
 
--- At the character x the body emits this. The reading goes on if no limit is passed and no syllable
--- becomes whole.
+-- At the character x the body emits `now`. The reading continues if no limit is passed and no
+-- syllable becomes whole.
 pub record PassesAgain (before : ScoreMachine) (x : Char) (after : ScoreMachine) : Type 0 where
   pub rests : IsInBody before
   pub now : List BodyEvent
@@ -139,11 +140,11 @@ pub record PassesAgain (before : ScoreMachine) (x : Char) (after : ScoreMachine)
   pub goes : after.part ≡ score_part.Body → HasPassed before part now after
   pub fits : code_in before.limits (with_all before.pair.gathered now) ≡ None → (with_all before.pair.gathered now).made ≡ before.pair.gathered.made → after.part ≡ score_part.Body
 
--- the next character stands there
+-- the machine, with the next character at this place
 abbrev pub moved : Place → ScoreMachine → ScoreMachine
 moved place m = record m { next = place; body = record m.body { part = moved_part place m.body.part } }
 
--- In the body the character c is read, which stands where what is open begins.
+-- In the body the character c is read, at the place of what is open in the part.
 pub record TakesAgain (before : ScoreMachine) (c : ℕ) (openers : Openers) (after : ScoreMachine) : Type 0 where
   pub run : IsRunAlike before after
   pub was : after.part ≡ score_part.Body → before.part ≡ score_part.Body
@@ -154,8 +155,8 @@ abbrev pub ReadsThrough : ScoreMachine → Openers → List ℕ → ScoreMachine
 ReadsThrough before openers [] after = before ≡ after
 ReadsThrough before openers (c ∷ cs) after = (m : ScoreMachine) × (TakesAgain before c openers m × ReadsThrough m openers cs after)
 
--- In the body a kept text is read, and the `%` of a comment after it if one is open. Then the
--- next character is said to stand at `next`. The result says whether the reading is not over.
+-- In the body a kept text is read, and the `%` of a comment after it if one is open. Then the next
+-- character is moved to `next`. `result` says whether the reading is not over.
 pub record HasReadKept (before : ScoreMachine) (kept : List ℕ) (openers : Openers) (comment : Bool) (next : Place) (result : Bool) (after : ScoreMachine) : Type 0 where
   pub m : ScoreMachine
   pub rests : IsScore m

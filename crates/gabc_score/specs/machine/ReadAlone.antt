@@ -1,5 +1,4 @@
--- What becomes of a text that is read by itself: whether it is one syllable, after which no limit
--- is passed.
+-- A text that is read alone: whether it is one syllable, with which no limit is passed.
 use Rattle.std.specs.Prelude.{◌≡◌, ℕ, ◌+◌, ◌<◌, ◌^◌, ◌&&◌, ◌≤◌, not, List, [], ◌∷◌, Bool, true, false, None, is_some, length, take}
 use Rattle.std.specs.List.{All, list_any}
 use Rattle.std.specs.Str.{chars}
@@ -35,7 +34,7 @@ use Rattle.gabc_score.specs.witness.BodyStage.{BodyStageState, running_events_le
 
 -- ---- characters that are fine
 
--- it is more than a warning
+-- a severity above a warning
 abbrev pub is_grave : Severity → Bool
 is_grave Warning = false
 is_grave Error = true
@@ -48,17 +47,18 @@ abbrev pub is_error_event : ScoreEvent → Bool
 is_error_event (event.Found f) = is_error f
 is_error_event e = false
 
--- with these events no limit is passed and no error found
+-- with these events no limit is passed and no error is found
 abbrev pub is_fine : Limits → Gathered → List BodyEvent → Bool
 is_fine limits g now = not (is_some (code_in limits (with_all g now))) && not (list_any is_error (findings_now now))
 
--- through lists of events, one for each character, a syllable becomes whole with the last of them,
--- and all is fine
+-- with the last of these lists, one for each character, a syllable becomes whole, and with none
+-- before; all of them are fine
 abbrev pub is_alone : Limits → Gathered → List (List BodyEvent) → Bool
 is_alone limits g [] = not (is_none g.made)
 is_alone limits g (now ∷ lists) = is_none g.made && (is_fine limits g now && is_alone limits (with_all g now) lists)
 
--- It has gathered this and goes on: if a syllable is whole, nothing of the next one is read.
+-- The machine continues in the body, with `g` gathered. If a syllable is whole, nothing of the next
+-- one is read.
 pub record GoesOn (old new : ScoreMachine) (g : Gathered) : Type 0 where
   pub part : new.part ≡ score_part.Body
   pub gathered : new.pair.gathered ≡ g
@@ -68,7 +68,7 @@ pub record GoesOn (old new : ScoreMachine) (g : Gathered) : Type 0 where
   pub limits : new.limits ≡ old.limits
   pub whole : is_none g.made ≡ false → g.builder ≡ nothing_open
 
--- a character is read while no syllable is held, and the machine goes on if all is fine
+-- a character is read while no syllable is pending, and the machine continues if all is fine
 pub record ReadsAlone (old new : ScoreMachine) (x : Char) (fine : Bool) : Type 0 where
   pub now : List BodyEvent
   pub after : BodyStageState
@@ -78,7 +78,8 @@ pub record ReadsAlone (old new : ScoreMachine) (x : Char) (fine : Bool) : Type 0
   pub fine_is : fine ≡ is_fine old.limits old.pair.gathered now
   pub goes : fine ≡ true → GoesOn old new (with_all old.pair.gathered now)
 
--- what a machine emits at each character of a text, the first of which stands at this place
+-- the lists that the body of a machine emits for the characters of a text, the first of which is at
+-- this place
 abbrev pub lists_from : ScoreMachine → Place → List ℕ → List (List BodyEvent)
 lists_from m at text = take (length text) (running_events_left m.body (placed_characters_from at text))
 
@@ -88,15 +89,15 @@ lists_of m text = lists_from m first_place text
 abbrev pub HasRead : ScoreMachine → ScoreMachine → List (List BodyEvent) → Type 0
 HasRead old new lists = GoesOn old new (with_all old.pair.gathered (concat_of lists))
 
--- ---- a text that is read by itself
+-- ---- a text that is read alone
 
--- in the body no syllable is held
+-- a machine in the body, without a pending syllable
 pub record StandsAlone (m : ScoreMachine) : Type 0 where
   pub part : m.part ≡ score_part.Body
   pub rests : IsInBody m
   pub none : m.pair.gathered.made ≡ []
 
--- nothing stands in a room for what one character gives
+-- the room is empty, and large enough for the events of one character
 pub record IsFree (room : BoundedList ScoreEvent) : Type 0 where
   pub empty : room.items ≡ []
   pub holds : 16 ≤ room.limit
@@ -106,20 +107,20 @@ pub record HasRoomFor (at : Place) (n : ℕ) : Type 0 where
   pub line : at.line + n < 2 ^ 64
   pub column : at.column + n < 2 ^ 64
 
--- A text was read whose first character stands there. The result says whether it is one syllable.
+-- A text was read whose first character is at `at`. `result` says whether it is one syllable.
 pub record ReadsAll (old : ScoreMachine) (at : Place) (text : List ℕ) (result : Bool) (new : ScoreMachine) : Type 0 where
   pub texts : result ≡ true → IsText text → HoldsTexts old.pair.gathered → HoldsTexts new.pair.gathered
   pub alone : result ≡ is_alone old.limits old.pair.gathered (lists_from old at (chars text))
   pub goes : result ≡ true → HasRead old new (lists_from old at (chars text))
 
--- it begins a text, and holds none
+-- a machine at the beginning of a text, without a pending syllable
 pub record BeginsAlone (m : ScoreMachine) : Type 0 where
   pub rests : IsScore m
   pub begins : BeginsText (shown m)
   pub none : held_of (shown m) ≡ None
 
--- A text was read so, and is held if the result says that it is one syllable. Else the reading is
--- over.
+-- A text was read so, and its syllable is pending if `result` says that it is one. Else the reading
+-- is over.
 pub record HoldsAlone (old : ScoreMachine) (text : List ℕ) (result : Bool) (new : ScoreMachine) : Type 0 where
   pub held : result ≡ true → HoldsAgain (chars text) (shown old) (shown new)
   pub told : result ≡ true → IsText text → ReportsText (shown old) → ReportsText (shown new)

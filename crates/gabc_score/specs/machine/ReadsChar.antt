@@ -1,4 +1,4 @@
--- What a machine over a score does at a character of the body, and at any input.
+-- The step of a machine over a score at a character of the body, and at any input.
 use Rattle.std.specs.Prelude.{◌≡◌, ◌≤◌, ℕ, ◌-◌, nat_lt, Bool, false, List, [], ◌∷◌, ◌++◌, length, take, None, Some}
 use Rattle.std.specs.List.{list_any}
 use Rattle.gabc_places.specs.BoundedList.{BoundedList, extended_by}
@@ -24,12 +24,13 @@ use Rattle.gabc_score.specs.machine.ScoreStage.{placed_after, with_held}
 use Rattle.gabc_score.specs.machine.SlotPair.{SlotPairState, is_made, used_by}
 use Rattle.gabc_score.specs.witness.BodyStage.{BodyStageState}
 
--- In the body a machine stands between two calls.
+-- A machine in the body, between two calls.
 pub record StandsInBody (m : ScoreMachine) : Type 0 where
   pub part : m.part ≡ score_part.Body
   pub rests : IsInBody m
 
--- The body takes the character x and is b then; the slots p and the findings f hold what it emits.
+-- The body takes the character x and is `b` then. The slots `p` have gathered its events, and `f`
+-- has their findings.
 pub record Gathers (m : ScoreMachine) (x : Char) (b : BodyStageState) (p : SlotPairState) (f : BoundedList Finding) : Type 0 where
   pub steps : TakesChar m.body.nabc_lines m.body.macros x m.body.part b.events b.part
   pub body : b ≡ record m.body { part = b.part; events = b.events }
@@ -39,14 +40,14 @@ pub record Gathers (m : ScoreMachine) (x : Char) (b : BodyStageState) (p : SlotP
   pub used : p.used ≡ used_by (list_any closes b.events)
   pub found : f ≡ with_found m.found b.events
 
--- what is found with x, and the note before any clef
+-- the findings with x, and that of a note before any clef
 abbrev pub found_past : ScoreMachine → Char → SlotPairState → BoundedList Finding → BoundedList Finding
 found_past m x p f = extended_by f (found_first m.pair.gathered.first_kind p.gathered.first_kind x.place)
 
--- ---- what is given
+-- ---- the outputs of a point
 
--- What was found at a point was given, and the held syllable if another is whole, which is held
--- then.
+-- The findings of a point were emitted, and the pending syllable if another is whole, which is
+-- pending then.
 pub record GivesPoint (is_preceded : Bool) (before : SlotPairState) (room : BoundedList Finding) (result : Bool) (after : SlotPairState) (room_after : BoundedList Finding) (old new : BoundedList ScoreEvent) : Type 0 where
   pub gathered : after.gathered ≡ with_held before.gathered
   pub used : is_made after.used ≡ false
@@ -55,13 +56,13 @@ pub record GivesPoint (is_preceded : Bool) (before : SlotPairState) (room : Boun
   pub few : length (take (length before.gathered.made - 1) (placed_after is_preceded before.gathered.made)) ≤ 1
   pub found : room_after ≡ record room { items = [] }
 
--- These outputs were given as the last ones, with these syllables, n at most.
+-- These outputs were emitted as the last ones, with these syllables, at most `most`.
 pub record GivesAsLast (before : SlotPairState) (outputs : List ScoreOutput) (syllables : List PlacedSyllable) (most : ℕ) (old new : BoundedList ScoreEvent) (after : SlotPairState) : Type 0 where
   pub limit : after.gathered.limit ≡ before.gathered.limit
   pub emitted : GivesOutputs outputs old new after.first after.second
   pub few : length syllables ≤ most
 
--- The last whole syllable was given, and the fault. Nothing follows.
+-- The pending syllable was emitted, and the fault. Nothing follows.
 pub record StopsWith (before : ScoreMachine) (fault : Fault) (after : ScoreMachine) (old new : BoundedList ScoreEvent) : Type 0 where
   pub part : after.part ≡ score_part.Over
   pub limits : after.limits ≡ before.limits
@@ -71,8 +72,8 @@ pub record StopsWith (before : ScoreMachine) (fault : Fault) (after : ScoreMachi
 
 -- ---- a character
 
--- No limit is passed, and what was found is given. A syllable has become whole or not, and the one
--- held before was given or not.
+-- No limit is passed, and the findings were emitted. `whole` says whether a syllable has become
+-- whole, and `gave` whether the one pending before was emitted.
 pub record Passes (m : ScoreMachine) (x : Char) (p : SlotPairState) (f : BoundedList Finding) (whole gave : Bool) (q : SlotPairState) (r : BoundedList Finding) (old new : BoundedList ScoreEvent) : Type 0 where
   pub none : code_in m.limits p.gathered ≡ None
   pub whole_is : whole ≡ nat_lt (length p.held) (length p.gathered.made)
@@ -88,7 +89,7 @@ past_char m x b whole gave q r = record m {
   bounds = past_point whole gave m.bounds q.gathered;
 }
 
--- It reads the character x: it stops if a limit is passed, else it goes on.
+-- It reads the character x: it stops if a limit is passed, else it continues.
 pub data ReadsChar (m : ScoreMachine) (x : Char) (old new : BoundedList ScoreEvent) : ScoreMachine → Type 0 where
   stops : {b : BodyStageState} {p : SlotPairState} {f : BoundedList Finding} {code : Code} {n : ScoreMachine} → Gathers m x b p f → code_in m.limits p.gathered ≡ Some code
       → StopsWith (record m { body = b; pair = p; found = found_past m x p f }) (fault_at x.place code) n old new → ReadsChar m x old new n
@@ -96,12 +97,12 @@ pub data ReadsChar (m : ScoreMachine) (x : Char) (old new : BoundedList ScoreEve
 
 -- ---- an input
 
--- At an input the machine gave what was to come for it, and stands between two calls.
+-- At an input the machine emitted its outputs, and is between two calls.
 pub record TakesInput (m : ScoreMachine) (input : HeadEvent) (old new : BoundedList ScoreEvent) (n : ScoreMachine) : Type 0 where
   pub step : GivesAt (shown m) input (shown n) old new
   pub rests : IsScore n
 
--- At the end of the inputs it gave what was still to come, and nothing follows.
+-- At the end of the inputs it emitted the outputs that were left, and nothing follows.
 pub record EndsInputs (m : ScoreMachine) (old new : BoundedList ScoreEvent) (n : ScoreMachine) : Type 0 where
   pub step : GivesLast (shown m) (shown n) old new
   pub part : n.part ≡ score_part.Over

@@ -1,4 +1,4 @@
--- How far a regular syllable goes that a text begins with.
+-- The length of the regular syllable with which a text begins.
 use Rattle.std.specs.Prelude.{◌≡◌, ◌≢◌, ℕ, ◌+◌, ◌<◌, ◌≤◌, List, [], ◌∷◌, ◌++◌, Bool, true, false, ◌&&◌, nat_lt, length, take, drop, encode_utf8_all, Option, Some, None}
 use Rattle.std.specs.List.{All}
 use Rattle.std.specs.Str.{chars, IsAscii, IsUtf8}
@@ -20,7 +20,7 @@ IsPlainByte b = (b ≢ 13) × (b ≢ 0xEF)
 
 -- ---- a span mark
 
--- the spans that are open after it, if these are open before it
+-- the spans open after a mark or none, by those open before it
 abbrev pub past_mark : Option SpanMark → Spans → Spans
 past_mark None spans = spans
 past_mark (Some OpensEu) spans = record spans { eu = true }
@@ -28,7 +28,7 @@ past_mark (Some ClosesEu) spans = record spans { eu = false }
 past_mark (Some OpensNlba) spans = record spans { nlba = true }
 past_mark (Some ClosesNlba) spans = record spans { nlba = false }
 
--- ---- what stands before a text
+-- ---- the gap before a text
 
 -- blanks and comments that have ended, of ASCII that an input may have
 pub record IsPlainGap (bytes : List ℕ) : Type 0 where
@@ -48,7 +48,7 @@ with_bars_after [] = []
 with_bars_after (s ∷ snippets) = s ++ 124 ∷ with_bars_after snippets
 
 -- The first n bytes of a text are regular snippets, each with a `|` after it, and the next snippet
--- stands on this line.
+-- is on line `line`.
 pub record SnippetsBefore (lines : ℕ) (text : List ℕ) (n line : ℕ) : Type 0 where
   pub before : List (List ℕ)
   pub within : n ≤ length text
@@ -69,9 +69,9 @@ pub record BeginsWithSnippets (lines : ℕ) (text : List ℕ) (n : ℕ) : Type 0
 
 -- ---- the syllable
 
--- The text begins with a regular syllable, which has so long a gap, has its `(` there and is so
--- long. Its characters may be those of an input's text, and no span mark stands in its text but one
--- with which it begins.
+-- The text begins with a regular syllable: `n` has the bytes of its gap, those before its `(`, and
+-- all of them. Its characters may be those of an input's text, and its text has no span mark but
+-- one with which it begins.
 pub record BeginsRegularly (lines : ℕ) (text : List ℕ) (n : RegularLen) : Type 0 where
   pub syllable : SyllableParts
   pub is_regular : IsRegularSyllable lines syllable

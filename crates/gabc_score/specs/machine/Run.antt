@@ -43,11 +43,11 @@ use Rattle.gabc_body.specs.witness.SyllableBuilder.{nothing_open}
 
 -- ---- a syllable that is found
 
--- How long it is.
+-- The lengths of a syllable that was found.
 abbrev pub len_of : Found → RegularLen
 len_of f = record { gap = f.gap; opening = f.opening; len = length f.spelled.now }
 
--- A regular syllable was found, with which no limit is passed after this many canonical bytes.
+-- A regular syllable was found, with which no limit is passed after `total` canonical bytes.
 pub record IsFound (lines : ℕ) (limits : Limits) (total : ℕ) (f : Found) : Type 0 where
   pub is : BeginsRegularly lines (f.spelled.now ++ f.rest.now) (len_of f)
   pub syllable : length f.spelled.now ≤ limits.syllable
@@ -73,13 +73,13 @@ canonical_length f = length (drop f.gap f.spelled.now) + (if nat_lt 0 f.gap then
 abbrev pub mark_of : Found → Option SpanMark
 mark_of f = mark_at (drop f.gap f.spelled.now)
 
--- what stands before the syllable after this one
+-- the totals before the syllable after this one
 abbrev pub past_found : Preceding → Found → Preceding
 past_found p f = record p { syllables = min (p.syllables + 1) most; canonical = p.canonical + canonical_length f; spans = past_mark (mark_of f) p.spans }
 
--- Of a syllable that was found, with these spans open after it, and before one that begins a word
--- or not: its place in its word, its open spans, whether it begins after blanks, what is kept of
--- it, its canonical text, its text and its translation, and its snippets, each in its place.
+-- The syllable `s` is the one found, with `spans` open after it; `begins` says whether the next one
+-- begins a word: its position, its spans, whether it begins after blanks, its kept text, its
+-- canonical text, its text and translation, and its snippets, each in its place.
 pub record SpellsFound (lines : ℕ) (spans : Spans) (begins : Bool) (f : Found) (r : SyllableParts) (s : PlacedSyllable) : Type 0 where
   pub position : s.position ≡ position_by (nat_lt 0 f.gap) begins
   pub eu : s.made.eu ≡ spans.eu
@@ -100,7 +100,7 @@ pub record IsSpelledBy (r : SpelledSyllable) (lines : ℕ) (parts : SyllablePart
 
 -- ---- the run
 
--- The machine stands between two syllables: it holds one, and a text begins at this place.
+-- The machine is between two syllables: one is pending, and a text begins at this place.
 pub record IsBetweenSyllables (m : ScoreMachine) (at : Place) : Type 0 where
   pub part : m.part ≡ score_part.Body
   pub rests : IsInBody m
@@ -108,9 +108,9 @@ pub record IsBetweenSyllables (m : ScoreMachine) (at : Place) : Type 0 where
   pub between : IsBetween m.limits (held_score m)
   pub one : length m.pair.gathered.made ≡ 1
 
--- From there it has read these characters, and has given these syllables with what follows, which
--- begins a word or not: the last of them is held in what it would have gathered. Before the next
--- syllable, at `next`, stands what `p` says.
+-- From `at` on the machine has read the characters `t`, and emitted `given`; `starts` says whether
+-- the next syllable begins a word. Without a run the last of these would be pending. `p` has the
+-- totals before the next syllable, which is at `next`.
 pub record RunsBefore (m : ScoreMachine) (at : Place) (t : List ℕ) (given : List PlacedSyllable) (starts : Bool) (p : Preceding) (next : Place) : Type 0 where
   pub held : UnplacedSyllable
   pub s : HeldScore
@@ -127,15 +127,15 @@ pub record RunsBefore (m : ScoreMachine) (at : Place) (t : List ℕ) (given : Li
   pub sounded : is_some m.pair.gathered.first_kind ≡ p.sounded
   pub input : p.canonical + 1 ≤ m.limits.input
 
--- what stands before the syllable that a run has reached, before which this stands
+-- the totals before the syllable that a run has reached, by those before the run
 abbrev pub before_by : Preceding → Reached → Preceding
 before_by p r = record { syllables = min (p.syllables + r.count) most; canonical = r.canonical; spans = r.spans; sounded = p.sounded }
 
 abbrev pub before_in : ScoreMachine → Reached → Preceding
 before_in m r = before_by m.bounds.after r
 
--- In this text, the first of whose characters stands at `at`, a run has given these syllables, and
--- has reached one that is not given yet.
+-- In this text, the first of whose characters is at `at`, a run has emitted the syllables `given`,
+-- and has reached one that is not emitted yet.
 pub record RunsTo (m : ScoreMachine) (at : Place) (text : List ℕ) (given : List PlacedSyllable) (reached : Reached) : Type 0 where
   pub stands : IsBetweenSyllables m at
   pub bytes : List ℕ
@@ -147,7 +147,7 @@ pub record RunsTo (m : ScoreMachine) (at : Place) (text : List ℕ) (given : Lis
   pub line : at.line + length text < 2 ^ 63
   pub column : at.column + length text < 2 ^ 63
 
--- The same with some syllables more, which a taker has taken.
+-- The same with further syllables, which a taker has taken.
 pub record RunsMore {Taker : Type 0} (given_by : Taker → List PlacedSyllable → Taker) (m : ScoreMachine) (at : Place) (text : List ℕ) (given : List PlacedSyllable) (old : Taker) (reached : Reached) (new : Taker) : Type 0 where
   pub more : List PlacedSyllable
   pub runs : RunsTo m at text (given ++ more) reached
@@ -155,7 +155,7 @@ pub record RunsMore {Taker : Type 0} (given_by : Taker → List PlacedSyllable �
 
 -- ---- syllables that wait
 
--- what is left of the text from that of this syllable on
+-- the rest of the text from this syllable on, without its gap
 abbrev pub unread : Found → List ℕ
 unread f = drop f.gap f.spelled.now ++ f.rest.now
 
@@ -166,14 +166,14 @@ pub record HasFront (text front : List ℕ) (n : ℕ) : Type 0 where
   pub is : text ≡ front ++ back
   pub left_is : length back ≡ n
 
--- The text of those that wait before this syllable is this, and then what is unread.
+-- The text from the waiting syllables on is `front`, and then what is unread.
 pub record AreBefore (w : Waiting) (r : Reached) (front : List ℕ) : Type 0 where
   pub earlier : w.earlier ≤ r.count
   pub text : w.text.now ≡ front ++ unread r.last
   pub some : w.earlier < r.count → (r.last.gap ≡ 0) × (length front + length r.last.spelled.now < w.most)
   pub none : w.earlier ≡ r.count → (front ≡ []) × (w.starts ≡ nat_lt 0 r.last.gap)
 
--- The same as `RunsMore`, but some of those that a taker has not taken wait.
+-- The same as `RunsMore`, but some of the syllables wait, which the taker has not taken.
 pub record RunsOn {Taker : Type 0} (given_by : Taker → List PlacedSyllable → Taker) (m : ScoreMachine) (at : Place) (text : List ℕ) (given : List PlacedSyllable) (old : Taker) (w : Waiting) (front : List ℕ) (reached : Reached) (new : Taker) : Type 0 where
   pub more : List PlacedSyllable
   pub waiting : List PlacedSyllable
@@ -182,15 +182,16 @@ pub record RunsOn {Taker : Type 0} (given_by : Taker → List PlacedSyllable →
   pub count : w.earlier + length waiting ≡ reached.count
   pub joined : (t : List ℕ) → concat_of (map canonical_in_place waiting) ++ spelled_canonical (nat_lt 0 reached.last.gap) t ≡ spelled_canonical w.starts (front ++ t)
 
--- ---- what is between two syllables
+-- ---- the machine between two syllables
 
--- Only what is borrowed may be otherwise, and the slot that reads is being filled.
+-- Only the slots may differ: the same was gathered, and the slot that reads is being filled.
 pub record IsSamePair (old new : ScoreMachine) : Type 0 where
   pub gathered : new.pair.gathered ≡ old.pair.gathered
   pub used : new.pair.used ≡ Filling
   pub is : new ≡ record old { pair = new.pair }
 
--- The machine goes on before a syllable of a run, and none is held.
+-- The machine is before a syllable of a run, at `at`, and none is pending. `p` has the totals
+-- before it.
 pub record GoesBefore (m : ScoreMachine) (p : Preceding) (at : Place) (on : ScoreMachine) : Type 0 where
   pub gathered : on.pair.gathered ≡ record m.pair.gathered { made = []; total = p.canonical; eu = p.spans.eu; nlba = p.spans.nlba }
   pub used : on.pair.used ≡ Filling
@@ -208,7 +209,7 @@ pub record IsFrontOf (text : List ℕ) (at : Place) (run : Run) : Type 0 where
   pub plain : All IsPlain (chars (take run.bytes text))
   pub next : run.next ≡ place_past at (chars (take run.bytes text))
 
--- A run that has reached a syllable ends with it.
+-- A run that has reached a syllable ends: its syllables were emitted, and the one reached is read.
 pub record EndsRun (m : ScoreMachine) (at : Place) (text : List ℕ) (reached : Reached) (run : Run) (after : ScoreMachine) : Type 0 where
   pub front : IsFrontOf text at run
   pub gives : (given : List PlacedSyllable) → RunsTo m at text given reached → GivesSyllables (shown m) at (chars (take run.bytes text)) given (shown after)

@@ -1,4 +1,4 @@
--- What a machine over a score shows, and what holds of it between two calls.
+-- The state that a machine over a score shows, and its invariant between two calls.
 use Rattle.std.specs.Prelude.{◌≡◌, ℕ, ◌≤◌, nat_lt, Bool, true, false, [], length, None}
 use Rattle.std.specs.List.{All}
 use Rattle.gabc_score.specs.declared.preceding.Preceding.{Preceding}
@@ -20,11 +20,11 @@ use Rattle.gabc_score.specs.machine.Preceded.{IsPreceded}
 use Rattle.gabc_score.specs.machine.ScoreStage.{HeldScore}
 use Rattle.gabc_score.specs.machine.SlotPair.{is_made}
 
--- a syllable was given: one stands before the held one
+-- a syllable was emitted: there is one before the pending one
 abbrev pub has_given : ScoreMachine → Bool
 has_given m = nat_lt 0 m.bounds.before.syllables
 
--- what was read
+-- the state after the headers
 abbrev pub held_score : ScoreMachine → HeldScore
 held_score m = record { next = m.next; gathered = m.pair.gathered; is_preceded = has_given m }
 
@@ -36,8 +36,8 @@ pub record IsShort (limit : ℕ) (m : UnplacedSyllable) : Type 0 where
   pub kept : length m.kept ≤ limit
   pub canonical : length (canonical false m) ≤ limit
 
--- between two calls: no finding is left, the slots are those of the limits, and the held syllable
--- is within them
+-- between two calls: no finding is left, the slots are those of the limits, and the pending
+-- syllable is within them
 pub record IsAtRest (m : ScoreMachine) : Type 0 where
   pub none : m.found.items ≡ []
   pub room : 9 ≤ m.found.limit
@@ -51,14 +51,14 @@ pub record IsBeforeBody (m : ScoreMachine) : Type 0 where
   pub rests : IsAtRest m
   pub nothing : m.pair.gathered ≡ nothing_gathered m.limits.syllable 0
 
--- no syllable is whole, whether it was given or not
+-- no syllable is whole, emitted or not
 pub record NoneIsWhole (before : Preceding) (g : Gathered) : Type 0 where
   pub none_before : before.syllables ≡ 0
   pub none_made : g.made ≡ []
 
--- In the body what is counted holds, no limit is passed, the kept text is within its limit, what is
--- gathered is what its parts say, and the held syllable holds a unit, and its spans follow from
--- those before it. In front of the first text no syllable is whole.
+-- In the body the counts hold, no limit is passed, the kept text is within its limit, the state
+-- gathered is that of the events of its parts, and the pending syllable holds a unit, whose spans
+-- follow from those before it. In front of the first text no syllable is whole.
 pub record IsInBody (m : ScoreMachine) : Type 0 where
   pub rests : IsAtRest m
   pub counts : CountsHold m.body.part m.pair.gathered.builder
@@ -71,7 +71,7 @@ pub record IsInBody (m : ScoreMachine) : Type 0 where
   pub within : HoldsWithin m.limits m.bounds.before m.pair.gathered
   pub front : is_in_front m.body.part ≡ true → NoneIsWhole m.bounds.before m.pair.gathered
 
--- the memory stays reserved: for what is found with one input, and for syllables within the limit
+-- the memory stays reserved: for the findings of one input, and for syllables within the limit
 pub record KeepsMemory (m : ScoreMachine) : Type 0 where
   pub room : 9 ≤ m.found.limit
   pub limit : m.pair.gathered.limit ≡ m.limits.syllable

@@ -1,5 +1,5 @@
--- What a stage over a score does after the headers. It holds one whole syllable, the one that is
--- being read, and counts.
+-- The outputs of a stage over a score, after the headers: its state is the pending syllable, the
+-- current one, and totals.
 use Rattle.std.specs.Prelude.{ℕ, false, ◌-◌, ◌||◌, not, nat_lt, List, [], ◌∷◌, ◌++◌, Bool, length, take, drop, Option, Some, None}
 use Rattle.gabc_places.specs.declared.code.Code.{Code}
 use Rattle.gabc_places.specs.declared.code.Fault.{Fault}
@@ -23,14 +23,14 @@ use Rattle.gabc_body.specs.Syllable.{UnplacedSyllable, PlacedSyllable}
 use Rattle.gabc_body.specs.witness.BodyBuilder.{with_all, code_in, end_fault, end_findings}
 use Rattle.gabc_body.specs.witness.Gatherer.{Gathered, nothing_gathered, with_last}
 
--- The place of the next character, and what was gathered: of the syllables made, those not given
--- yet, of which the last is held. And whether a syllable is before them.
+-- The place of the next character, and the state gathered: of the syllables made, those not emitted
+-- yet, the last of them pending. And whether a syllable is before them.
 pub record HeldScore : Type 0 where
   pub next : Place
   pub gathered : Gathered
   pub is_preceded : Bool
 
--- these syllables, the first of which is the first not given yet
+-- these syllables with their positions, the first of them the first not emitted yet
 abbrev pub placed_after : Bool → List UnplacedSyllable → List PlacedSyllable
 placed_after is_preceded made = placed_syllables_by (not is_preceded) made
 
@@ -40,13 +40,13 @@ held_outputs s = outputs_of [] (placed_after s.is_preceded s.gathered.made)
 abbrev pub stop_outputs : HeldScore → Fault → List ScoreOutput
 stop_outputs s fault = held_outputs s ++ Stop fault ∷ []
 
--- at a character of which the body emits this, if no limit is passed
+-- the outputs at a character for which the body emits this, if no limit is passed
 abbrev pub point_outputs : HeldScore → Char → List BodyEvent → List ScoreOutput
 point_outputs s x now =
     let g = with_all s.gathered now in
     outputs_of (findings_now now ++ found_first s.gathered.first_kind g.first_kind x.place) (take (length g.made - 1) (placed_after s.is_preceded g.made))
 
--- all but the last are given
+-- all syllables but the last are emitted
 abbrev pub with_held : Gathered → Gathered
 with_held g = record g { made = drop (length g.made - 1) g.made }
 
@@ -69,7 +69,7 @@ abbrev pub left_by : Option Code → HeldScore → Char → List BodyEvent → L
 left_by (Some code) s x now xs later = stop_outputs s (fault_at x.place code) ∷ silence xs
 left_by None s x now xs later = point_outputs s x now ∷ later
 
--- what it will still emit, if the body's machine will still emit these lists
+-- the outputs left, if the body's machine has these lists left
 abbrev pub body_left : Limits → HeldScore → List (List BodyEvent) → List HeadEvent → List (List ScoreOutput)
 body_left limits s lists [] = held_outputs s ∷ []
 body_left limits s (now ∷ lists) (head_event.Body x ∷ xs) =
@@ -82,15 +82,14 @@ body_left limits s lists (head_event.Heads lines macros canonical ∷ xs) = [] �
 
 -- ---- the stage
 
--- nothing was read of a body whose canonical headers have n bytes
+-- the state at the beginning of a body, after canonical headers of `head` bytes
 abbrev pub begun_score : Limits → Place → ℕ → HeldScore
 begun_score limits at head = record { next = at; gathered = nothing_gathered limits.syllable head; is_preceded = false }
 
 abbrev pub fresh_score : Limits → ℕ → HeldScore
 fresh_score limits head = begun_score limits first_place head
 
--- what it will still emit before the body: what is found in the headers and what stops them is
--- passed on
+-- the outputs left before the body: findings and the fault of the headers are passed on
 abbrev pub score_left : Limits → List HeadEvent → List (List ScoreOutput)
 score_left limits [] = [] ∷ []
 score_left limits (head_event.Heads lines macros canonical ∷ xs) =
@@ -100,7 +99,7 @@ score_left limits (head_event.Stop fault ∷ xs) = (Stop fault ∷ []) ∷ silen
 score_left limits (head_event.End ∷ xs) = (End ∷ []) ∷ silence xs
 score_left limits (head_event.Body x ∷ xs) = [] ∷ score_left limits xs
 
--- what it will still emit, in each part
+-- the outputs left, in each part
 abbrev pub outputs_left : Limits → ScorePart → HeldScore → BodyStageState → List HeadEvent → List (List ScoreOutput)
 outputs_left limits score_part.Heads s body xs = score_left limits xs
 outputs_left limits score_part.Body s body xs = body_left limits s (running_events_left body (characters_in xs)) xs

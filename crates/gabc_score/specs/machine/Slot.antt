@@ -1,4 +1,4 @@
--- A syllable that is read in room reserved for it.
+-- A syllable that is read in memory reserved for it.
 use Rattle.std.specs.Prelude.{ℕ, ◌+◌, ◌≤◌, List, [], ◌∷◌, Bool, length}
 use Rattle.std.specs.Prelude.{string_bytes}
 use Rattle.std.specs.String.{string_capacity}
@@ -15,7 +15,7 @@ use Rattle.gabc_body.specs.Syllable.{UnplacedSyllable, PlacedSyllable}
 use Rattle.gabc_body.specs.witness.Gatherer.{Gathered, with_event}
 use Rattle.gabc_body.specs.witness.SyllableBuilder.{OpenSyllable, made_from}
 
--- the syllable as it is read, its flags and position, and the bytes that it may have
+-- the syllable as it is read, its flags and position, and the most bytes that it may have
 pub record ReadSyllable : Type 0 where
   pub reading : OpenSyllable
   pub eu : Bool
@@ -38,7 +38,7 @@ made_in s = made_from s.reading s.eu s.nlba
 abbrev pub placed_in : ReadSyllable → PlacedSyllable
 placed_in s = record { made = made_in s; position = s.position }
 
--- what one character can add is reserved beside the limit
+-- the limit, and what one character can add
 abbrev pub room_for : ℕ → ℕ
 room_for limit = limit + 32
 
@@ -47,7 +47,7 @@ pub record IsReserved (limit : ℕ) (s : Syllable) : Type 0 where
   pub pieces : room_for limit ≤ s.text.pieces.capacity
   pub snippets : room_for limit ≤ s.snippets.capacity
 
--- ---- what fits into the room
+-- ---- room for events
 
 abbrev pub FitsKept : ℕ → OpenSyllable → ℕ → Type 0
 FitsKept limit o n = length o.kept + n ≤ room_for limit
@@ -73,7 +73,7 @@ abbrev pub FitsEvent : ℕ → OpenSyllable → BodyEvent → Type 0
 FitsEvent limit o (event.Text e) = FitsText limit o e
 FitsEvent limit o (event.Notes line e) = FitsNote limit o e
 
--- one after the other
+-- each event fits after those before it
 abbrev pub FitEach : Gathered → List BodyEvent → Type 0
 FitEach g [] = Unit {0}
 FitEach g (t ∷ now) = FitsEvent g.limit g.builder t × FitEach (with_event g t) now

@@ -1,4 +1,4 @@
--- Two slots: a syllable that is read, and the last whole one, which is held.
+-- Two slots: the current syllable, and the pending one.
 use Rattle.std.specs.Prelude.{◌≡◌, ◌≤◌, ℕ, List, [], ◌∷◌, Bool, true, false, take, Option}
 use Rattle.gabc_notes.specs.declared.stage.NoteEvent.{NoteEvent}
 use Rattle.gabc_body.specs.Events.{is_close}
@@ -13,8 +13,8 @@ use Rattle.gabc_body.specs.witness.Gatherer.{Gathered}
 use Rattle.gabc_score.specs.machine.Slot.{ReadSyllable, made_in, placed_in}
 use Rattle.gabc_body.specs.witness.SyllableBuilder.{OpenSyllable, nothing_open}
 
--- what was gathered, the held syllable, if there is one, the use of the slot that reads, and the
--- two syllables that may be borrowed
+-- the state gathered, the pending syllable, if there is one, the use of the slot that reads, and
+-- the two syllables that may be borrowed
 pub record SlotPairState : Type 0 where
   pub gathered : Gathered
   pub held : List UnplacedSyllable
@@ -22,7 +22,8 @@ pub record SlotPairState : Type 0 where
   pub first : PlacedSyllable
   pub second : PlacedSyllable
 
--- This was gathered, and this is the use of the slot that reads. The held syllable stays.
+-- The state gathered is `g`, and the use of the slot that reads `used_so`. The pending syllable
+-- stays.
 pub record HasGathered (before : SlotPairState) (g : Gathered) (used_so : SlotUse) (after : SlotPairState) : Type 0 where
   pub gathered : after.gathered ≡ g
   pub held : after.held ≡ before.held
@@ -44,13 +45,14 @@ made_last Made s = made_in s ∷ []
 made_last Filling s = []
 made_last Lent s = []
 
--- the first that may be borrowed is the one held, or what was held when it was given for the next
+-- the first syllable that may be borrowed: that of the slot that reads, if it was emitted, else
+-- that of the other slot
 abbrev pub first_in : SlotUse → ReadSyllable → ReadSyllable → PlacedSyllable
 first_in Lent now other = placed_in now
 first_in Filling now other = placed_in other
 first_in Made now other = placed_in other
 
--- where the canonical text of the whole syllable in a slot stands in its kept text
+-- the byte from which on the kept text of the whole syllable in a slot is its canonical text
 abbrev pub StandsIn : Option ℕ → ReadSyllable → Type 0
 StandsIn from s = StandsFrom from (made_in s)
 
@@ -68,19 +70,19 @@ abbrev pub used_by : Bool → SlotUse
 used_by true = Made
 used_by false = Filling
 
--- a `)` ends what is read
+-- a `)` ends the current syllable
 abbrev pub used_past : NoteEvent → SlotUse
 used_past e = used_by (is_close e)
 
--- n of the two are given
+-- the first n of the two syllables that may be borrowed
 abbrev pub lent_syllables : ℕ → SlotPairState → List PlacedSyllable
 lent_syllables n s = take n (s.first ∷ s.second ∷ [])
 
--- the events that give them
+-- the events that emit them
 abbrev pub lent_of : ℕ → List ScoreEvent
 lent_of n = take n (event.Syllable First ∷ event.Syllable Second ∷ [])
 
--- These syllables are borrowed, n at most, and none is read any more.
+-- These syllables are borrowed, at most `bound`, and the limit is the same.
 pub record LendsLast (before : SlotPairState) (syllables : List PlacedSyllable) (bound count : ℕ) (after : SlotPairState) : Type 0 where
   pub limit : after.gathered.limit ≡ before.gathered.limit
   pub lends : lent_syllables count after ≡ syllables

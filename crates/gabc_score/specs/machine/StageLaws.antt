@@ -1,5 +1,4 @@
--- The laws of the stages of texts and snippets on which the reading of a kept text by itself
--- stands.
+-- The laws of the stages of texts and snippets by which a kept text is read again.
 use Rattle.std.specs.Prelude.{◌≡◌, ℕ, ◌+◌, List, [], ◌∷◌, ◌++◌, length, Bool, true, false, is_some}
 use Rattle.gabc_places.specs.declared.place.Char.{Char}
 use Rattle.gabc_places.specs.declared.place.Place.{Place}
@@ -31,7 +30,7 @@ pub record Again : Type 0 where
   pub text_ends : (k : List ℕ) → text.ends_after_it k ≡ true → text.kept_with k 40 ≡ []
   pub gabc_kept : (split : Bool) (macros : ℕ) (s : NoteStage) (k more : List ℕ) (c : ℕ) → notes.Keeps split macros s (k ++ c ∷ more) → notes.IsKeptAgain split k c
 
--- What is open, and where the end cuts.
+-- The openers, and the place at which the end cuts.
 pub record Ends : Type 0 where
   pub text_comment : (s : TextStage) (k : List ℕ) → text.Keeps s k → text_tells.is_in_comment s ≡ true → text.begins_comment k ≡ true
   pub text_opener : (s : TextStage) (k : List ℕ) → text.Keeps s k → is_some (text_tells.opener_of s) ≡ text.is_open_after_text k
@@ -39,7 +38,7 @@ pub record Ends : Type 0 where
   pub gabc_opener : (split : Bool) (macros : ℕ) (s : NoteStage) (k : List ℕ) → notes.Keeps split macros s k → is_some (note_tells.opener_of s) ≡ in_raw k
   pub gabc_cut : (s : NoteStage) → s.ended ≡ false → notes.IsCutAtOpener s
 
--- What is open may be at any place.
+-- An opener may be at any place.
 pub record Moves : Type 0 where
   pub text_there : (s : TextStage) (k : List ℕ) (at : Place) → text.Keeps s k → is_some (text_tells.opener_of s) ≡ true → text.OpensThere s k at
   pub gabc_there : (split : Bool) (macros : ℕ) (s : NoteStage) (k : List ℕ) (at : Place) → notes.Keeps split macros s k → is_some (note_tells.opener_of s) ≡ true → notes.OpensThere split macros s k at

@@ -1,4 +1,4 @@
--- What the machine over a body will still emit. It is no promise: that it emits what a body emits
+-- The events that the machine over a body has left. It is no promise: that they are those of a body
 -- is proved, if no count of the body reaches its last value.
 use Rattle.std.specs.Prelude.{ℕ, List, [], map, Bool, if◌then◌else◌}
 use Rattle.gabc_places.specs.StageLaw.{silence}
@@ -42,10 +42,10 @@ part_with (part.Nabc line opened stage) xs = InNotes line opened (nabc.events_le
 abbrev pub texts_by_stage : Texts
 texts_by_stage at xs = text.events_left (fresh_stage at) (codes_of xs)
 
--- what it will still emit before the end of the input
+-- the events left before the end of the input
 abbrev pub running_events_left : BodyStageState → List Char → List (List BodyEvent)
 running_events_left r xs = events_from texts_by_stage r.nabc_lines r.macros (part_with r.part xs) xs
 
--- what it will still emit: nothing after the end of the input
+-- the events left: none after the end of the input
 abbrev pub events_left : BodyStageState → List Char → List (List BodyEvent)
 events_left r xs = if r.ended then silence xs else running_events_left r xs

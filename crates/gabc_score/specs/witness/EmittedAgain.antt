@@ -1,5 +1,5 @@
--- The kept text of a syllable that is not whole, read by itself, by all that its characters emit.
--- It is no promise: that it is the definition of `specs/KeptAgain.antt` is proved.
+-- The kept text of a syllable that is not whole, read alone, by all events of its characters. It is
+-- no promise: that it is the definition of `specs/KeptAgain.antt` is proved.
 use Rattle.std.specs.Prelude.{◌≡◌, ℕ, List, [], ◌∷◌, ◌++◌, length, take, drop, Bool, true, false, not, ◌&&◌, ◌==◌, if◌then◌else◌, Option, Some, None, is_some, encode_utf8_all}
 use Rattle.std.specs.List.{list_any}
 use Rattle.gabc_places.specs.declared.place.Char.{Char}
@@ -21,28 +21,28 @@ abbrev pub opens : BodyEvent → Bool
 opens (event.Text (text.Ended Notes)) = true
 opens _ = false
 
--- the place of this `(`, if there is one, and these lists are what the characters emit
+-- the place of this `(`, if there is one; the lists are the events of the characters
 abbrev pub notes_at : List Char → List (List BodyEvent) → Option Place
 notes_at [] lists = None
 notes_at (x ∷ xs) [] = None
 notes_at (x ∷ xs) (now ∷ lists) = if list_any opens now then Some x.place else notes_at xs lists
 
--- where the end cuts, if that is not at this `(`
+-- the end cuts, and at another place than this `(`
 abbrev pub is_other : Option Place → Option Place → Bool
 is_other (Some p) (Some q) = not (p.line == q.line && p.column == q.column)
 is_other (Some p) None = true
 is_other None q = false
 
 module _ (lines macros : ℕ) (t : List ℕ) where
-  -- the characters of the text, the first of which stands at 1:1
+  -- the characters of the text, the first of which is at 1:1
   abbrev pub placed : List Char
   placed = placed_characters_from first_place t
 
-  -- what they emit: a list for each of them, and one for the end
+  -- their events: a list for each of them, and one for the end
   abbrev pub lists : List (List BodyEvent)
   lists = events_from texts_by_definition lines macros (text_from texts_by_definition first_place placed) placed
 
-  -- what they emit before the end, the nearest first
+  -- their events before the end, the nearest first
   abbrev pub emitted : List BodyEvent
   emitted = events_onto (concat_of (take (length t) lists)) []
 
@@ -54,8 +54,8 @@ module _ (lines macros : ℕ) (t : List ℕ) where
   abbrev pub is_inside : Bool
   is_inside = is_other (cut_of (concat_of (drop (length t) lists))) (notes_at placed lists)
 
--- Read by itself the text is what is kept of it, and no syllable is whole. A comment is open after
--- it only if a `%` there is not kept. The openers say what else is open, wherever they stand.
+-- Read alone the text keeps all its characters, and no syllable is whole. A comment is open after
+-- it only if a `%` there is not kept. The openers say what else is open, at whatever places.
 pub record IsEmittedAgain (lines macros : ℕ) (t : List ℕ) (openers : Openers) (comment : Bool) : Type 0 where
   pub kept : kept_of (emitted lines macros t) ≡ encode_utf8_all t
   pub none : all_syllables (emitted lines macros t) ≡ []

@@ -1,4 +1,4 @@
--- What is known of any stage over a score. Nobody has to believe it: that each stage stands so is a
+-- The invariant of any stage over a score. Nobody has to believe it: that each stage meets it is a
 -- law.
 use Rattle.std.specs.Prelude.{◌≡◌, ◌≤◌, length}
 use Rattle.gabc_score.specs.declared.score_machine.ScoreMachine.{ScoreMachine}
@@ -6,8 +6,8 @@ use Rattle.gabc_score.specs.declared.score_machine.ScorePart.TheVariants as scor
 use Rattle.gabc_score.specs.machine.ScoreMachine.{shown, IsScore}
 use Rattle.gabc_score.specs.witness.ScoreStage.{ScoreStageState}
 
--- A stage is reachable: some machine over a score shows this between two calls, and holds one whole
--- syllable at most in the body.
+-- A stage is reachable: some machine over a score shows this between two calls, and has at most one
+-- whole syllable in the body, the pending one.
 pub record IsReachable (s : ScoreStageState) : Type 0 where
   pub machine : ScoreMachine
   pub shows : shown machine ≡ s

@@ -1,4 +1,4 @@
--- What is gathered of a text as it is read.
+-- The values gathered of a text as it is read.
 use Rattle.std.specs.Prelude.{ℕ, string_bytes}
 use Rattle.gabc_text.specs.declared.view.TextEnding.{TextEnding}
 use Rattle.gabc_text.specs.declared.view.TextEnding.TheVariants as text_ending

@@ -1,4 +1,4 @@
--- What the code makes of two sets of styles.
+-- The sets of styles that the code makes of two.
 use Rattle.std.specs.Prelude.{◌&&◌, ◌||◌, Bool, false, not, cond}
 use Rattle.gabc_text.specs.declared.styles.Styles.{Styles}
 

@@ -1,4 +1,4 @@
--- What the machine does at several characters, and where it stands in a raw part.
+-- The machine past several characters, and its states in a raw part.
 use Rattle.std.specs.Prelude.{ℕ, ◌==◌, ◌&&◌, not, Bool, false, List, [], ◌∷◌, ◌++◌}
 use Rattle.gabc_text.specs.declared.token_state.TokenState.{TokenState}
 use Rattle.gabc_text.specs.declared.token_state.TokenState.TheVariants.{Raw}
@@ -11,7 +11,7 @@ abbrev pub stage_past : TextStage → List ℕ → TextStage
 stage_past s [] = s
 stage_past s (c ∷ cs) = stage_past (push_stage s c) cs
 
--- what it emits for them
+-- the events for these characters
 abbrev pub events_of_pushes : TextStage → List ℕ → List TextEvent
 events_of_pushes s [] = []
 events_of_pushes s (c ∷ cs) = events_of_push s c ++ events_of_pushes (push_stage s c) cs
@@ -21,6 +21,6 @@ abbrev pub is_unmatched : TokenState → Bool
 is_unmatched (Raw raw m) = m == 0
 is_unmatched _ = false
 
--- a machine that stands there
+-- a machine in such a state, whose text has not ended
 abbrev pub is_in_raw : TextStage → Bool
 is_in_raw s = not s.ended && is_unmatched s.state

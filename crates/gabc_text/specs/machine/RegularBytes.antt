@@ -29,17 +29,17 @@ abbrev pub AllKnown : List PieceFacts → Type 0
 AllKnown [] = Unit {0}
 AllKnown (p ∷ ps) = (is_unknown p.kind ≡ false) × AllKnown ps
 
--- a piece but a span mark stands among these, or before them
+-- there is a piece but a span mark among these, or before them
 abbrev pub word_after : Bool → List PieceFacts → Bool
 word_after w [] = w
 word_after w (p ∷ ps) = word_after (is_word_kind (Some p.kind) || w) ps
 
--- the last of these is a blank, or, if there is none, what stands before them
+-- the last of these is a blank, or, if there are none, the piece before them is
 abbrev pub blank_after : Bool → List PieceFacts → Bool
 blank_after b [] = b
 blank_after b (p ∷ ps) = blank_after (is_blank_piece p.kind) ps
 
--- the styles of the first of these; those of the last, or, if there is none, of what stands before
+-- the styles of the first of these; those of the last, or, if there are none, those before them
 abbrev pub first_styles : List PieceFacts → List Style
 first_styles [] = []
 first_styles (p ∷ ps) = p.styles
@@ -48,7 +48,7 @@ abbrev pub last_styles : List Style → List PieceFacts → List Style
 last_styles old [] = old
 last_styles old (p ∷ ps) = last_styles p.styles ps
 
--- no style stays open between them
+-- the two lists have no common prefix: no style stays open between them
 abbrev pub AreApart : List Style → List Style → Type 0
 AreApart old new = after_common old new ≡ (old, new)
 
@@ -69,7 +69,7 @@ is_low b = nat_lt b 128 && not (b == 13)
 abbrev pub is_plain_byte : ℕ → ℕ → Bool
 is_plain_byte but b = (nat_lt 31 b && nat_lt b 127) && not (but == b)
 
--- the first byte of the name of a tag, which may stand after a `/`
+-- the first byte of the name of a tag, before which there may be a `/`
 abbrev pub name_of_tag : List ℕ → ℕ
 name_of_tag bytes = if slice_index bytes 1 == 47 then slice_index bytes 2 else slice_index bytes 1
 
@@ -105,13 +105,13 @@ pub record IsInner (stop : ℕ) (bytes : List ℕ) : Type 0 where
   pub spells : IsSpelled text bytes
   pub without : list_all (λ c. not (stop == c)) text ≡ true
 
--- such characters between these
+-- the bytes of such characters between `opening` and `closing`
 pub record IsBracketed (opening : List ℕ) (stop : ℕ) (closing bytes : List ℕ) : Type 0 where
   pub inner : List ℕ
   pub within : IsInner stop inner
   pub parts : bytes ≡ opening ++ (inner ++ closing)
 
--- the bytes of a run with something, between these
+-- the bytes of a run that is not empty, between `opening` and `closing`
 pub record IsEnclosed (opening closing bytes : List ℕ) : Type 0 where
   pub inner : List ℕ
   pub run : IsRun inner
@@ -127,7 +127,8 @@ abbrev pub is_style : Option Style → Style → Bool
 is_style None s = false
 is_style (Some r) s = is_same r s
 
--- the bytes of some pieces, all in this style, if in one, and none a span mark
+-- the bytes of some pieces, the first and the last in this style, or in none; the last is no blank,
+-- and none is a span mark
 pub record IsPart (style : Option Style) (bytes : List ℕ) : Type 0 where
   pub pieces : List PieceFacts
   pub spells : IsSpelled (text_of_tokens (print_from None 0 [] pieces)) bytes
@@ -148,11 +149,11 @@ mark_length (Some mark) = length (tag_of mark)
 abbrev pub nothing_before : Before
 nothing_before = record { style = None; word = false; centre = false }
 
--- what is known of a text with a part after it
+-- the facts about a text with a part after it
 abbrev pub through : Before → Part → Before
 through b p = record { style = p.style; word = true; centre = b.centre }
 
--- the bytes of a regular text that has no translation, of which this is known; this span mark, if
+-- the bytes of a regular text without a translation, with these facts; this span mark, if there is
 -- one, is the only one in it
 pub record IsBegun (mark : Option SpanMark) (before : Before) (bytes : List ℕ) : Type 0 where
   pub pieces : List PieceFacts

@@ -23,24 +23,24 @@ outside m = m
 abbrev pub uncommented : TextStage → TextStage
 uncommented s = record s { state = outside s.state }
 
--- r stands where s stands, but for places and a comment
+-- `r` is in the state of `s`, but for places and a comment
 pub record IsAlike (s r : TextStage) : Type 0 where
   pub place : Place
   pub next : Place
   pub same : r ≡ placed place next (uncommented s)
 
--- What holds of every stage that has read a text.
+-- The invariant of every stage that has read a text.
 pub record IsReached (s : TextStage) : Type 0 where
   pub between : is_plain s.state ≡ true → s.progress.place ≡ s.progress.next
   pub start : (is_plain s.state || is_comment s.state) ≡ true → s.progress.start ≡ s.progress.kept
   pub blank : s.facts.space ≡ true → s.facts.blank ≡ true
   pub starts : s.facts.space ≡ true → (s.facts.word || s.facts.starts) ≡ true
 
--- what is kept of the next character, if it does not end the text
+-- the character kept at the next one, if that does not end the text
 abbrev pub kept_at : TextStage → ℕ → Option ℕ
 kept_at s c = keep (settle_stage s c).facts (settle_stage s c).state c
 
--- what is kept of these characters, none of which ends the text
+-- the characters kept at these, none of which ends the text
 abbrev pub kept_past : TextStage → List ℕ → List ℕ
 kept_past s [] = []
 kept_past s (c ∷ t) = option_to_list (kept_at s c) ++ kept_past (push_stage s c) t

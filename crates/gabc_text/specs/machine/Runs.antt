@@ -1,4 +1,4 @@
--- What the code has still to put while it goes over the pieces of a view.
+-- The text that the code has still to put while it reads the pieces of a view.
 use Rattle.std.specs.Prelude.{ℕ, List, ◌++◌, Option, drop}
 use Rattle.gabc_places.specs.declared.place.Span.{Span}
 use Rattle.gabc_text.specs.declared.canonical.Run.{Run}

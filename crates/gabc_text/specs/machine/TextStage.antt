@@ -1,4 +1,4 @@
--- What the machine does at a character and at the end.
+-- The steps of the machine at a character and at the end.
 use Rattle.std.specs.Prelude.{if◌then◌else◌, ℕ, ◌==◌, ◌&&◌, Bool, true, false, cond, List, [], ◌++◌, Option, Some, None}
 use Rattle.std.specs.Char.{len_utf8}
 use Rattle.gabc_places.specs.declared.place.Place.{Place}
@@ -76,7 +76,7 @@ abbrev pub events_of_step : TextStage → Step → ℕ → List TextEvent
 events_of_step t (Stays state) last = []
 events_of_step t (Ends k s) last = events_of_token t.facts t.progress k s last
 
--- the machine has kept what is kept of the character
+-- the machine with this character counted, and what is kept of it
 abbrev pub stage_past_char : TextStage → ℕ → TextStage
 stage_past_char t c = record t { progress = progress_past t.progress c (keep t.facts t.state c) }
 

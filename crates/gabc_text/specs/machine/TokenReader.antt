@@ -1,4 +1,4 @@
--- What a character does where a token is read.
+-- The step at a character, while tokens are read.
 use Rattle.std.specs.Prelude.{ℕ, Bool, true, false, ◌&&◌, ◌==◌, Option, Some, None}
 use Rattle.gabc_text.specs.declared.token.TokenKind.{TokenKind}
 use Rattle.gabc_text.specs.declared.token_state.TokenState.{TokenState}

@@ -60,11 +60,11 @@ kind_at_end (Tag name) = Some kind.OpenTag
 kind_at_end (Raw raw m) = Some kind.OpenTag
 kind_at_end Translation = Some kind.OpenTranslation
 
--- what is kept of a character between tokens
+-- the character kept at one between tokens
 abbrev pub keep_first : TextFacts → ℕ → TokenKind → Option ℕ
 keep_first facts c k = kept_as (c == 37 || leaves_out facts k) facts.space k None (Some 32) (Some c)
 
--- what is kept of a character
+-- the character kept at one in this state
 abbrev pub keep : TextFacts → TokenState → ℕ → Option ℕ
 keep facts Plain c = keep_first facts c (single c)
 keep facts Comment c = None
@@ -74,7 +74,7 @@ abbrev pub is_plain : TokenState → Bool
 is_plain Plain = true
 is_plain _ = false
 
--- between tokens, the character is a token by itself, a letter
+-- between tokens the character is a whole token, a letter
 pub record IsLetterBetween (c : ℕ) : Type 0 where
   pub is_letter : single c ≡ kind.Letter
   pub is_whole : first_step c ≡ Ends kind.Letter Other

@@ -1,5 +1,5 @@
--- What is emitted of a text, but for the parts of its view, by what is kept of it, whether a
--- comment is open, and the place of what is open.
+-- The outputs of a text, but for the parts of its view, by its kept text, whether a comment is
+-- open, and the place of its opener.
 use Rattle.std.specs.Prelude.{ℕ, List, [], ◌∷◌, ◌++◌, Bool, false, cond, not, ◌&&◌, ◌==◌, map, reverse, Some}
 use Rattle.gabc_places.specs.Fate.{Fate, Keep, Ends, LeaveOut}
 use Rattle.gabc_places.specs.Place.{next_place}
@@ -16,7 +16,8 @@ use Rattle.gabc_text.specs.Token.{Token, tokens}
 use Rattle.gabc_text.specs.View.{is_cut, codes_at_end, found_at}
 use Rattle.gabc_text.specs.witness.TextByKept.{opens, ends}
 
--- with a character, or with the end: what is kept, what is found, and how the text ends
+-- the outputs of a character, or of the end: the kept characters, the findings, and how the text
+-- ends
 pub record Emitted : Type 0 where
   pub kept : List Char
   pub found : List Finding
@@ -28,7 +29,7 @@ emitted events = record { kept = kept_chars_in events; found = found_in events; 
 abbrev pub nothing : Emitted
 nothing = record { kept = []; found = []; ends = [] }
 
--- what is kept so far, whether a comment is open, and the place of what is open
+-- the kept text so far, whether a comment is open, and the place of the opener
 pub record TextState : Type 0 where
   pub kept : List ℕ
   pub comment : Bool
@@ -37,7 +38,7 @@ pub record TextState : Type 0 where
 abbrev pub before_it : TextState → List Token
 before_it s = reverse (tokens s.kept)
 
--- a character that is part of nothing before it may open something
+-- the place of the opener with a character: its own, if it belongs to nothing before it
 abbrev pub inner_with : TextState → Char → Place
 inner_with s x = cond (belongs (before_it s) x.c) s.inner x.place
 
@@ -67,8 +68,8 @@ emitted_at_end s here = record {
   ends = cond (is_cut (before_it s)) (Cut s.inner) Finished ∷ [];
 }
 
--- With each of these characters, the first of which stands here, and with the end. A comment goes
--- on up to an LF.
+-- The outputs of each of these characters, the first of which is at this place, and of the end. A
+-- comment continues up to an LF.
 abbrev pub emitted_past : TextState → Place → List ℕ → List Emitted
 emitted_past s here [] = emitted_at_end s here ∷ []
 emitted_past s here (c ∷ t) =

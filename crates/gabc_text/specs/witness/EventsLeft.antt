@@ -1,7 +1,7 @@
--- What a stage still emits of a text, in any state. A state stands between two tokens or within
--- one. A text of the token that it stands in, and then the characters to come, are the tokens
--- ahead; what was seen before one of them is what the state has seen, with the tokens since. In
--- these definitions `before` are the tokens since, the nearest first: before the first none.
+-- The events that a stage has left, in any state. A state is between two tokens or within one. A
+-- text of the token that it is in, and then the characters to come, are the tokens ahead; before
+-- one of them the facts are those of the state, with the tokens since. In these definitions
+-- `before` are the tokens since, the nearest first: before the first none.
 use Rattle.std.specs.Prelude.{if◌then◌else◌, ℕ, List, [], ◌∷◌, ◌++◌, Bool, cond, not, ◌&&◌, length, drop, map, Option, Some, None, is_some, reverse}
 use Rattle.gabc_places.specs.declared.place.Place.{Place}
 use Rattle.gabc_places.specs.declared.place.Span.{Span}
@@ -31,18 +31,18 @@ use Rattle.gabc_places.specs.Place.{saturating_next_place}
 use Rattle.gabc_text.specs.ExampleTexts.{stands_for}
 use Rattle.gabc_text.specs.witness.FactsPast.{facts_past, leaves_out, past, bytes_past}
 
--- ---- what a token emits of its characters to come, by what was seen before it and where it begins
+-- ---- the events of a token for its characters to come, by the facts before it and where it begins
 
--- what is kept of them
+-- the characters kept of them
 abbrev pub kept_by : TextFacts → TokenKind → List ℕ → List ℕ
 kept_by facts k cs = kept_as (leaves_out facts k) facts.space k [] (32 ∷ []) cs
 
--- each character with its place, the first at this one
+-- the event of each character, kept at its place, the first of which is this one
 abbrev pub each_kept : Place → List ℕ → List (List TextEvent)
 each_kept p [] = []
 each_kept p (c ∷ cs) = (out.Kept (record { c = c; place = p }) ∷ []) ∷ each_kept (saturating_next_place p c) cs
 
--- what is kept of each, the first of which stands at this place
+-- the kept character of each, the first of which is at this place
 abbrev pub lists_kept : TextFacts → Place → TokenKind → List ℕ → List (List TextEvent)
 lists_kept facts p k cs = kept_lists_as (leaves_out facts k) facts.space k p cs (each_kept p cs)
 
@@ -51,11 +51,11 @@ lists_kept facts p k cs = kept_lists_as (leaves_out facts k) facts.space k p cs 
 abbrev pub piece_by : TextFacts → TokenKind → TagEffect → Option PieceKind
 piece_by facts k so = cond (is_space k && (facts.word && not facts.blank)) (Some piece.Blank) (piece_kind k so)
 
--- how many bytes are kept before its last character: of a `$` by itself, before the token
+-- the number of bytes kept before its last character; of a lone `$`, before the token
 abbrev pub last_by : Progress → Token → List ℕ → ℕ
 last_by progress k cs = cond (is_lone k) progress.start (bytes_past progress.kept (but_end cs))
 
--- how many are kept after it
+-- the number of bytes kept after it
 abbrev pub kept_after : TextFacts → Progress → TokenKind → List ℕ → ℕ
 kept_after facts progress k cs = bytes_past progress.kept (kept_by facts k cs)
 
@@ -65,8 +65,7 @@ abbrev pub from_by : ℕ → PieceKind → ℕ → ℕ
 from_by start piece.Char last = last
 from_by start _ last = start
 
--- a piece of this kind, where n bytes are kept before the token's last character, and m
--- after it
+-- a piece of this kind, with `last` bytes kept before the token's last character, and `to` after it
 abbrev pub piece_there : TextFacts → Progress → PieceKind → ℕ → ℕ → Piece
 piece_there facts progress kind last to = record { kind = kind; styles = facts.styles; span = record { from = from_by progress.start kind last; to = to } }
 
@@ -78,7 +77,7 @@ parts_by facts progress k last to None =
     (cond (is_whole_translation k && not facts.translated) (part.Translation (record { from = count_plus progress.start 1; to = last }) ∷ [])
     [])
 
--- the findings where the token ends
+-- the codes of the findings at the end of the token
 abbrev pub codes_by : TextFacts → TokenKind → TagEffect → List Code
 codes_by facts k so = late_codes_by (has_style facts.styles) facts.begun facts.ended k so
 
@@ -86,8 +85,8 @@ codes_by facts k so = late_codes_by (has_style facts.styles) facts.begun facts.e
 abbrev pub findings_there : Place → List Code → List TextEvent
 findings_there p cs = map (λ (c : Code). out.Found (record { place = p; code = c })) cs
 
--- what is emitted of it as a whole, where n bytes are kept before its last character, and so
--- many after it: its parts and its findings
+-- the events of the token as a whole, with `last` bytes kept before its last character, and `to`
+-- after it: its parts and its findings
 abbrev pub whole_events_by : TextFacts → Progress → TokenKind → TagEffect → ℕ → ℕ → List TextEvent
 whole_events_by facts progress k so last to =
     map (λ (p : TextPart). out.Part p) (parts_by facts progress k last to (piece_kind k so))
@@ -96,14 +95,14 @@ whole_events_by facts progress k so last to =
 abbrev pub token_events_by : TextFacts → Progress → Token → List ℕ → List TextEvent
 token_events_by facts progress k cs = whole_events_by facts progress k.kind (effect k) (last_by progress k cs) (kept_after facts progress k.kind cs)
 
--- a second translation, if nothing of it was read before
+-- the finding of a second translation, if no character of it was read before
 abbrev pub early_events_by : TextFacts → Place → List ℕ → TokenKind → List TextEvent
 early_events_by facts p [] k = cond (is_translation k && facts.translated) (findings_there p (W5 ∷ [])) []
 early_events_by facts p (c ∷ read) k = []
 
--- ---- what is counted after a token
+-- ---- the counts after a token
 
--- the pieces, if it is this piece or none
+-- the number of pieces, if the token is this piece or none
 abbrev pub count_after : ℕ → Option PieceKind → ℕ
 count_after n o = if is_some o then count_plus n 1 else n
 
@@ -113,21 +112,21 @@ waiting_after blank was (Some piece.Blank) = Some blank
 waiting_after blank was (Some _) = None
 waiting_after blank was None = was
 
--- the pieces before the first `{`
+-- the number of pieces before the first `{`
 abbrev pub begin_after : TextFacts → TokenKind → ℕ → Option ℕ → Option ℕ
 begin_after facts k n was = if is_begin k && not facts.begun then Some n else was
 
--- the pieces before the first `}` after it
+-- the number of pieces before the first `}` after it
 abbrev pub end_after : TextFacts → TokenKind → ℕ → Option ℕ → Option ℕ
 end_after facts k n was = if is_end k && (facts.begun && not facts.ended) then Some n else was
 
--- ---- what the end emits, by what was seen and where it stands
+-- ---- the events of the end, by the facts and the counts before it
 
--- styles that are still open, and a centre that is
+-- the codes of styles that are still open, and of a centre that is
 abbrev pub codes_last : TextFacts → List Code
 codes_last facts = end_codes_by (has_style facts.styles) facts.begun facts.ended
 
--- of a text that is cut no finding
+-- the events of the end: its findings, none if the text is cut, then the centre and the end itself
 abbrev pub end_events_by : TextFacts → Progress → Bool → TextEnd → List TextEvent
 end_events_by facts progress cut how =
     findings_there progress.next (cond cut [] (codes_last facts))
@@ -137,11 +136,11 @@ end_events_by facts progress cut how =
 -- ---- the tokens ahead of a state, of whose first one some characters were read
 
 module _ (read : List ℕ) (s : TextStage) where
-  -- what was seen before the token
+  -- the facts before the token
   abbrev pub facts_at : List Token → TextFacts
   facts_at before = facts_past s.facts before
 
-  -- what was read of the token
+  -- the characters read of the token
   abbrev pub read_at : List Token → List ℕ
   read_at [] = read
   read_at (k ∷ before) = []
@@ -155,7 +154,7 @@ module _ (read : List ℕ) (s : TextStage) where
   text_since [] = []
   text_since (k ∷ before) = text_since before ++ ahead_at before k
 
-  -- what is kept since
+  -- the characters kept since
   abbrev pub kept_since : List Token → List ℕ
   kept_since [] = []
   kept_since (k ∷ before) = kept_since before ++ kept_by (facts_at before) k.kind (ahead_at before k)
@@ -164,16 +163,17 @@ module _ (read : List ℕ) (s : TextStage) where
   abbrev pub next_at : List Token → Place
   next_at before = past s.progress.next (text_since before)
 
-  -- how many bytes are kept before it
+  -- the number of bytes kept before it
   abbrev pub bytes_at : List Token → ℕ
   bytes_at before = bytes_past s.progress.kept (kept_since before)
 
-  -- a token begins where the one before it ends; the first where the state says
+  -- the place of the token: the end of the one before it; of the first token, the place in the
+  -- state
   abbrev pub place_at : List Token → Place
   place_at [] = s.progress.place
   place_at (k ∷ before) = next_at (k ∷ before)
 
-  -- how many bytes are kept before the token
+  -- the number of bytes kept before the token
   abbrev pub start_at : List Token → ℕ
   start_at [] = s.progress.start
   start_at (k ∷ before) = bytes_at (k ∷ before)
@@ -182,7 +182,7 @@ module _ (read : List ℕ) (s : TextStage) where
   abbrev pub piece_at : List Token → Token → Option PieceKind
   piece_at before k = piece_by (facts_at before) k.kind (effect k)
 
-  -- how many pieces there are, with a blank that waits
+  -- the number of pieces, with a blank that waits
   abbrev pub count_at : List Token → ℕ
   count_at [] = s.progress.pieces
   count_at (k ∷ before) = count_after (count_at before) (piece_at before k)
@@ -196,17 +196,17 @@ module _ (read : List ℕ) (s : TextStage) where
   waiting_at [] = s.progress.blank
   waiting_at (k ∷ before) = waiting_after (blank_piece before k) (waiting_at before) (piece_at before k)
 
-  -- how many pieces stand before the first `{`
+  -- the number of pieces before the first `{`
   abbrev pub begin_at : List Token → Option ℕ
   begin_at [] = s.progress.begin
   begin_at (k ∷ before) = begin_after (facts_at before) k.kind (count_at before) (begin_at before)
 
-  -- how many stand before the first `}` after it
+  -- the number of pieces before the first `}` after it
   abbrev pub end_at : List Token → Option ℕ
   end_at [] = s.progress.end
   end_at (k ∷ before) = end_after (facts_at before) k.kind (count_at before) (end_at before)
 
-  -- where the token begins, and what is counted before it
+  -- where the token begins, and the counts before it
   abbrev pub progress_at : List Token → Progress
   progress_at before = record {
     place = place_at before;
@@ -219,18 +219,18 @@ module _ (read : List ℕ) (s : TextStage) where
     end = end_at before;
   }
 
-  -- what the token emits as a whole
+  -- the events of the token as a whole
   abbrev pub token_events_at : List Token → Token → List TextEvent
   token_events_at before k = token_events_by (facts_at before) (progress_at before) k (ahead_at before k)
 
-  -- what a `$` by itself emits with the character after it, or with the end
+  -- the events of a lone `$` with the character after it, or with the end
   abbrev pub owed_events_at : List Token → List TextEvent
   owed_events_at [] = []
   owed_events_at (k ∷ before) = cond (is_lone k) (token_events_at before k) []
 
-  -- What is emitted with each character to come of a token: with its first what the token before
-  -- owes and the finding of a second translation, then what is kept of each, and with its last the
-  -- rest.
+  -- The events of each character to come of a token: with its first those that the token before
+  -- owes and the finding of a second translation, then the kept character of each, and with its
+  -- last the rest.
   abbrev pub lists_past : List Token → Token → List (List TextEvent)
   lists_past before k =
       with_last (cond (is_lone k) [] (token_events_at before k))
@@ -243,17 +243,17 @@ module _ (read : List ℕ) (s : TextStage) where
   end_at_text [] rest = end_by_rest rest
   end_at_text (k ∷ before) rest = cond (is_open_kind k.kind) (ending.Cut (place_at before)) (end_by_rest rest)
 
-  -- what is emitted with the character after the tokens, or with the end, and then nothing
+  -- the events of the character after the tokens, or of the end, and then none
   abbrev pub lists_last : List Token → List ℕ → List (List TextEvent)
   lists_last before rest = (owed_events_at before ++ end_events_by (facts_at before) (progress_at before) (is_cut before) (end_at_text before rest)) ∷ no_events_each rest
 
-  -- what is emitted of a text that begins with what was read: a list for each character after it,
-  -- and one for the end
+  -- the events of a text that begins with the characters read: a list for each character after
+  -- them, and one for the end
   abbrev pub lists_ahead : List ℕ → List (List TextEvent)
   lists_ahead t = along lists_past [] (tokens t) ++ lists_last (reverse (tokens t)) (after_tokens t)
 
--- what a stage will still emit for these characters and then the end: a list for each of them, and
--- one for the end
+-- the events that a stage has left for these characters and then the end: a list for each of them,
+-- and one for the end
 unfoldable pub events_left : TextStage → List ℕ → List (List TextEvent)
 events_left s t = cond s.ended ([] ∷ no_events_each t) (lists_ahead (stands_for s.state) s (stands_for s.state ++ t))
 

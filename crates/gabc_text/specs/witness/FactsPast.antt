@@ -1,4 +1,4 @@
--- What is seen past some tokens, and the counts past some characters, from any state on. In these
+-- The facts past some tokens, and the counts past some characters, from any state on. In these
 -- definitions `before` are the tokens, the nearest first.
 use Rattle.std.specs.Prelude.{ℕ, List, [], ◌∷◌, Bool, not, ◌||◌, ◌&&◌, is_some}
 use Rattle.std.specs.Char.{len_utf8}
@@ -13,7 +13,7 @@ use Rattle.gabc_text.specs.View.{effect, kind_of, is_open_after, is_space, has_w
 use Rattle.gabc_text.specs.TextStage.{count_plus}
 use Rattle.gabc_places.specs.Place.{saturating_next_place}
 
--- the nearest tag of the style opens it, or it was open
+-- the nearest tag of the style opens it, or there is none and it was open
 abbrev pub is_open_past : Style → Bool → List Token → Bool
 is_open_past s was [] = was
 is_open_past s was (k ∷ before) = is_open_after s (effect k) (is_open_past s was before)
@@ -35,11 +35,11 @@ abbrev pub blank_past : Bool → List Token → Bool
 blank_past was [] = was
 blank_past was (k ∷ before) = is_space k.kind || (not (is_some (kind_of k)) && blank_past was before)
 
--- there is a `{` among the tokens, or there was one
+-- there is a `{` among the tokens, or there was one before
 abbrev pub begun_past : TextFacts → List Token → Bool
 begun_past facts before = has_begin before || facts.begun
 
--- a `}` stands after a `{`, or did
+-- there is a `}` after a `{`, or there was one before
 abbrev pub ended_past : TextFacts → List Token → Bool
 ended_past facts [] = facts.ended
 ended_past facts (k ∷ before) = (is_end k.kind && begun_past facts before) || ended_past facts before
@@ -54,12 +54,12 @@ space_past facts [] = facts.space
 space_past facts (k ∷ before) =
     is_space k.kind || (leaves_out (record facts { begun = begun_past facts before; ended = ended_past facts before }) k.kind && space_past facts before)
 
--- a blank before which no piece stands but span marks
+-- there is a blank with no piece before it but span marks, or there was one before
 abbrev pub starts_past : TextFacts → List Token → Bool
 starts_past facts [] = facts.starts
 starts_past facts (k ∷ before) = (is_space k.kind && not (has_word before || facts.word)) || starts_past facts before
 
--- what is seen past the tokens, if this was seen before them
+-- the facts past the tokens, if these are those before them
 abbrev pub facts_past : TextFacts → List Token → TextFacts
 facts_past facts before = record {
   styles = styles_past facts.styles before;
@@ -79,7 +79,7 @@ abbrev pub past : Place → List ℕ → Place
 past p [] = p
 past p (c ∷ cs) = past (saturating_next_place p c) cs
 
--- how many bytes are kept with these
+-- the number of bytes kept with these characters
 abbrev pub bytes_past : ℕ → List ℕ → ℕ
 bytes_past n [] = n
 bytes_past n (c ∷ cs) = bytes_past (count_plus n (len_utf8 c)) cs

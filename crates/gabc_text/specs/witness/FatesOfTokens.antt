@@ -1,5 +1,5 @@
--- What becomes of a character that is a token by itself or begins one, by all the tokens before it,
--- the nearest first.
+-- The fate of a character that is a whole token or begins one, by all the tokens before it, the
+-- nearest first.
 use Rattle.std.specs.Prelude.{ℕ, List, [], ◌∷◌, cond, ◌&&◌, ◌||◌, ◌==◌, Option, Some, None}
 use Rattle.gabc_places.specs.declared.code.Code.{Code}
 use Rattle.gabc_places.specs.Fate.{Fate, Keep, Comment, Ends, LeaveOut}
@@ -12,8 +12,8 @@ abbrev pub first_code : List Code → Option Code
 first_code [] = None
 first_code (code ∷ cs) = Some code
 
--- of the only character of a token of that kind: it is left out with what is found, or as a blank
--- after a blank, or kept
+-- the fate of the only character of a token of this kind: it is left out, with its finding or as a
+-- blank after a blank, or kept
 abbrev pub fate_of_kind : List Token → TokenKind → Fate
 fate_of_kind before k =
     cond (is_left_out before k) (LeaveOut (first_code (late_codes before k Other)))

@@ -1,4 +1,5 @@
--- A stage keeps a text: it stands where the characters lead that it has kept, whatever it has read.
+-- A stage keeps a text: its state is that after the characters that it has kept, whatever it has
+-- read.
 use Rattle.std.specs.Prelude.{◌≡◌, ◌≤◌, ◌⊎◌, ◌==◌, ◌&&◌, not, ℕ, List, [], ◌∷◌, ◌++◌, length, map, Bool, true, false, Some, if◌then◌else◌}
 use Rattle.std.specs.List.{All, list_any}
 use Rattle.gabc_places.specs.Place.{saturating_next_place}
@@ -20,8 +21,7 @@ use Rattle.gabc_text.specs.machine.TextStage.{push_stage, events_of_push}
 use Rattle.gabc_text.specs.machine.TokenState.{is_plain}
 use Rattle.gabc_text.specs.witness.EventsLeft.{events_left}
 
--- what is said by these, but for findings and places: the characters kept, the parts of the view
--- and the end
+-- these events without findings and places: the characters kept, the parts of the view and the end
 abbrev pub said : List TextEvent → List TextEvent
 said [] = []
 said (out.Kept x ∷ os) = out.Kept (record { c = x.c; place = nowhere }) ∷ said os
@@ -29,25 +29,25 @@ said (out.Part p ∷ os) = out.Part p ∷ said os
 said (out.Found f ∷ os) = said os
 said (out.Ended h ∷ os) = out.Ended h ∷ said os
 
--- the text ends with one of these
+-- the end of the text is among these
 abbrev pub end_text : List TextEvent → Bool
 end_text events = list_any is_end events
 
--- where a fresh stage stands that has read a text
+-- a fresh stage that has read a text
 abbrev pub stage_after : List ℕ → TextStage
 stage_after k = stage_past (fresh_stage nowhere) k
 
--- It goes on, and stands where a fresh stage does that has read k, but for places and a comment; of
--- k all is kept.
+-- The stage has not ended, and is in the state of a fresh stage that has read k, but for places and
+-- a comment; of k all is kept.
 pub record Keeps (s : TextStage) (k : List ℕ) : Type 0 where
   pub goes_on : s.ended ≡ false
   pub reached : IsReached s
   pub alike : IsAlike s (stage_after k)
   pub whole : kept_past (fresh_stage nowhere) k ≡ k
 
--- ---- what follows from the text that is kept
+-- ---- the consequences of the text that is kept
 
--- what was said of it
+-- the events of the text, without findings and places
 unfoldable pub said_of : List ℕ → List TextEvent
 said_of k = said (events_of_pushes (fresh_stage nowhere) k)
 
@@ -59,11 +59,12 @@ is_open_after_text k = is_open (stage_after k).state
 unfoldable pub begins_comment : List ℕ → Bool
 begins_comment k = is_plain (stage_after k).state
 
--- what is kept of the next character, where no comment is open
+-- the character kept at the next one, if no comment is open
 unfoldable pub kept_with : List ℕ → ℕ → List ℕ
 kept_with k c = kept_in (events_of_push (stage_after k) c)
 
--- a `(` after it ends the text, where no comment is open, and what is said with it
+-- a `(` after it ends the text, if no comment is open; and the events of this end, without findings
+-- and places
 unfoldable pub ends_after_it : List ℕ → Bool
 ends_after_it k = (push_stage (stage_after k) 40).ended
 
@@ -74,10 +75,10 @@ said_at_end k = said (events_of_push (stage_after k) 40)
 abbrev pub comment_with : List ℕ → Bool → ℕ → Bool
 comment_with k is_open c = if is_open then not (c == 10) else (c == 37 && begins_comment k)
 
--- ---- what a character does
+-- ---- the step at a character
 
--- The text k goes on with a character: the stage keeps what is kept more. The opener is the one
--- before, or the character.
+-- The text k continues with a character: the stage keeps k and what is kept of the character. The
+-- opener is the one before, or the character.
 pub record GoesOn (before : TextStage) (k : List ℕ) (c : ℕ) (events : List TextEvent) (after : TextStage) : Type 0 where
   pub keeps : Keeps after (k ++ kept_in events)
   pub said : said_of (k ++ kept_in events) ≡ said_of k ++ said events
@@ -85,24 +86,24 @@ pub record GoesOn (before : TextStage) (k : List ℕ) (c : ℕ) (events : List T
   pub comment : is_in_comment after ≡ comment_with k (is_in_comment before) c
   pub next : next_of after ≡ saturating_next_place (next_of before) c
 
--- parts, and then the end of a text at its `(`
+-- these are parts, and then the end of a text at its `(`
 pub record EndsInNotes (events : List TextEvent) : Type 0 where
   pub parts : List TextPart
   pub is : events ≡ map (λ (p : TextPart). out.Part p) parts ++ out.Ended ending.Notes ∷ []
 
--- It ends with it: nothing is kept, and the stage keeps no text any more.
+-- The text k ends with a character: nothing is kept, and the stage keeps no text any more.
 pub record EndsAfter (k : List ℕ) (events : List TextEvent) (after : TextStage) : Type 0 where
   pub kept : kept_in events ≡ []
   pub said : said events ≡ said_at_end k
   pub notes : EndsInNotes (said_at_end k)
   pub over : after.ended ≡ true
 
--- what may be kept of a character: it, or a blank
+-- the character kept at `c` is `c` itself, or a blank
 abbrev pub IsKeptOf : ℕ → ℕ → Type 0
 IsKeptOf c d = (d ≡ c) ⊎ (d ≡ 32)
 
--- By the text that a stage keeps, whether a character ends it, what is kept of it, and which of the
--- two it does.
+-- A character, by the text that a stage keeps: whether it ends the text, what is kept of it, and
+-- how the text continues or ends.
 pub record KeepsOn (before : TextStage) (c : ℕ) (events : List TextEvent) (after : TextStage) : Type 0 where
   pub end : (k : List ℕ) → Keeps before k → end_text events ≡ (not (is_in_comment before) && (c == 40 && ends_after_it k))
   pub kept : (k : List ℕ) → Keeps before k → is_in_comment before ≡ false → kept_in events ≡ kept_with k c
@@ -110,9 +111,9 @@ pub record KeepsOn (before : TextStage) (c : ℕ) (events : List TextEvent) (aft
   pub ends : (k : List ℕ) → Keeps before k → end_text events ≡ true → EndsAfter k events after
   pub only : (k : List ℕ) → Keeps before k → All (IsKeptOf c) (kept_in events)
 
--- The stage takes a character: with these events it stands there, and emits from then on what
--- follows them. No more than one character is kept, and none where a comment is open then. A `%`
--- that is not kept opens one.
+-- The stage takes a character: it emits these events, is `after` then, and emits from then on what
+-- follows them. No more than one character is kept, and none if a comment is open then. A `%` that
+-- is not kept opens one.
 pub record Takes (before : TextStage) (c : ℕ) : Type 0 where
   pub events : List TextEvent
   pub after : TextStage
@@ -122,7 +123,7 @@ pub record Takes (before : TextStage) (c : ℕ) : Type 0 where
   pub none : (k : List ℕ) → Keeps before k → is_in_comment after ≡ true → kept_in events ≡ []
   pub percent : (k : List ℕ) → Keeps before k → c ≡ 37 → kept_in events ≡ [] → is_in_comment after ≡ true
 
--- It keeps the same with its opener at this place.
+-- Some stage keeps the same, with its opener at this place.
 pub record OpensThere (s : TextStage) (k : List ℕ) (at : Place) : Type 0 where
   pub stage : TextStage
   pub keeps : Keeps stage k

@@ -1,5 +1,4 @@
--- What was said of a text, as a stage kept it, is all that is said of it in front of a `(` that
--- ends it.
+-- The events of a text, as a stage kept it, are all that it has in front of a `(` that ends it.
 use Rattle.std.specs.Prelude.{◌≡◌, ℕ, List, [], ◌∷◌, ◌++◌}
 use Rattle.gabc_text.specs.declared.text_event.TextEnd.TheVariants as ending
 use Rattle.gabc_text.specs.declared.text_event.TextEvent.{TextEvent}
@@ -12,8 +11,8 @@ use Rattle.gabc_text.specs.View.{kept}
 use Rattle.gabc_text.specs.machine.Resuming.{nowhere}
 use Rattle.gabc_text.specs.witness.Keeps.{said, said_of, said_at_end}
 
--- Of the text k in front of a `(` and this rest: what was said is what is said of the events of the
--- text; before the end all of k is kept, and the view is that of the text.
+-- The text k in front of a `(` and this rest: its events as a stage kept it are all its events,
+-- without findings and places; before the end all of k is kept, and the view is that of the text.
 pub record IsSaidInFull (k rest : List ℕ) : Type 0 where
   pub mids : List TextEvent
   pub said_are : said_of k ++ said_at_end k ≡ mids ++ out.Ended ending.Notes ∷ []

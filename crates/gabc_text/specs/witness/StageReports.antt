@@ -1,5 +1,5 @@
--- What a stage reports by its state: whether it has ended, and the place of the next character; and
--- the stages that differ from it in places alone.
+-- The report of a stage, by its state: whether it has ended, and the place of the next character;
+-- and the stages that differ from it in places alone.
 use Rattle.std.specs.Prelude.{Bool, if◌then◌else◌}
 use Rattle.gabc_places.specs.declared.place.Place.{Place}
 use Rattle.gabc_text.specs.declared.token_state.TokenState.{TokenState}
@@ -15,11 +15,11 @@ has_ended s = s.ended
 abbrev pub next_of : TextStage → Place
 next_of s = s.progress.next
 
--- The next character stands at this place. What is open keeps the place where it began.
+-- The next character is at this place. What is open keeps the place where it began.
 abbrev pub moved_to : Place → TextStage → TextStage
 moved_to at s = record s { progress = record s.progress { place = if is_open s.state then s.progress.place else at; next = at } }
 
--- What matters of where a stage stands: the place of a `$` or of a comment does not.
+-- The place of a state that matters: that of a `$` or of a comment does not.
 abbrev pub place_told : TokenState → Place → Place → Place
 place_told Dollar place next = next
 place_told Comment place next = next

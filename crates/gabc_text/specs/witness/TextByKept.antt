@@ -1,5 +1,5 @@
--- What is kept of a text, a character after the other: by what is kept of the characters before,
--- and whether a comment is open.
+-- The kept text of a text, character by character: by the text kept before, and whether a comment
+-- is open.
 use Rattle.std.specs.Prelude.{ℕ, List, [], ◌∷◌, ◌++◌, Bool, true, false, cond, not, ◌&&◌, ◌==◌, reverse}
 use Rattle.gabc_places.specs.Fate.{Fate, Comment, Ends}
 use Rattle.gabc_text.specs.Token.{tokens}
@@ -13,7 +13,7 @@ abbrev pub ends : Fate → Bool
 ends Ends = true
 ends _ = false
 
--- what is kept with these characters; a comment goes on up to an LF
+-- the text kept with these characters; a comment continues up to an LF
 abbrev pub kept_past : List ℕ → Bool → List ℕ → List ℕ
 kept_past kept comment [] = kept
 kept_past kept comment (c ∷ t) =

@@ -6,20 +6,20 @@ use Rattle.gabc_nodes.specs.declared.node.Node.{Node}
 use Rattle.gabc_tree.specs.SyllableNodes.{force_past_syllable}
 use Rattle.gabc_tree.specs.Tree.{body_nodes, body_end, kept_characters}
 
--- the nodes so far, the characters that are kept of the body so far, the number of the next kept
--- byte, and what is in force there
+-- the nodes so far, the kept characters of the body so far, the number of the next kept byte, and
+-- the clef and the alterations in force there
 pub record BodyState : Type 0 where
   pub nodes : List Node
   pub kept : List ℕ
   pub base : ℕ
   pub force : InForce
 
--- what is in force after syllables
+-- the clef and the alterations in force after syllables
 abbrev pub force_past_syllables : InForce → List PlacedSyllable → InForce
 force_past_syllables force [] = force
 force_past_syllables force (s ∷ syllables) = force_past_syllables (force_past_syllable force s) syllables
 
--- with these syllables after those before
+-- the state with these syllables after those before
 abbrev pub past_syllables : BodyState → List PlacedSyllable → BodyState
 past_syllables b syllables = record {
   nodes = b.nodes ++ body_nodes b.base b.force syllables;

@@ -25,7 +25,7 @@ first_mark n l = if has_mark n l then Some (length (before_mark n l)) else None
 abbrev pub first_colon : List ℕ → Option ℕ
 first_colon l = if has_colon l then Some (length (before_colon l)) else None
 
--- the value of the header ends at that byte of the text
+-- the value of the header may end at byte `mark` of the text
 pub record IsHeaderWithin (text : List ℕ) (header : Header) (mark : ℕ) : Type 0 where
   pub value : header.value ≤ mark
   pub marked : mark ≤ length text
@@ -36,7 +36,7 @@ abbrev pub row_of : List ℕ → List ℕ
 row_of [] = []
 row_of (c ∷ t) = if c == 10 then [] else c ∷ row_of t
 
--- the header begins before that byte
+-- the name of the header, and the beginning of its value, are not after byte `n`
 abbrev pub IsOpen : ℕ → Option Header → Type 0
 IsOpen n None = Unit {0}
 IsOpen n (Some h) = (h.name.from ≤ n) × (h.name.to ≤ n) × (h.value ≤ n)

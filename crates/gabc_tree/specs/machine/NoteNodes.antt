@@ -34,7 +34,7 @@ grouped base kept left (i ∷ items) [] = []
 grouped base kept left (i ∷ items) (x ∷ nodes) =
     next_glyph base kept left i items ++ x ∷ grouped base kept (left_after kept left i items) items nodes
 
--- the nodes of an item at a place, with these items after it; before it this is in force
+-- the nodes of an item at a place, with these items after it; `force` is in force before it
 abbrev pub nodes_at : ℕ → List ℕ → ItemPlace → InForce → Item → List Item → List Node
 nodes_at base kept place force i items =
     next_glyph base kept place.left i items ++ item_node base kept (is_in_element kept i && not place.inside) force i ∷ []

@@ -14,7 +14,7 @@ use Rattle.gabc_tree.specs.declared.signs.OverStaff.{OverStaff}
 use Rattle.gabc_tree.specs.declared.signs.NoteSigns.{NoteSigns}
 use Rattle.gabc_tree.specs.declared.signs.SuffixesRead.{SuffixesRead}
 
--- the digits are that one
+-- these digits are this one digit
 abbrev pub names : List ℕ → ℕ → Bool
 names digits digit = same_texts digits (digit ∷ [])
 
@@ -31,7 +31,7 @@ over_with o digits = record {
   sharp = names digits 56 || o.sharp;
 }
 
--- with an `r` and these digits before them
+-- the signs with an `r` and these digits before them
 abbrev pub with_r : NoteSigns → List ℕ → NoteSigns
 with_r s digits = record s {
   hollow = not (is_sign digits) || s.hollow;
@@ -39,13 +39,13 @@ with_r s digits = record s {
   over_staff = over_with s.over_staff digits;
 }
 
--- the orientation that digits name, or that one
+-- the orientation that digits name, or else this one
 abbrev pub orientation_with : Orientation → List ℕ → Orientation
 orientation_with o digits =
     if begins_with (codes "0") digits then orientation.Down else
     if begins_with (codes "1") digits then orientation.Up else o
 
--- the liquescence of `<` and that one together, and of `>` and that one
+-- the liquescence of `<` together with this one, and of `>` with this one
 abbrev pub or_augmented : Liquescence → Liquescence
 or_augmented liquescence.Deminutus = liquescence.Deminutus
 or_augmented _ = liquescence.Augmented
@@ -54,12 +54,12 @@ abbrev pub or_diminished : Liquescence → Liquescence
 or_diminished liquescence.None = liquescence.Diminished
 or_diminished l = l
 
--- the liquescence of the sign, one of the three, and that one together
+-- the liquescence of the sign, one of the three, together with this one
 abbrev pub liquescence_with : ℕ → Liquescence → Liquescence
 liquescence_with sign l =
     if sign == 126 then liquescence.Deminutus else if sign == 60 then or_augmented l else or_diminished l
 
--- with a `_` and these digits before them
+-- the signs with a `_` and these digits before them
 abbrev pub with_episema : NoteSigns → List ℕ → NoteSigns
 with_episema s digits = record s {
   covered = with_cover s.covered (side_by digits) 1;

@@ -1,10 +1,10 @@
--- The slices of a syllable of which its nodes are made.
+-- The slices of a syllable from which its nodes are made.
 use Rattle.std.specs.Prelude.{◌≡◌, ℕ, List, [], ◌∷◌, Bool, cond}
 use Rattle.gabc_text.specs.BuiltText.{empty_view}
 use Rattle.gabc_body.specs.Syllable.{PlacedSyllable}
 use Rattle.gabc_tree.specs.declared.syllable_nodes.SyllableSlices.{SyllableSlices}
 
--- a syllable of which these are the slices, with no pieces of its text
+-- the syllable of these slices, without the pieces of its text
 abbrev pub placed_by : SyllableSlices → PlacedSyllable
 placed_by r = record {
   made = record { text = record empty_view { word_start = r.word_start }; kept = r.kept.now; snippets = r.snippets.now; eu = r.spans.eu; nlba = r.spans.nlba };
@@ -20,6 +20,6 @@ pub record Shows (r : SyllableSlices) (s : PlacedSyllable) : Type 0 where
   pub nlba : s.made.nlba ≡ r.spans.nlba
   pub word_start : s.made.text.word_start ≡ r.word_start
 
--- what is kept of the blanks before a syllable, if it begins a word
+-- the character kept for the blanks before a syllable, if it begins a word
 abbrev pub gap_of : Bool → List ℕ
 gap_of starts = cond starts (32 ∷ []) []

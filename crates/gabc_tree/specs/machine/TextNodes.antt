@@ -37,13 +37,13 @@ styles_past s e = record {
   ul = is_open_after Ul e s.ul;
 }
 
--- with a tag of this effect added
+-- the facts with a tag of this effect added
 abbrev pub shown_past_tag : Before → TagEffect → Before
 shown_past_tag f Mark = record f { blank = false }
 shown_past_tag f Other = record f { word = true; blank = false }
 shown_past_tag f e = record f { styles = styles_past f.styles e }
 
--- with a token of this kind added, and the effect of its tag
+-- the facts with a token of this kind added, and the effect of its tag
 abbrev pub shown_past : Before → TokenKind → TagEffect → Before
 shown_past f Letter e = record f { word = true; blank = false }
 shown_past f Raw e = record f { word = true; blank = false }

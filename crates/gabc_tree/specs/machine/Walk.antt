@@ -30,8 +30,8 @@ pub record IsWithin (w : Walk) : Type 0 where
   pub line : w.here.line ≤ w.byte + 1
   pub column : w.here.column ≤ w.byte + 1
 
--- from `old` to `new`, on the way to p: p is where it was, and so are all places that are not
--- passed
+-- on the way to p, from `old` to `new`, the byte of p stays, and so do those of all places that are
+-- not passed
 pub record GoesPast (old new : Walk) (p : Place) : Type 0 where
   pub later : (q : Place) → is_before q new.here ≡ false → is_before q old.here ≡ false
   pub same : (q : Place) → is_before q new.here ≡ false → byte_by old q ≡ byte_by new q

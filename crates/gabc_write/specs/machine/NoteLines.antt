@@ -15,7 +15,7 @@ use Rattle.gabc_write.specs.declared.dump_notes.ItemPlace.{ItemPlace}
 abbrev pub glyph_of : List Note → Option (GlyphKind × ℕ)
 glyph_of notes = longest_glyph (length notes) notes
 
--- the notes of a segment from this one on, which these items stand after
+-- the notes of a segment from this one on, before these items
 abbrev pub notes_from : List ℕ → Note → List Item → List Note
 notes_from kept first after = first ∷ notes_after kept after
 
@@ -36,7 +36,7 @@ left_after (suc left) g = left
 left_after zero None = 0
 left_after zero (Some g) = g.1 - 1
 
--- the lines of an item at a place, with these items after it; before it this is in force
+-- the lines of an item at a place, with these items after it; `force` is in force before it
 abbrev pub lines_at : InForce → List ℕ → ItemPlace → Item → List Item → List ℕ
 lines_at force kept place i after =
     (if is_in_element kept i && not place.in_element then codes "element\n" else [])

@@ -9,32 +9,32 @@ use Rattle.gabc_score.specs.declared.score_event.ScoreEvent.{ScoreEvent}
 use Rattle.gabc_score.specs.witness.ScoreStage.{ScoreStageState}
 use Rattle.gabc_write.specs.SetDown.{SayTheSame}
 
--- In the body it reports what is within its limits, and this is the canonical text of the syllable
--- that it holds, if it holds one.
+-- In the body the stage reports what is within its limits, and `text` is the canonical text of its
+-- pending syllable, if there is one.
 pub record HasHeldText (told : ScoreStageState) (text : List ℕ) : Type 0 where
   pub runs : is_some (before_of told) ≡ true
   pub within : ReportsWithin told
   pub is : IfSome (held_of told) (λ m. text ≡ written_after told.before m)
 
--- Nothing stands in it, and there is room for what a stage finds with a character.
+-- The room is empty, and large enough for the events of one character.
 pub record IsFreeRoom (room : BoundedList ScoreEvent) : Type 0 where
   pub empty : room.items ≡ []
   pub wide : 16 ≤ room.limit
 
--- It stands after the same under the same limits, and holds a syllable that is equivalent to the
--- held one, if there is one.
+-- The stage `s` has the same limits as `told`, and the same totals before its pending syllable.
+-- This one is equivalent to the pending syllable of `told`, if there is one.
 pub record HoldsAlike (told s : ScoreStageState) : Type 0 where
   pub limits_are : s.limits ≡ told.limits
   pub before_is : before_of s ≡ before_of told
   pub held : HoldTheSame (told.before.syllables == 0) (held_of told) (held_of s)
   pub says : SayTheSame (told.before.syllables == 0) (held_of told) (held_of s)
 
--- it begins a text there
+-- the same, with `s` at the beginning of a text
 pub record BeginsAlike (told s : ScoreStageState) : Type 0 where
   pub holds : HoldsAlike told s
   pub begins : BeginsText s
 
--- it has read the same there
+-- the same, and both report the same of the current syllable, with the next character at one place
 pub record TellsAlike (told s : ScoreStageState) : Type 0 where
   pub holds : HoldsAlike told s
   pub reading : reading_of told ≡ reading_of s

@@ -8,12 +8,12 @@ abbrev pub begun_after : Bool → List ℕ → Bool
 begun_after begun [] = begun
 begun_after begun (c ∷ t) = true
 
--- what these bytes add to the line: the first of them its word
+-- the part of the line that these bytes add, with `text:` before it if the line has not begun
 abbrev pub line_part : Bool → List ℕ → List ℕ
 line_part begun [] = []
 line_part begun (c ∷ t) = (if begun then [] else codes "text:") ++ escaped (c ∷ t)
 
--- what ends it, if it has begun
+-- the end of the line, if it has begun
 abbrev pub line_end : Bool → List ℕ
 line_end begun = if begun then codes "\n" else []
 

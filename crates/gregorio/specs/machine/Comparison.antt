@@ -2,13 +2,13 @@
 use Rattle.std.proofs.Common.{◌≡◌, ◌==◌, ℕ, List, [], ◌∷◌, ◌++◌, Bool, true, false, Option, Some, None, refl}
 use Rattle.std.specs.Prelude.{if◌then◌else◌}
 
--- what is left of a text after these bytes, if it begins with them
+-- the rest of a text after these bytes, if it begins with them
 abbrev pub left_past : List ℕ → List ℕ → Option (List ℕ)
 left_past [] text = Some text
 left_past (b ∷ bytes) [] = None
 left_past (b ∷ bytes) (c ∷ text) = if b == c then left_past bytes text else None
 
--- the rest of the text that has still to come, as long as what came is the text's
+-- the rest of the text after these bytes, as long as all bytes so far are the text's
 abbrev pub compared_with : Option (List ℕ) → List ℕ → Option (List ℕ)
 compared_with None bytes = None
 compared_with (Some rest) bytes = left_past bytes rest

@@ -1,4 +1,4 @@
--- What the parts of a run do to its source and its sinks.
+-- The use that the parts of a run make of its source and its sinks.
 use Rattle.std.specs.Prelude.{◌≡◌, ℕ, ◌+◌, ◌≤◌, List, [], ◌++◌, length, take, ◌⊎◌}
 use Rattle.std.specs.Io.KnownBytes.{Appends, Consumes}
 use Rattle.gabc_places.specs.Calls.{GoesOn, NoneLate}
@@ -20,8 +20,8 @@ pub record AreSent (out messages : Use) (output lines : List ℕ) : Type 0 where
   pub goes_on : GoesOn out.calls_old out.calls_new
   pub messages_go_on : GoesOn messages.calls_old messages.calls_new
 
--- So far this was written of both streams: at some point no less of the output, and no more of
--- the messages.
+-- These numbers of bytes of both streams were written: at some point no fewer than the output so
+-- far, and no more than the messages so far.
 pub record AreInOrder (IsPoint : List ℕ → List ℕ → Type 0) (output_count lines_count : ℕ) : Type 0 where
   pub output : List ℕ
   pub lines : List ℕ
@@ -29,8 +29,8 @@ pub record AreInOrder (IsPoint : List ℕ → List ℕ → Type 0) (output_count
   pub output_first : length output ≤ output_count
   pub lines_then : lines_count ≤ length lines
 
--- A sink failed: each took a prefix of these bytes, and at some point of them all output and no
--- more messages.
+-- A sink failed: each took a prefix of its bytes, at some point all the output so far and no more
+-- messages.
 pub record AreCut (IsPoint : List ℕ → List ℕ → Type 0) (out messages : Use) (output lines : List ℕ) : Type 0 where
   pub output_count : ℕ
   pub lines_count : ℕ
@@ -45,7 +45,7 @@ pub record AreCut (IsPoint : List ℕ → List ℕ → Type 0) (out messages : U
 abbrev pub NoneOrAll : List ℕ → List ℕ → List ℕ → List ℕ → Type 0
 NoneOrAll output lines o l = ((o ≡ []) × (l ≡ [])) ⊎ ((o ≡ output) × (l ≡ lines))
 
--- At some point of these bytes an engine has written this, and keeps nothing back.
+-- At some point of these bytes an engine has written this, and is prompt.
 pub record Knows (old : EngineState) (bytes : List ℕ) (ending : SourceEnding) (output lines : List ℕ) : Type 0 where
   pub front : List ℕ
   pub at : SourceEnding
@@ -58,12 +58,12 @@ pub record Knows (old : EngineState) (bytes : List ℕ) (ending : SourceEnding) 
 abbrev pub StreamsAreCut : Use → Use → EngineState → SourceEnding → List ℕ → Type 0
 StreamsAreCut out messages old ending bytes = AreCut (Knows old bytes ending) out messages (streams_left old ending bytes).output (streams_left old ending bytes).messages
 
--- An engine that was `old` keeps nothing back, and writes in the same format.
+-- The engine `new` is prompt, and writes in the same format as `old`.
 pub record IsPromptAs (old new : EngineState) : Type 0 where
   pub format : new.written.format ≡ old.written.format
   pub prompt : IsPrompt old.written.format (streams_left new Broken [])
 
--- An engine took these bytes, and what it wrote at them was sent.
+-- An engine took these bytes, and what it wrote of them was sent.
 pub record IsFed (out messages : Use) (old new : EngineState) (bytes : List ℕ) : Type 0 where
   pub output : List ℕ
   pub lines : List ℕ
@@ -71,7 +71,7 @@ pub record IsFed (out messages : Use) (old new : EngineState) (bytes : List ℕ)
   pub prompt : IsPromptAs old new
   pub law : (rest : List ℕ) (ending : SourceEnding) → streams_left old ending (bytes ++ rest) ≡ after_bytes output lines (streams_left new ending rest)
 
--- Of a source n bytes were taken without a failure, and an engine took them.
+-- Of a source `count` bytes were taken without a failure, and an engine took them.
 pub record IsFedFrom (source out messages : Use) (old new : EngineState) (count : ℕ) : Type 0 where
   pub bytes : List ℕ
   pub counted : length bytes ≡ count
@@ -80,7 +80,8 @@ pub record IsFedFrom (source out messages : Use) (old new : EngineState) (count 
   pub goes_on : GoesOn source.calls_old source.calls_new
   pub fed : IsFed out messages old new bytes
 
--- A source was read as far as may be and stopped so, and an engine took its bytes.
+-- A source was read as far as the limit allows, and ended so. No call of it was late, and an engine
+-- took its bytes.
 pub record IsFedAll (limit : ℕ) (source out messages : Use) (old new : EngineState) (ending : SourceEnding) : Type 0 where
   pub bytes : List ℕ
   pub reads : ReadsSource source.old source.new source.calls_old source.calls_new limit bytes ending
@@ -96,7 +97,7 @@ pub record IsFedInPart (limit : ℕ) (source out messages : Use) (old : EngineSt
   pub within : length bytes ≤ limit + 1
   pub cut : StreamsAreCut out messages old Broken bytes
 
--- What an engine says of every input is its outcome for this job.
+-- What an engine writes of every input is the outcome for this job.
 pub record SaysOutcomes (job : Job) (limits : Limits) (e : EngineState) : Type 0 where
   pub format : e.written.format ≡ job.format
   pub all : (bytes : List ℕ) (ending : SourceEnding) → streams_left e ending bytes ≡ streams_of_outcome job (outcome_of limits ending bytes)

@@ -1,5 +1,5 @@
--- What an engine does with items, which are characters or the fault that stops the text, and what
--- holds of it between two calls.
+-- The items of an engine, which are characters or the fault that stops the text, and its invariant
+-- between two calls.
 use Rattle.std.specs.Prelude.{◌≡◌, ◌≤◌, ◌⊎◌, ◌||◌, ℕ, List, [], ◌∷◌, ◌++◌, length, Bool, true, Result, Ok, Err}
 use Rattle.std.specs.List.{list_any}
 use Rattle.gabc_places.specs.BoundedList.{BoundedList, extended_by}
@@ -25,8 +25,8 @@ abbrev pub AreBooksAt : List HeadEvent → List (List ℕ × List ℕ) → List 
 AreBooksAt [] book read = Unit {0}
 AreBooksAt (x ∷ events) book read = IsBookAt x book read × AreBooksAt events book read
 
--- At these events it wrote what was to come for them, and goes on with what follows. `read` is the
--- book that was read.
+-- For these events it wrote the streams that they bring, and what it writes of the events after
+-- them comes next. `read` is the book that was read.
 pub record WritesAll (old : ScoreWriterState) (events : List HeadEvent) (read : List (List ℕ × List ℕ)) (new : ScoreWriterState) : Type 0 where
   pub output : List ℕ
   pub lines : List ℕ
@@ -40,11 +40,11 @@ headed_past headed events = headed || list_any is_heads events
 
 -- ---- items
 
--- what will still be written of these items
+-- the streams left for these items
 abbrev pub streams_of_items : HeaderStageState → ScoreWriterState → SourceEnding → List (Result Char Fault) → Streams
 streams_of_items h w ending items = streams_of w (book_after h items) (head_events_left h ending items)
 
--- what the body gets for an item
+-- the input of the body for an item
 abbrev pub event_of_item : Result Char Fault → HeadEvent
 event_of_item (Ok x) = head_event.Body x
 event_of_item (Err fault) = head_event.Stop fault
@@ -55,7 +55,8 @@ IsNoCharacter [] = Unit {0}
 IsNoCharacter (Ok x ∷ items) = ⊥
 IsNoCharacter (Err fault ∷ items) = Unit {0}
 
--- At these items it wrote what was to come for them, and goes on with what follows.
+-- For these items it wrote the streams that they bring, and what it writes of the items after them
+-- comes next.
 pub record WritesItems (h : HeaderStageState) (old : ScoreWriterState) (items : List (Result Char Fault)) (now : HeaderStageState) (new : ScoreWriterState) : Type 0 where
   pub output : List ℕ
   pub lines : List ℕ
@@ -65,39 +66,40 @@ pub record WritesItems (h : HeaderStageState) (old : ScoreWriterState) (items : 
 
 -- ---- between two calls
 
--- No more waits than leaves room for a step.
+-- At most as many bytes wait as leave room for a step.
 pub record LeavesRoom (s : EngineState) : Type 0 where
   pub output : length s.output ≤ most_waiting s.score.limits
   pub messages : length s.messages ≤ most_waiting s.score.limits
 
--- whatever comes, it will write the same
+-- whatever comes, the same is written
 abbrev pub IsSettled : ScoreWriterState → Type 0
 IsSettled w = (book other : List (List ℕ × List ℕ)) (from_heads more : List HeadEvent) → streams_of w book from_heads ≡ streams_of w other more
 
--- the book that the stage of headers stands after is the one that it has read
+-- after the headers the book of the stage's progress is the one that it has read
 abbrev pub IsBookRead : HeadProgress → List (List ℕ × List ℕ) → Type 0
 IsBookRead (after_headers book) read = book ≡ read
 IsBookRead (reading t) read = Unit {0}
 IsBookRead over read = Unit {0}
 
 -- The stage of headers and the writer have the same limits. If the headers are written, the stage
--- of headers is after the line `%%`, or it is no matter what comes.
+-- of headers is after the line `%%`, or whatever comes, the same is written. Its book is the one
+-- that was read, within the limit.
 pub record GoTogether (h : HeaderStageState) (w : ScoreWriterState) : Type 0 where
   pub limits : h.limits ≡ w.score.limits
   pub headed : w.writer.written.headed ≡ true → IsAfterHeaders h.progress ⊎ IsSettled w
   pub book : IsBookRead h.progress h.book
   pub short : IsShortBook h.limits h.book
 
--- What is wanted of the parts before an item: they go together, there is room for what it brings,
--- and if the headers are not written, the score is in them.
+-- The parts before an item: they go together, there is room for what it brings, and if the headers
+-- are not written, the score is in them.
 pub record MayRead (h : HeaderStageState) (from_heads : BoundedList HeadEvent) (w : ScoreWriterState) : Type 0 where
   pub together : GoTogether h w
   pub few : 2 ≤ from_heads.limit
   pub room : HasRoom w
   pub part : IsInHeads w
 
--- At these items, at most one, the parts wrote what was to come for them and stay in step. After
--- the end of an input there is room for what the end brings.
+-- For these items the parts wrote the streams that they bring, and stay in step. If they do not
+-- begin with a character, there is room for what the end of an input brings.
 pub record ReadsItems (h : HeaderStageState) (old : ScoreWriterState) (items : List (Result Char Fault)) (now : HeaderStageState) (new : ScoreWriterState) : Type 0 where
   pub together : GoTogether now new
   pub writes : WritesItems h old items now new

@@ -1,4 +1,4 @@
--- A text of headers that is pushed into a fresh stage, and what is found in it.
+-- A text of headers that is pushed into a fresh stage, and its findings.
 use Rattle.std.specs.Prelude.{◌≡◌, ℕ, List, [], Bool, false}
 use Rattle.std.specs.List.{All, list_any}
 use Rattle.std.specs.Char.{IsScalar}
@@ -15,7 +15,8 @@ abbrev pub is_error_event : HeadEvent → Bool
 is_error_event (Found f) = is_error_finding f
 is_error_event event = false
 
--- A stage that is still in the headers holds this text, and says whether an error is found in it.
+-- The text `u` of a stage in the headers is `t`, which nothing stops but its end; `error` says
+-- whether an error is found in it.
 pub record IsHeldSo (limits : Limits) (t : List ℕ) (error : Bool) (u : List ℕ) : Type 0 where
   pub text : u ≡ t
   pub held : IsHeld limits t
@@ -26,7 +27,7 @@ HoldsSo limits t error (reading u) = IsHeldSo limits t error u
 HoldsSo limits t error (after_headers book) = Unit {0}
 HoldsSo limits t error over = Unit {0}
 
--- The characters of this text, wherever they stand, were pushed into a fresh stage.
+-- The characters of this text, at whatever places, were pushed into a fresh stage.
 pub record IsPushed (limits : Limits) (hasher : DefaultHasher) (t : List ℕ) (h : HeaderStageState) (error : Bool) : Type 0 where
   pub xs : List Char
   pub text : text_in xs ≡ t
@@ -34,6 +35,6 @@ pub record IsPushed (limits : Limits) (hasher : DefaultHasher) (t : List ℕ) (h
   pub past : h ≡ stage_past (fresh_stage limits hasher) (inputs_of xs)
   pub holds : HoldsSo limits t error h.progress
 
--- after the line `%%` alone
+-- the stage after the line `%%` alone
 abbrev pub after_mark : Limits → DefaultHasher → HeaderStageState
 after_mark limits hasher = record { limits = limits; progress = after_headers []; book = []; hasher = hasher }

@@ -4,7 +4,7 @@ use Rattle.gregorio_jobs.specs.declared.job.Job.{Job}
 use Rattle.gregorio.specs.Engine.{NothingWaits, RunsJob}
 use Rattle.gregorio.specs.witness.Engine.{EngineState}
 
--- An engine runs this job under these limits, and nothing of it waits.
+-- An engine runs this job under these limits, and nothing waits in it.
 pub record IsBetweenPieces (job : Job) (limits : Limits) (e : EngineState) : Type 0 where
   pub waits : NothingWaits e
   pub job_is : RunsJob job limits e

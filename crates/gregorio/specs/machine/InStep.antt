@@ -1,4 +1,4 @@
--- How the parts of an engine stand together while it runs.
+-- The parts of an engine while it runs: they are in step.
 use Rattle.std.specs.Prelude.{◌≡◌, ℕ, ◌+◌, ◌≤◌, List, [], ◌∷◌, length, Bool, true, false, is_none, Result}
 use Rattle.std.specs.List.{list_any}
 use Rattle.gabc_places.specs.DecoderMachine.{DecoderState}
@@ -24,7 +24,7 @@ use Rattle.gregorio_jobs.specs.declared.job.Format.TheVariants.{Gabc}
 
 -- ---- a call
 
--- what the score gives of an event in the headers
+-- the outputs of the score for an event in the headers
 abbrev pub given_in_heads : HeadEvent → List ScoreOutput
 given_in_heads (head_event.Found f) = Found f ∷ []
 given_in_heads (head_event.Stop fault) = Stop fault ∷ []
@@ -32,7 +32,7 @@ given_in_heads head_event.End = End ∷ []
 given_in_heads (head_event.Body x) = []
 given_in_heads (head_event.Heads lines macros canonical) = []
 
--- At an event the score gave these, and what is written is what stands after them.
+-- At an event the score emitted `outputs`, and `written` is the state after they are written.
 pub record PassesOn (old : ScoreStageState) (w : Written) (x : HeadEvent) (new : ScoreWriterState) : Type 0 where
   pub outputs : List ScoreOutput
   pub few : length (syllables_in outputs) ≤ most_borrowed x
@@ -45,32 +45,32 @@ pub record PassesOn (old : ScoreStageState) (w : Written) (x : HeadEvent) (new :
   pub in_heads : old.part ≡ score_part.Heads → outputs ≡ given_in_heads x
   pub tells : TellsOn old x new.score
 
--- what is written after the headers, if they are at this event
+-- the state of what is written after this event, whose headers are written if it has them
 abbrev pub written_at : Written → HeadEvent → Written
 written_at w x = after_heads w (writes_heads w x)
 
--- After what this writer has written it wrote what the score gave of an event, and the score goes
--- on with what follows.
+-- The writer wrote, after all that it had written, the outputs of the score for an event, and the
+-- score continues with the events after it.
 pub record TakesEvent (old : ScoreStageState) (w : RunWriterState) (x : HeadEvent) (new : ScoreWriterState) : Type 0 where
   pub passes : PassesOn old w.written x new
   pub law : (from_heads : List HeadEvent) → left_of old (x ∷ from_heads) ≡ passes.outputs ∷ left_of new.score from_heads
   pub writer : new.writer ≡ past_outputs w passes.outputs
 
--- At each of these it wrote the headers that were read, if they are whole there, and then what the
--- score gave.
+-- At each of these events it wrote the headers that were read, if they are whole there, and then
+-- the outputs of the score.
 abbrev pub TakesEvents : ScoreWriterState → List HeadEvent → List (List ℕ × List ℕ) → ScoreWriterState → Type 0
 TakesEvents old [] read new = old ≡ new
 TakesEvents old (x ∷ events) read new =
     (mid : ScoreWriterState) × (TakesEvent old.score (heads_at old.writer x read) x mid × TakesEvents mid events read new)
 
--- it passes each of these on
+-- it passes on the outputs of each of these events
 abbrev pub PassesAll : ScoreWriterState → List HeadEvent → ScoreWriterState → Type 0
 PassesAll old [] new = old ≡ new
 PassesAll old (x ∷ events) new = (mid : ScoreWriterState) × (PassesOn old.score (written_at old.writer.written x) x mid × PassesAll mid events new)
 
 -- ---- between two calls
 
--- a score is in this part, and the headers are written or not
+-- the score is in the part `at`, and `written` says whether the headers are written
 pub record StandsIn (at : ScorePart) (written : Bool) (part : ScorePart) (headed : Bool) : Type 0 where
   pub in_part : part ≡ at
   pub written_so : headed ≡ written
@@ -81,9 +81,9 @@ AreInOnePart (reading t) part headed = StandsIn score_part.Heads false part head
 AreInOnePart (after_headers book) part headed = StandsIn score_part.Body true part headed
 AreInOnePart over part headed = ⊥
 
--- An engine that runs: its decoder does, its stages are in one part, as many syllables are written
--- as stand before the held one, and no more are whole than bytes were taken. In the body a text has
--- counted the place where the decoder stands.
+-- An engine that runs: its decoder runs, its stages are in one part, the number of syllables
+-- written is that of those before the pending one, and there are no more whole syllables than bytes
+-- taken. In the body a text has counted the place of the decoder.
 pub record RunsInStep (d : DecoderState) (h : HeaderStageState) (s : ScoreStageState) (w : Written) : Type 0 where
   pub runs : d.ended ≡ false
   pub limit : d.limit ≡ s.limits.input
@@ -95,7 +95,8 @@ pub record RunsInStep (d : DecoderState) (h : HeaderStageState) (s : ScoreStageS
   pub near : d.place.line + d.place.column ≤ d.taken + 2
   pub counts : d.taken ≤ d.limit → Counts d.place s
 
--- what is in force is tracked for a dump alone, and before the first syllable nothing is
+-- a clef and alterations in force are tracked for a dump alone, and before the first syllable there
+-- are none
 pub record HasForce (w : Written) : Type 0 where
   pub untracked : w.format ≡ Gabc → w.force ≡ nothing_in_force
   pub outset : w.count ≡ 0 → w.force ≡ nothing_in_force
@@ -104,7 +105,7 @@ pub record IsInStep (d : DecoderState) (h : HeaderStageState) (s : ScoreStageSta
   pub force : HasForce w
   pub runs : is_none w.ended ≡ true → RunsInStep d h s w
 
--- At these items they stay in step, if the decoder moves on with them.
+-- At these items they stay in step, if the decoder continues with them.
 pub record StayInStep (h : HeaderStageState) (old : ScoreWriterState) (items : List (Result Char Fault)) (now : HeaderStageState) (new : ScoreWriterState) : Type 0 where
   pub force : HasForce old.writer.written → HasForce new.writer.written
   pub runs : (d e : DecoderState) → MovesOn d items e → (is_none old.writer.written.ended ≡ true → RunsInStep d h old.score old.writer.written) → is_none new.writer.written.ended ≡ true

@@ -1,4 +1,4 @@
--- What an engine that runs reports of its score: that of a text, at the place of its decoder.
+-- The report of the score while an engine runs: that of a text, at the place of the decoder.
 use Rattle.std.specs.Prelude.{◌≡◌, ◌≤◌, List, Bool, true, false, is_none, Result, Ok, Err}
 use Rattle.gabc_places.specs.DecoderMachine.{DecoderState}
 use Rattle.gabc_places.specs.DecoderReports.{MovesOn, is_after_cr}
@@ -22,7 +22,7 @@ pub record InHeads (w : ScoreWriterState) : Type 0 where
   pub part : w.score.part ≡ score_part.Heads
   pub none : w.writer.written.count ≡ 0
 
--- a run that goes on, and whose headers are not written, is in them
+-- a run that is not over, and whose headers are not written, is in them
 abbrev pub IsInHeads : ScoreWriterState → Type 0
 IsInHeads w = is_none w.writer.written.ended ≡ true → w.writer.written.headed ≡ false → InHeads w
 
@@ -32,14 +32,14 @@ begun (Ok x) true s = moved_to (saturating_next_place x.place x.c) s
 begun (Ok x) false s = s
 begun (Err fault) headed s = s
 
--- It learns where the body begins, and writes what it would have written.
+-- The score learns where the body begins, and emits the same as before.
 pub record BeginsBody (item : Result Char Fault) (old new : ScoreWriterState) : Type 0 where
   pub is : new ≡ record old { score = begun item old.writer.written.headed old.score }
   pub left : (from_heads : List HeadEvent) → left_of new.score from_heads ≡ left_of old.score from_heads
 
 -- ---- between two calls
 
--- In the body the next character stands where the decoder does, and no comment is open directly
+-- In the body the next character is at the place of the decoder, and no comment is open directly
 -- after a CR.
 pub record TellsInBody (d : DecoderState) (s : ScoreStageState) : Type 0 where
   pub next : s.held.next ≡ d.place
@@ -56,7 +56,7 @@ pub record IsInSync (d : DecoderState) (s : ScoreStageState) (w : Written) : Typ
 abbrev pub IsTelling : DecoderState → ScoreWriterState → Type 0
 IsTelling d w = is_none w.writer.written.ended ≡ true → IsInSync d w.score w.writer.written
 
--- At these items it goes on so, if the decoder moves on with them.
+-- At these items this stays so, if the decoder continues with them.
 abbrev pub StayTelling : HeaderStageState → ScoreWriterState → List (Result Char Fault) → ScoreWriterState → Type 0
 StayTelling h old items new =
     (d e : DecoderState) → MovesOn d items e → (is_none old.writer.written.ended ≡ true → RunsInStep d h old.score old.writer.written) → IsTelling d old → IsTelling e new

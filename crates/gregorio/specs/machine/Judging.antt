@@ -3,16 +3,16 @@ use Rattle.std.specs.Prelude.{◌≡◌, ◌⊎◌, ℕ, ◌≤◌, length}
 use Rattle.gabc_places.specs.declared.limits.Limits.{Limits}
 use Rattle.gregorio_state.specs.Fields.{ScoreFields}
 
--- They are those of the state, or let its headers have as many bytes as they have.
+-- The limits `small` are those of the state, or both allow headers of `len` bytes.
 abbrev pub IsEnough : Limits → ℕ → Limits → Type 0
 IsEnough limits len small = (small ≡ limits) ⊎ ((len ≤ limits.header) × (len ≤ small.header))
 
--- They let the two texts of a score have as many bytes as they have.
+-- The limits allow the two texts of a score.
 pub record LetsTexts (f : ScoreFields) (limits : Limits) : Type 0 where
   pub held : length f.held ≤ limits.syllable
   pub kept : length f.kept ≤ limits.syllable
 
--- Both let the texts of a score be, and the inputs may be as long.
+-- Both limits allow the texts of a score, and inputs of the same length.
 pub record AreEnough (f : ScoreFields) (limits small : Limits) : Type 0 where
   pub own : LetsTexts f limits
   pub others : LetsTexts f small

@@ -1,4 +1,4 @@
--- A writer that writes outputs one after another, and the syllables of a run.
+-- A writer of runs past outputs, one after another, and past the syllables of a run.
 use Rattle.std.proofs.Common.{◌≡◌, ℕ, List, [], ◌∷◌, ◌++◌, sym, ap, ◌∙◌, append_assoc, append-nil}
 use Rattle.gabc_places.specs.BoundedList.{extended_by}
 use Rattle.gabc_body.specs.ScoreEvents.{ScoreOutput, Syllable}
@@ -6,7 +6,7 @@ use Rattle.gabc_body.specs.Syllable.{PlacedSyllable}
 use Rattle.gregorio.specs.witness.Engine.{after_output, lines_of_output, lines_of_outputs, text_of_output, texts_of_outputs}
 use Rattle.gregorio.specs.machine.RunWriter.{RunWriterState, outputs_of_syllables, past_output, past_outputs, past_syllables}
 
--- no output changes nothing
+-- no output: nothing changes
 past_no_output : (w : RunWriterState) → past_outputs w [] ≡ w
 past_no_output w =
     ap (λ (text : List ℕ). record w { out = record w.out { items = text }; messages = extended_by w.messages [] }) (append-nil w.out.items)

@@ -1,4 +1,4 @@
--- What an engine that runs has read of its headers.
+-- The headers that an engine has read while it runs.
 use Rattle.std.specs.Prelude.{◌≡◌, ℕ, List, Bool, true, is_none, Result}
 use Rattle.std.specs.List.{All}
 use Rattle.gabc_places.specs.DecoderMachine.{DecoderState}
@@ -14,7 +14,8 @@ use Rattle.gregorio.specs.machine.InStep.{RunsInStep}
 use Rattle.gregorio.specs.machine.ScoreWriter.{ScoreWriterState}
 use Rattle.gregorio.specs.witness.Engine.{Written}
 
--- a text of an input that gives this place and says whether an error is found in it
+-- a text of an input, after which the place is `place`, and `error` says whether an error is found
+-- in it
 pub record IsReadAs (limits : Limits) (t : List ℕ) (place : Place) (error : Bool) : Type 0 where
   pub text : All IsTextCharacter t
   pub gives : GivesHeaders limits t place error
@@ -27,7 +28,7 @@ IsReadSoFar limits over place error = Unit {0}
 abbrev pub ReadsHeaders : DecoderState → HeaderStageState → Written → Type 0
 ReadsHeaders d h w = is_none w.ended ≡ true → IsReadSoFar h.limits h.progress d.place w.errors
 
--- At these items it reads on, if the decoder moves on with them.
+-- At these items the reading of headers continues, if the decoder continues with them.
 abbrev pub ReadsOn : HeaderStageState → ScoreWriterState → List (Result Char Fault) → HeaderStageState → ScoreWriterState → Type 0
 ReadsOn h old items now new =
     (d e : DecoderState) → MovesOn d items e → (is_none old.writer.written.ended ≡ true → RunsInStep d h old.score old.writer.written) → ReadsHeaders d h old.writer.written → ReadsHeaders e now new.writer.written

@@ -1,4 +1,4 @@
--- How the stages stand that are restored from the fields of a state.
+-- The stages that are restored from the fields of a state.
 use Rattle.std.specs.Prelude.{◌≡◌, ◌≤◌, false}
 use Rattle.gabc_score.specs.declared.score_machine.ScorePart.TheVariants.{Body}
 use Rattle.gabc_score.specs.ScoreReports.{IsAt, is_in_front}
@@ -15,7 +15,7 @@ pub record AreFieldsIn (phase : PhaseFields) (s : StateFields) : Type 0 where
   pub phase_is : s.phase ≡ phase
 
 -- A stage over a score, under the limits of the state, reports what the fields of its score say, at
--- the place of the state, and that is what a text gives.
+-- the place of the state, and its report is that of a text.
 pub record IsSetDown (s : StateFields) (f : ScoreFields) (stage : ScoreStageState) : Type 0 where
   pub limits_are : ReportsLimits s stage.limits
   pub body : stage.part ≡ Body

@@ -1,4 +1,4 @@
--- What a writer of runs does with what it is given.
+-- A writer of runs, past the headers and outputs that it takes.
 use Rattle.std.specs.Prelude.{◌≡◌, ℕ, ◌+◌, ◌-◌, ◌*◌, ◌^◌, ◌≤◌, min, List, [], ◌∷◌, Bool, true, false, Some, is_none, length, map}
 use Rattle.std.specs.List.{All}
 use Rattle.gabc_places.specs.BoundedList.{BoundedList, Fits, extended_by}
@@ -13,7 +13,7 @@ use Rattle.gregorio.specs.Streams.{last_text}
 use Rattle.gregorio_jobs.specs.declared.job.Format.{Format}
 use Rattle.gregorio_jobs.specs.declared.job.Format.TheVariants.{Gabc, Dump}
 
--- what it shows: what it writes, and its two rooms
+-- the state that a writer shows: what is written, and its two rooms
 pub record RunWriterState : Type 0 where
   pub written : Written
   pub out : BoundedList ℕ
@@ -49,7 +49,7 @@ past_end w = record w { written = record w.written { ended = Some (ceased_ending
 
 -- ---- the syllables of a run
 
--- what a score says if it gives these syllables and nothing else
+-- the outputs of these syllables
 abbrev pub outputs_of_syllables : List PlacedSyllable → List ScoreOutput
 outputs_of_syllables ss = map (λ (s : PlacedSyllable). Syllable s) ss
 
@@ -57,7 +57,8 @@ outputs_of_syllables ss = map (λ (s : PlacedSyllable). Syllable s) ss
 abbrev pub past_syllables : RunWriterState → List PlacedSyllable → RunWriterState
 past_syllables w ss = past_outputs w (outputs_of_syllables ss)
 
--- the same after this text of `count` syllables more; the last value of a `u64` stays
+-- the same after this text of `count` further syllables; their number stays at the last value of a
+-- `u64`
 abbrev pub with_joined : RunWriterState → List ℕ → ℕ → RunWriterState
 with_joined w text count = record w { written = record w.written { count = min (w.written.count + count) (2 ^ 64 - 1) }; out = extended_by w.out text }
 
@@ -71,13 +72,14 @@ pub record TakesRuns (w : Written) : Type 0 where
 abbrev pub line_room : List ℕ → ℕ
 line_room name = length name + 128
 
--- the most bytes of a syllable, whose canonical text has this many, and which has no notes or some
+-- the most bytes that are written of a syllable, by whether it has no notes, and by the length of
+-- its canonical text
 abbrev pub syllable_len : Format → Bool → ℕ → ℕ
 syllable_len Gabc no_notes canonical = canonical
 syllable_len Dump true canonical = 2 * canonical + 128
 syllable_len Dump false canonical = 64 * canonical + 256
 
--- There is room for a syllable with notes whose canonical text has n bytes, too.
+-- There is room for a syllable whose canonical text has n bytes, with notes or without.
 pub record TakesText (w : RunWriterState) (n : ℕ) : Type 0 where
   pub runs : TakesRuns w.written
   pub fits : Fits w.out (syllable_len w.written.format false n)
@@ -106,8 +108,8 @@ heads_room format limit = heads_len format (limit + 2)
 abbrev pub last_room : ℕ
 last_room = 25
 
--- the output that a step brings: the headers, a syllable, one after it that has no notes, and last
--- lines
+-- the most bytes of the output that a step brings: the headers, a syllable, one after it that has
+-- no notes, and last lines
 abbrev pub out_room : Format → Limits → ℕ
 out_room format limits = heads_room format limits.header + syllable_room format limits.syllable + room_without_notes format limits.syllable + 128
 
@@ -116,12 +118,12 @@ out_room format limits = heads_room format limits.header + syllable_room format 
 abbrev pub most_waiting : Limits → ℕ
 most_waiting limits = min limits.header 65536
 
--- how many bytes of messages these may bring
+-- the most bytes of messages that these outputs bring
 abbrev pub lines_room : List ℕ → List ScoreOutput → ℕ
 lines_room name [] = 0
 lines_room name (o ∷ outputs) = line_room name + lines_room name outputs
 
--- how many bytes of the output
+-- the most bytes of the output that an output of the score brings
 abbrev pub text_room : Format → ℕ → ScoreOutput → ℕ
 text_room format limit (Found f) = 0
 text_room format limit (Stop fault) = last_room
@@ -132,8 +134,8 @@ abbrev pub texts_room : Format → ℕ → List ScoreOutput → ℕ
 texts_room format limit [] = 0
 texts_room format limit (o ∷ outputs) = text_room format limit o + texts_room format limit outputs
 
--- With what these bring, the messages and the output have at most n bytes. The syllables are
--- within the limits.
+-- With what these outputs bring, the messages have at most `most_lines` bytes and the output at
+-- most `most_texts`. The syllables are within the limits.
 pub record IsInRoom (limits : Limits) (most_lines most_texts : ℕ) (w : RunWriterState) (outputs : List ScoreOutput) : Type 0 where
   pub lines : length w.messages.items + lines_room w.written.name outputs ≤ most_lines
   pub texts : length w.out.items + texts_room w.written.format limits.syllable outputs ≤ most_texts

@@ -1,4 +1,4 @@
--- What a writer of scores does with what a stage of headers gives.
+-- A writer of scores, by the events of a stage of headers.
 use Rattle.std.specs.Prelude.{Bool, false, true, Some, None, IsSome, ◌≡◌, ℕ, ◌+◌, ◌*◌, ◌≤◌, List, [], ◌∷◌, length, map, encode_utf8_all, if◌then◌else◌}
 use Rattle.gabc_places.specs.BoundedList.{BoundedList, extended_by}
 use Rattle.gabc_places.specs.declared.limits.Limits.{Limits}
@@ -30,7 +30,7 @@ pub record ScoreWriterState : Type 0 where
   pub score : ScoreStageState
   pub writer : RunWriterState
 
--- what an event says, if this stage lends its syllable
+-- the output of an event, if its syllable is borrowed from this stage
 abbrev pub output_of_event : ScoreStageState → ScoreEvent → ScoreOutput
 output_of_event s (event.Found f) = Found f
 output_of_event s (event.Stop fault) = Stop fault
@@ -40,7 +40,7 @@ output_of_event s event.End = End
 abbrev pub outputs_of_events : ScoreStageState → List ScoreEvent → List ScoreOutput
 outputs_of_events s events = map (output_of_event s) events
 
--- what it will still write, if these come and the headers are this book
+-- the streams left, if these events come and the headers are this book
 abbrev pub streams_of : ScoreWriterState → List (List ℕ × List ℕ) → List HeadEvent → Streams
 streams_of s book from_heads = streams_from s.writer.written book from_heads (left_of s.score from_heads)
 
@@ -51,8 +51,8 @@ abbrev pub IsBookAt : HeadEvent → List (List ℕ × List ℕ) → List (List �
 IsBookAt (head_event.Heads lines macros canonical) book read = book ≡ read
 IsBookAt _ book read = Unit {0}
 
--- At an event it wrote what was to come for it, and goes on with what follows. `read` is the book
--- that was read.
+-- For an event it wrote the streams that it brings, and what it writes of the events after it comes
+-- next. `read` is the book that was read.
 pub record WritesAt (old : ScoreWriterState) (x : HeadEvent) (read : List (List ℕ × List ℕ)) (new : ScoreWriterState) : Type 0 where
   pub output : List ℕ
   pub lines : List ℕ
@@ -60,12 +60,12 @@ pub record WritesAt (old : ScoreWriterState) (x : HeadEvent) (read : List (List 
   pub messages : new.writer.messages ≡ extended_by old.writer.messages lines
   pub law : (book : List (List ℕ × List ℕ)) (from_heads : List HeadEvent) → IsBookAt x book read → streams_of old book (x ∷ from_heads) ≡ after_bytes output lines (streams_of new book from_heads)
 
--- At these characters, the first of which stands at this place, it wrote syllables and nothing
--- else, and it goes on with what follows.
+-- For these characters, the first of which is at this place, it wrote syllables and nothing else,
+-- and it continues with the events after them.
 abbrev pub WritesRun : ScoreWriterState → Place → List ℕ → ScoreWriterState → Type 0
 WritesRun old at t new = Runs past_syllables old.score at t new.score old.writer new.writer
 
--- At the end of what comes it wrote what was still to come.
+-- At the end of the events it wrote the streams that were left.
 pub record WritesLast (old new : ScoreWriterState) (how : RunEnding) : Type 0 where
   pub output : List ℕ
   pub lines : List ℕ
@@ -73,7 +73,7 @@ pub record WritesLast (old new : ScoreWriterState) (how : RunEnding) : Type 0 wh
   pub messages : new.writer.messages ≡ extended_by old.writer.messages lines
   pub law : (book : List (List ℕ × List ℕ)) → streams_of old book [] ≡ after_bytes output lines (ended_by how)
 
--- whatever comes, a stage gives nothing more
+-- whatever comes, a stage emits nothing more
 abbrev pub IsSilent : ScoreStageState → Type 0
 IsSilent s = (xs : List HeadEvent) → concat_of (left_of s xs) ≡ []
 
@@ -82,15 +82,15 @@ pub record IsOver (written : Written) (score : ScoreStageState) (how : RunEnding
   pub ended : written.ended ≡ Some how
   pub silent : IsSilent score
 
--- Between two calls there is room for the events of one, and if the run is over, the stage gives
+-- Between two calls there is room for the events of one, and if the run is over, the stage emits
 -- nothing.
 pub record IsScoreWriter (score : ScoreStageState) (events : BoundedList ScoreEvent) (writer : RunWriterState) : Type 0 where
   pub room : 16 ≤ events.limit
   pub silent : IsSome writer.written.ended → IsSilent score
   pub clef : HasClefOfSounds score writer.written
 
--- what no call changes: the limits, the format, the name and whether warnings are reported, and how
--- much the rooms take
+-- no call changes these: the limits, the format, the name and whether warnings are reported, and
+-- the capacities of the rooms
 pub record KeepsJobAndRooms (old new : ScoreWriterState) : Type 0 where
   pub limits : new.score.limits ≡ old.score.limits
   pub format : new.writer.written.format ≡ old.writer.written.format
@@ -113,13 +113,13 @@ event_room format limit head_event.End = syllable_room format limit + room_witho
 event_room format limit (head_event.Found f) = last_room
 event_room format limit (head_event.Heads lines macros canonical) = last_room
 
--- that these bring, and their end if nothing comes after them: after a stop or the end nothing is
--- written
+-- the most bytes that these events bring, and their end if nothing comes after them: after a stop
+-- or the end nothing is written
 abbrev pub events_room : Format → ℕ → Bool → List HeadEvent → ℕ
 events_room format limit ends [] = if ends then syllable_room format limit + last_room else 0
 events_room format limit ends (x ∷ events) = event_room format limit x + (if is_final x then 0 else events_room format limit ends events)
 
--- so much of it is needed in this part of the score
+-- the room that is needed in this part of the score
 abbrev pub needed_in : ScorePart → ℕ → ℕ
 needed_in score_part.Heads room = room
 needed_in score_part.Body room = room
@@ -129,17 +129,17 @@ needed_in score_part.Over room = 0
 abbrev pub heads_left : Written → ℕ → ℕ
 heads_left w limit = if w.headed then 0 else heads_room w.format limit
 
--- There is room for what these bring, and if nothing comes after them, for what their end brings
--- then.
+-- There is room for what these events bring, and if nothing comes after them, for what their end
+-- brings.
 pub record FitsEvents (s : ScoreWriterState) (ends : Bool) (events : List HeadEvent) : Type 0 where
   pub lines : length s.writer.messages.items + (length events + 1) * (16 * line_room s.writer.written.name) ≤ s.writer.messages.limit
   pub texts : length s.writer.out.items + (heads_left s.writer.written s.score.limits.header + needed_in s.score.part (events_room s.writer.written.format s.score.limits.syllable ends events) + last_room) ≤ s.writer.out.limit
 
--- There is room for what the end of the input brings, wherever the headers stand then.
+-- There is room for what the end of the input brings, whatever was read of the headers.
 abbrev pub FitsEnd : ScoreWriterState → Type 0
 FitsEnd s = (limits : Limits) (progress : HeadProgress) → FitsEvents s true (events_of_end limits progress)
 
--- the rooms that a writer has: for what a step brings, and for what may wait before it
+-- the rooms of a writer are large enough for what a step brings, and for what may wait before it
 pub record IsReserved (s : ScoreWriterState) : Type 0 where
   pub out : out_room s.writer.written.format s.score.limits + most_waiting s.score.limits ≤ s.writer.out.limit
   pub messages : 128 * line_room s.writer.written.name + most_waiting s.score.limits ≤ s.writer.messages.limit
@@ -149,17 +149,17 @@ pub record HasRoom (s : ScoreWriterState) : Type 0 where
   pub out : length s.writer.out.items + out_room s.writer.written.format s.score.limits ≤ s.writer.out.limit
   pub messages : length s.writer.messages.items + 128 * line_room s.writer.written.name ≤ s.writer.messages.limit
 
--- nothing waits
+-- the same, but nothing waits
 abbrev pub emptied : ScoreWriterState → ScoreWriterState
 emptied s = record s { writer = record s.writer { out = record s.writer.out { items = [] }; messages = record s.writer.messages { items = [] } } }
 
--- nothing was written
+-- the state before anything is written
 abbrev pub begun : Format → List ℕ → Bool → Written
 begun format name all_warnings = record { format = format; name = name; all_warnings = all_warnings; headed = false; count = 0; force = nothing_in_force; errors = false; ended = None }
 
 abbrev pub fresh_writer : Job → Written
 fresh_writer job = begun job.format (input_name job.input) job.all_warnings
 
--- nothing was written of the same job
+-- the state of the same job before anything is written
 abbrev pub begun_again : Written → Written
 begun_again w = begun w.format w.name w.all_warnings

@@ -13,36 +13,36 @@ use Rattle.gregorio_state.specs.Fields.{ScoreFields}
 use Rattle.gregorio.specs.Saved.{held_count, held_text}
 use Rattle.gregorio.specs.SavedState.{before_held}
 
--- the places of what is open
+-- the places of the openers
 abbrev pub openers_reported : ScoreFields → Openers
 openers_reported f = record { notes = f.notes_opener; inner = f.inner_opener }
 
--- It stands after what stands before the syllable of the held text, and holds none yet.
+-- The stage has the totals before the pending syllable of the fields, and none is pending yet.
 pub record IsResumed (limits : Limits) (f : ScoreFields) (stage : ScoreStageState) : Type 0 where
   pub stands : IsAfterSyllables limits (before_held f) stage
   pub told : ReportsText stage
 
--- It stands after what stands before the syllable of the held text, and holds this syllable, if
+-- The stage has the totals before the pending syllable of the fields, and this one is pending, if
 -- there is one.
 pub record StandsAfterHeld (f : ScoreFields) (stage : ScoreStageState) : Type 0 where
   pub before_is : before_of stage ≡ Some (before_held f)
   pub text : held_text stage.before (held_of stage) ≡ f.held
   pub count : (f.syllables - 1) + held_count (held_of stage) ≡ f.syllables
 
--- It begins to read the next text.
+-- The stage is at the beginning of the next text.
 pub record HoldsHeld (f : ScoreFields) (stage : ScoreStageState) : Type 0 where
   pub after : StandsAfterHeld f stage
   pub begins : BeginsText stage
   pub told : ReportsText stage
 
--- In the body it has read this of a syllable.
+-- The stage has read the kept text of the fields, with the same openers and comment.
 pub record HasRead (f : ScoreFields) (stage : ScoreStageState) : Type 0 where
   pub kept : reading_of stage ≡ f.kept
   pub openers_are : openers_of stage.body.part ≡ openers_reported f
   pub comment : is_in_comment stage.body.part ≡ f.in_comment
 
 -- Some stage under these limits that reads a syllable after the comment in front reports the kept
--- text, and what is open after it.
+-- text, its openers, and whether a comment is open.
 pub record IsReportedSo (limits : Limits) (f : ScoreFields) : Type 0 where
   pub stage : ScoreStageState
   pub keeps : CanBeReadAgain stage
@@ -51,7 +51,8 @@ pub record IsReportedSo (limits : Limits) (f : ScoreFields) : Type 0 where
   pub macros : stage.body.macros ≡ f.macros
   pub tells : ReportsReading stage f.kept (openers_reported f) f.in_comment
 
--- It has read the kept text, after the comment in front, and the next character stands there.
+-- The stage has read the kept text, after the comment in front, and the next character is at
+-- `place`.
 pub record ReadsOn (place : Place) (f : ScoreFields) (stage : ScoreStageState) : Type 0 where
   pub after : StandsAfterHeld f stage
   pub read : HasRead f stage

@@ -1,4 +1,4 @@
--- What an engine does with the bytes that it takes.
+-- The step of an engine with the bytes that it takes.
 use Rattle.std.specs.Prelude.{◌≡◌, ℕ, ◌-◌, ◌≤◌, List, length, take, false}
 use Rattle.gregorio_jobs.specs.declared.job.Status.TheVariants.{ReadFault}
 use Rattle.gregorio.specs.Engine.{Brings, StillRuns, is_running}

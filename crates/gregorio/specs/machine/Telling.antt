@@ -1,4 +1,4 @@
--- A score goes on reporting of a text.
+-- The report of a stage over a score stays that of a text.
 use Rattle.std.specs.Prelude.{◌≡◌, ℕ, false}
 use Rattle.gabc_headers.specs.declared.head_event.HeadEvent.{HeadEvent}
 use Rattle.gabc_headers.specs.declared.head_event.HeadEvent.TheVariants as head_event
@@ -8,7 +8,7 @@ use Rattle.gabc_score.specs.ScoreReports.{IsInFront, is_in_comment}
 use Rattle.gabc_score.specs.ReportedWithin.{HoldsIfAny, ReportsText}
 use Rattle.gabc_score.specs.witness.ScoreStage.{ScoreStageState}
 
--- At an input under the same limits.
+-- At an input the limits stay, and the report is that of a text if it was before.
 pub record TellsOn (old : ScoreStageState) (x : HeadEvent) (new : ScoreStageState) : Type 0 where
   pub limits : new.limits ≡ old.limits
   pub next : new.part ≡ score_part.Body → new.held.next ≡ next_past old.part x old.held.next

@@ -1,4 +1,4 @@
--- What is known of each engine that runs, said of what it shows.
+-- The invariant of each engine that runs, by the state that it shows.
 use Rattle.std.specs.Prelude.{◌≡◌, true}
 use Rattle.gabc_places.specs.DecoderReports.{MayBeReported, is_after_cr}
 use Rattle.gabc_score.specs.witness.IsReachable.{IsReachable}

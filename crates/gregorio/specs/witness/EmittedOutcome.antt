@@ -8,7 +8,7 @@ use Rattle.gregorio.specs.declared.outcome.Outcome.{Outcome}
 use Rattle.gregorio.specs.declared.source_ending.SourceEnding.{SourceEnding}
 use Rattle.gregorio.specs.Outcome.{is_whole, ending_by, is_cut_short}
 
--- the outcome of an input that ended so, with this score
+-- the outcome of an input with this ending and this score
 abbrev pub outcome_with : SourceEnding → Score → Outcome
 outcome_with ending score = record { score = score; broken = is_cut_short ending score.fault }
 

@@ -1,5 +1,5 @@
--- What an engine will still write, in any state. Nobody has to believe it: `Engine::new` states it
--- of a fresh one.
+-- The streams that an engine has left to write, in any state. Nobody has to believe it:
+-- `Engine::new` states it of a fresh one.
 use Rattle.std.specs.Prelude.{ℕ, ◌||◌, ◌&&◌, not, List, [], ◌∷◌, ◌++◌, drop, Bool, true, false, Option, Some, None, is_some, Result, if◌then◌else◌}
 use Rattle.gabc_places.specs.declared.code.Fault.{Fault}
 use Rattle.gabc_places.specs.declared.place.Char.{Char}
@@ -24,9 +24,10 @@ use Rattle.gregorio_jobs.specs.declared.job.Status.TheVariants as run_status
 use Rattle.gabc_write.specs.Message.{line_of}
 use Rattle.gregorio.specs.Streams.{Streams, after_bytes, ended_with, heads_text, syllable_text, force_after, last_text, next_number}
 
--- What an engine writes: the format, what messages call the input, whether warnings are wanted;
--- whether the headers were written; how many syllables were, a count that saturates; what is in
--- force after them, in a dump; whether an error was found; and how the run ended, once it is over.
+-- The state of what is written: the format, the name of the input in messages, and whether warnings
+-- are reported; whether the headers were written; how many syllables were, a count that saturates;
+-- the clef and the alterations in force after them, in a dump; whether an error was found; and how
+-- the run ended, once it is over.
 pub record Written : Type 0 where
   pub format : Format
   pub name : List ℕ
@@ -37,7 +38,7 @@ pub record Written : Type 0 where
   pub errors : Bool
   pub ended : Option RunEnding
 
--- What an engine shows: its stages, what it writes, and the bytes that wait to be taken.
+-- The state that an engine shows: its stages, what is written, and the bytes that wait to be taken.
 pub record EngineState : Type 0 where
   pub decoder : DecoderState
   pub heads : HeaderStageState
@@ -46,11 +47,11 @@ pub record EngineState : Type 0 where
   pub output : List ℕ
   pub messages : List ℕ
 
--- what the decoder will still give of these bytes, after which the input ends so
+-- the items that the decoder has left for these bytes, after which the input ends so
 abbrev pub items_left : EngineState → SourceEnding → List ℕ → List (Result Char Fault)
 items_left s ending bytes = heads.emitted_by (is_whole ending) bytes (decoder.events_left s.decoder bytes)
 
--- what the stage of headers will still give of these characters and the fault after them
+-- the events that the stage of headers has left for these characters and the fault after them
 abbrev pub head_events_left : HeaderStageState → SourceEnding → List (Result Char Fault) → List HeadEvent
 head_events_left h ending items = heads.emitted_by (is_whole ending) items (heads_left.events_left h.limits h.progress items)
 
@@ -83,13 +84,13 @@ ending_of_whole false = run_ending.Whole
 abbrev pub ended_by : RunEnding → Streams
 ended_by how = ended_with (status_of_ending how) (fault_of_ending how)
 
--- ---- what the score says
+-- ---- the outputs of the score
 
 -- no output comes before the headers
 abbrev pub if_headed : Written → List ℕ → List ℕ
 if_headed w text = if w.headed then text else []
 
--- the text that is written of what the score says
+-- the text that is written of an output
 abbrev pub text_of_output : Written → ScoreOutput → List ℕ
 text_of_output w (Found f) = []
 text_of_output w (Stop fault) = if_headed w (last_text w.format false w.count)
@@ -127,7 +128,7 @@ abbrev pub is_heads : HeadEvent → Bool
 is_heads (head_event.Heads lines macros canonical) = true
 is_heads _ = false
 
--- the headers are not written yet, and the run goes on
+-- the headers are not written yet, and the run is not over
 abbrev pub is_before_heads : Written → Bool
 is_before_heads w = not (w.headed || is_some w.ended)
 
@@ -141,7 +142,7 @@ text_of_heads w book writes = if writes then heads_text w.format book else []
 abbrev pub after_heads : Written → Bool → Written
 after_heads w writes = record w { headed = w.headed || writes }
 
--- ---- what comes
+-- ---- the inputs
 
 -- If the input ceases, and neither a stop nor the end has come, its source has failed.
 abbrev pub ceased_text : Option RunEnding → Written → List ℕ
@@ -163,8 +164,8 @@ abbrev pub first_list : List (List ScoreOutput) → List ScoreOutput
 first_list [] = []
 first_list (outputs ∷ lists) = outputs
 
--- The streams if these come from the stage of headers, and of each of them, and of their end, the
--- score says one of the lists.
+-- The streams if these events come from the stage of headers, and the score has these lists of
+-- outputs: one for each event, and one for their end.
 abbrev pub streams_from : Written → List (List ℕ × List ℕ) → List HeadEvent → List (List ScoreOutput) → Streams
 streams_from w book [] lists = streams_in w (concat_of lists)
 streams_from w book (x ∷ from_heads) lists =
@@ -172,7 +173,8 @@ streams_from w book (x ∷ from_heads) lists =
     after_bytes (text_of_heads w book (writes_heads w x) ++ texts_of_outputs v (first_list lists)) (lines_of_outputs v (first_list lists))
     (streams_from (after_outputs v (first_list lists)) book from_heads (drop 1 lists))
 
--- What an engine will still write of these bytes, after which the input ends so, beside what waits.
+-- The streams that an engine has left to write of these bytes, after which the input ends so,
+-- beside what waits.
 abbrev pub streams_left : EngineState → SourceEnding → List ℕ → Streams
 streams_left s ending bytes =
     let items = items_left s ending bytes in

@@ -1,4 +1,4 @@
--- What the bytes of a saved state stand for.
+-- The meaning of the bytes of a saved state.
 use Rattle.std.specs.Prelude.{◌≡◌, ℕ, List}
 use Rattle.gabc_places.specs.declared.limits.Limits.{Limits}
 use Rattle.gregorio_jobs.specs.declared.job.Job.{Job}
@@ -11,8 +11,8 @@ use Rattle.gregorio.specs.Streams.{Streams}
 use Rattle.gregorio.specs.witness.Engine.{EngineState, streams_left}
 use Rattle.gregorio.specs.witness.CanRun.{CanRun}
 
--- These bytes are the saved state of a run of this job under these limits, which will still write
--- this of whatever follows.
+-- These bytes are the saved state of a run of this job under these limits, which writes `left` of
+-- whatever follows.
 pub record StandsFor (job : Job) (limits : Limits) (bytes : List ℕ) (left : SourceEnding → List ℕ → Streams) : Type 0 where
   pub engine : EngineState
   pub may : CanRun engine

@@ -1,4 +1,4 @@
--- The first bytes of a text, and the number of all.
+-- The first bytes of a text, and the number of all its bytes.
 use Rattle.std.specs.Prelude.{◌≡◌, ℕ, ◌-◌, ◌^◌, min, List, length, take}
 use Rattle.gregorio_c.specs.declared.first_bytes.FirstBytes.{FirstBytes}
 

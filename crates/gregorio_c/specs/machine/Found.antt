@@ -8,7 +8,7 @@ use Rattle.gregorio_c.specs.Answers.{IsOutcomeOf}
 abbrev pub without_syllables : Outcome → Outcome
 without_syllables outcome = record outcome { score = record outcome.score { syllables = [] } }
 
--- the outcome of a whole score without its syllables, of which this is the rest
+-- the outcome of a whole score, by the rest of it without its syllables
 abbrev pub outcome_with : ScoreRest → Outcome
 outcome_with rest = record { score = record { book = rest.book; syllables = []; findings = rest.findings; fault = rest.fault }; broken = false }
 

@@ -10,12 +10,13 @@ use Rattle.gregorio_c.specs.Steps.{Writes, goes_on}
 use Rattle.gregorio_c.specs.declared.in_pieces.Fed.{Fed}
 use Rattle.gregorio_c.specs.declared.in_pieces.Fed.TheVariants.{On, Over}
 
--- the state of a run that answered this number, and whose saved state has n bytes then
+-- the state of a run that answered this number, and whose saved state has `len` bytes then
 abbrev pub fed_as : ℕ → ℕ → Fed
 fed_as number len = if number == goes_on then On len else Over number
 
 module _ {A B : Type 0} (takes : A → List ℕ → A) (takes_too : B → List ℕ → B) where
-  -- They have taken what was written of these bytes, and the state stands for the rest.
+  -- They have taken the streams that were written of these bytes, and the state stands for the
+  -- rest.
   pub record PutsOn (job : Job) (limits : Limits) (left : Writes) (bytes : List ℕ) (o : A) (m : B) (state : List ℕ) (o_then : A) (m_then : B) : Type 0 where
     pub output : List ℕ
     pub lines : List ℕ

@@ -17,7 +17,7 @@ abbrev pub Gathers : EngineState → List ℕ → List ℕ → List ℕ → Engi
 Gathers old piece output lines new =
     (ending : SourceEnding) (more : List ℕ) → streams_left old ending (piece ++ more) ≡ after_bytes output lines (streams_left new ending more)
 
--- Bytes stand for this, and for nothing else.
+-- Bytes stand for `left`, and for nothing else.
 pub record StandsAlone (job : Job) (limits : Limits) (bytes : List ℕ) (left : Writes) : Type 0 where
   pub stands : StandsFor job limits bytes left
   pub alone : (other : Writes) → StandsFor job limits bytes other → (ending : SourceEnding) (more : List ℕ) → left ending more ≡ other ending more
@@ -34,7 +34,7 @@ pub record EndedAs (ending : SourceEnding) (left : Writes) (made : Made) : Type 
   pub over : IsOver made status
   pub law : left ending [] ≡ last_of made status fault
 
--- the number of an answer with which nothing is written
+-- the number of the answer to a step that is refused
 abbrev pub number_of : Refusal → ℕ
 number_of NoMemory = 5
 number_of NoState = 8

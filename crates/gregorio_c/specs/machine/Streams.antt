@@ -8,7 +8,7 @@ use Rattle.gregorio_c.specs.Answers.{stdin_name}
 use Rattle.gregorio_c.specs.declared.lengths.Lengths.{Lengths}
 use Rattle.gregorio_c.specs.declared.request.Request.{Request}
 
--- those of a whole score
+-- the texts for a whole score
 abbrev pub streams_of_score : Request → Limits → List ℕ → Streams
 streams_of_score request limits score =
     let outcome = outcome_of limits Whole score in

@@ -1,4 +1,4 @@
--- What each step of the plan answers.
+-- The answers of the steps of the plan.
 use Rattle.std.specs.Prelude.{[], Bool, true, false, Option, Some, None, Result, Ok, Err}
 use Rattle.std.specs.Option.{option_map_or}
 use Rattle.clap.specs.Words.{App, Text}
@@ -14,7 +14,7 @@ use Rattle.gregorio_jobs.specs.declared.refusal.Refusal.{Refusal}
 use Rattle.gregorio_jobs.specs.declared.refusal.Refusal.TheVariants.{O0, O1, O2, O3, O4, O5, O6, O7}
 use Rattle.gregorio_jobs.specs.Wants.{format_named}
 
--- the command, with no argument yet
+-- a command without its arguments
 abbrev pub without_rules : App → App
 without_rules = on_top (λ s. record s { rules = [] })
 

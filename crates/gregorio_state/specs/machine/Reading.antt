@@ -1,4 +1,4 @@
--- How the fields of a state are read from its bytes, from the first on.
+-- The fields of a state, read from its bytes, from the first on.
 use Rattle.std.specs.Prelude.{◌≡◌, ℕ, zero, suc, List, [], ◌∷◌, ◌++◌, length, take, drop, Bool, true, false, Option, Some, None, nat_lt, nat_le, ◌==◌, ◌&&◌, codes, if◌then◌else◌}
 use Rattle.std.specs.Int.{Width, w16, w32, w64, byte_len, from_be_bytes}
 use Rattle.std.specs.Str.{is_utf8, bytes_eq}
@@ -16,7 +16,7 @@ abbrev pub ◌>>=◌ : {A B : Type 0} → Option A → (A → Option B) → Opti
 (Some x) >>= f = f x
 None >>= f = None
 
--- what a function returned, seen by view, is what reading gives
+-- the result of a function, seen by `view`, is the result of reading
 abbrev pub Gives : {X Y : Type 0} → (X → Y) → Option X → Option Y → Type 0
 Gives view (Some x) read = read ≡ Some (view x)
 Gives view None read = read ≡ None
@@ -69,7 +69,7 @@ spans_at bytes = do
   s ← spans_of b.0
   Some (s, b.1)
 
--- a text is given where the bytes are UTF-8
+-- a text, if the bytes are UTF-8
 abbrev pub text_of : List ℕ → Option (List ℕ)
 text_of bytes = if is_utf8 bytes then Some bytes else None
 
@@ -99,7 +99,7 @@ opener_at bytes = do
   p ← place_at bytes
   Some (opener_of p.0, p.1)
 
--- by the byte of its letter, its `b` and its line
+-- a clef or none, by the byte of its letter, its `b` and its line
 abbrev pub clef_of : ℕ → Bool → ℕ → Option (Option Clef)
 clef_of zero flat line = if flat then None else (if line == 0 then Some None else None)
 clef_of (suc zero) flat line = Some (Some (record { f = false; flat = flat; line = line }))
@@ -134,7 +134,7 @@ alters_at bytes = do
   alters ← alters_of f.0
   Some (alters, f.1)
 
--- what follows `GSAV` and the version
+-- the bytes after `GSAV` and the version
 unfoldable pub after_tag : List ℕ → Option (List ℕ)
 after_tag bytes = if bytes_eq (take 5 bytes) (codes "GSAV" ++ 3 ∷ []) then Some (drop 5 bytes) else None
 
