@@ -104,6 +104,14 @@ bool next_run(FILE *table, struct test_case *found) {
   return true;
 }
 
+bool next_stepped(FILE *table, struct test_case *found, const char **steps) {
+  char *columns[8];
+  if (!next_row(table, columns, 8)) return false;
+  *found = case_of(columns[0], columns[1], columns[2], columns[3], columns + 4);
+  *steps = columns[7];
+  return true;
+}
+
 bool next_saved(FILE *table, struct saved_case *found) {
   char *columns[12];
   if (!next_row(table, columns, 12)) return false;

@@ -46,6 +46,10 @@ bool next_run(FILE *table, struct test_case *found);
 
 /* Reads the next case of a whole input under the default limits. */
 bool next_case(FILE *table, struct test_case *found);
+
+/* Reads the next case, as `next_run` does, and its steps: `TAKEN,OUTPUT,MESSAGES` of each, split by blanks. They stay until the next row is read. */
+bool next_stepped(FILE *table, struct test_case *found, const char **steps);
+
 /* Read the next run that is saved, and the next state. They end the program where a line has other columns. */
 bool next_saved(FILE *table, struct saved_case *found);
 bool next_state(FILE *table, struct state_case *found);

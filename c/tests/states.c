@@ -42,13 +42,13 @@ static uint32_t answer_to(const struct run *run) {
   return status;
 }
 
-/* Restores a run from these bytes, and looks at the answer and at how it goes on. */
-static void try_state(const struct test_case *rest, size_t number, struct text state, uint32_t answer) {
+/* Restores a run from these bytes, and looks at the answer and at how it goes on, in pieces of `size`. */
+static void try_state(const struct test_case *rest, size_t number, struct text state, uint32_t answer, size_t size) {
   struct run run = run_from(rest, number, state);
   uint32_t status = answer_to(&run);
   check(status == answer, "the answer to a state", number);
   if (status == GREGORIO_RUNS && answer == status) {
-    feed_all(&run, rest->input, PIECE, step_exactly);
+    feed_all(&run, rest->input, size, step_exactly);
     end_as(&run, step_exactly, rest->status, rest->output, rest->messages);
   }
   free_run(&run);
@@ -57,27 +57,31 @@ static void try_state(const struct test_case *rest, size_t number, struct text s
 static struct text first_of(struct text all, size_t length) { return (struct text){all.bytes, length}; }
 static struct text after(struct text all, size_t length) { return (struct text){all.bytes + length, all.length - length}; }
 
-/* Saves a run after its first bytes, and compares what it has written and its state. */
-static void try_save(const struct saved_case *it, size_t number) {
+/* Saves a run after its first bytes, which it gets in pieces of `size`, and compares what it has written and its state. */
+static void try_save(const struct saved_case *it, size_t number, size_t size) {
   struct run run = begin(&it->run, number);
-  feed_all(&run, first_of(it->run.input, it->fed), PIECE, step_exactly);
+  feed_all(&run, first_of(it->run.input, it->fed), size, step_exactly);
   check(run.status == GREGORIO_RUNS && is_same(run.state, it->state), "a saved state", number);
   check(is_same(run.output, first_of(it->run.output, it->output)), "the output before a state", number);
   check(is_same(run.messages, first_of(it->run.messages, it->messages)), "the messages before a state", number);
   free_run(&run);
 }
 
+/* Looks at a run that is saved in between, and at one that is not: both have the state of the row, and go on from it. */
 static void try_saved(const struct saved_case *it, size_t number) {
   if (it->fed > it->run.input.length || it->output > it->run.output.length || it->messages > it->run.messages.length) {
     check(false, "a row of a run that is saved", number);
     return;
   }
-  try_save(it, number);
   struct test_case rest = it->run;
   rest.input = after(rest.input, it->fed);
   rest.output = after(rest.output, it->output);
   rest.messages = after(rest.messages, it->messages);
-  try_state(&rest, number, it->state, GREGORIO_RUNS);
+  const size_t sizes[] = {PIECE, it->run.input.length};
+  for (size_t i = 0; i < sizeof sizes / sizeof *sizes; i++) {
+    try_save(it, number, sizes[i]);
+    try_state(&rest, number, it->state, GREGORIO_RUNS, sizes[i]);
+  }
 }
 
 /* The run of which these bytes say that they are its state. */
@@ -136,7 +140,7 @@ static void try_states_of(FILE *table) {
   struct state_case it;
   size_t number = 0;
   while (next_state(table, &it)) {
-    try_state(&it.rest, ++number, it.state, it.answer);
+    try_state(&it.rest, ++number, it.state, it.answer, PIECE);
     free_case(&it.rest);
     free(it.state.bytes);
   }

@@ -94,7 +94,7 @@ struct made finish(const struct run *run, const struct text *piece, struct rooms
   return made;
 }
 
-static void append(struct text *to, const uint8_t *bytes, size_t length) {
+void append(struct text *to, const uint8_t *bytes, size_t length) {
   to->bytes = realloc(to->bytes, to->length + length + 1);
   memcpy(to->bytes + to->length, bytes, length);
   to->length += length;

@@ -49,6 +49,9 @@ const struct gregorio_options *options_of(const struct run *run, size_t *count);
 struct run begin(const struct test_case *it, size_t number);
 void free_run(struct run *run);
 
+/* Appends bytes to a text. */
+void append(struct text *to, const uint8_t *bytes, size_t length);
+
 /* Takes what a step gave over into the run. */
 void take(struct run *run, struct made *made);
 

@@ -8,20 +8,15 @@
 #![tactic(auto)]
 
 mod ends;
-mod filled;
 mod known;
-mod mutated;
 mod pieces;
 mod prefixes;
 mod row;
 mod run;
-mod saved;
-mod saved_row;
 mod steps;
 mod wholes;
 
 use ends::fills_sinks;
-use filled::{RUNS, count_agreed};
 use gabc_places::Limits;
 use gregorio::{Format, laws};
 use known::{Known, Wanted, known_of};
@@ -29,7 +24,6 @@ use pieces::agrees_in_pieces;
 use prefixes::has_prefixes_alike;
 use row::row_of;
 use run::{Request, run};
-use saved::is_saved;
 use std::alloc::{AllocError, Global};
 use std::{fs, io};
 use steps::has_steps;
@@ -145,20 +139,6 @@ fn check_scores(rt: &HostRuntime) -> io::Result<()> {
     println!(rt; "scores: {agreed} of {} agree", SCORES.len())
 }
 
-/// Makes runs of engines, filled and fed byte by byte, over scores that are put together from parts
-/// of the example scores, and prints how many agree.
-fn check_filled(rt: &HostRuntime) -> io::Result<()> {
-    let mut agreed = 0usize;
-    let mut seed = 1u64;
-    for name in SCORES {
-        let score = read_file(rt, name, "gabc")?;
-        agreed = agreed.saturating_add(count_agreed(rt.alloc(), score.as_bytes(), seed)?);
-        seed = seed.saturating_add(1);
-    }
-    let runs = SCORES.len() * RUNS;
-    println!(rt; "mutated scores: {agreed} of {runs} runs agree, filled and fed byte by byte")
-}
-
 /// The meaning of the lines of a file.
 #[derive(Clone, Copy)]
 enum Lines {
@@ -170,8 +150,6 @@ enum Lines {
     Prefixes,
     /// Runs, with the bytes that make known what each writes.
     Steps,
-    /// Runs that are saved, and go on once restored.
-    Saved,
 }
 
 impl Lines {
@@ -182,7 +160,6 @@ impl Lines {
             Lines::Sinks => "runs into sinks that fail",
             Lines::Prefixes => "inputs with their prefixes",
             Lines::Steps => "runs by their steps",
-            Lines::Saved => "saved runs",
         }
     }
 
@@ -195,7 +172,6 @@ impl Lines {
             Lines::Sinks => row_fills_sinks(alloc, line)?,
             Lines::Prefixes => has_prefixes_alike(alloc, line)?,
             Lines::Steps => has_steps(alloc, line)?,
-            Lines::Saved => is_saved(alloc, line)?,
         };
         if !agrees {
             println!(rt; "{path}: line {number} differs")?;
@@ -205,7 +181,7 @@ impl Lines {
 }
 
 /// The files of lines.
-const FILES: [(&str, Lines); 12] = [
+const FILES: [(&str, Lines); 11] = [
     ("rows.tsv", Lines::Runs),
     ("canonical.tsv", Lines::Runs),
     ("canonical_w12.tsv", Lines::Runs),
@@ -217,7 +193,6 @@ const FILES: [(&str, Lines); 12] = [
     ("sinks.tsv", Lines::Prefixes),
     ("steps.tsv", Lines::Runs),
     ("steps.tsv", Lines::Steps),
-    ("states.tsv", Lines::Saved),
 ];
 
 /// Looks at the lines of a file after the first one, which is its head, but for those that begin
@@ -250,6 +225,5 @@ fn main(rt: HostRuntime) -> io::Result<()> {
     for (path, lines) in FILES {
         check_file(&rt, path, lines)?;
     }
-    check_scores(&rt)?;
-    check_filled(&rt)
+    check_scores(&rt)
 }

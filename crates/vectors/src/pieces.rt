@@ -15,7 +15,7 @@ const LENGTHS: [usize; 5] = [1, 2, 3, 7, 8192];
 
 /// Feeds a piece, and takes the bytes that are written of it off `wanted`. Returns whether `wanted`
 /// began with them.
-pub(crate) fn feed_piece(engine: &mut Engine, piece: &[u8], wanted: &mut Wanted) -> bool
+fn feed_piece(engine: &mut Engine, piece: &[u8], wanted: &mut Wanted) -> bool
     requires waits { NothingWaits engine.old }
     ensures waits { NothingWaits engine.new }
 {
@@ -31,12 +31,7 @@ pub(crate) fn feed_piece(engine: &mut Engine, piece: &[u8], wanted: &mut Wanted)
 
 /// Feeds `bytes` in pieces of this `length`, and takes the bytes that are written of them off
 /// `wanted`. Returns whether `wanted` began with them.
-pub(crate) fn feed_all(
-    engine: &mut Engine,
-    bytes: &[u8],
-    length: usize,
-    wanted: &mut Wanted,
-) -> bool
+fn feed_all(engine: &mut Engine, bytes: &[u8], length: usize, wanted: &mut Wanted) -> bool
     requires length { 0 < length }
     requires waits { NothingWaits engine.old }
     ensures waits { NothingWaits engine.new }
@@ -63,7 +58,7 @@ pub(crate) fn end(engine: &mut Engine, broken: bool) -> Status
 
 /// Returns whether an engine that takes the bytes of a run in pieces of this `length` has the
 /// output, the messages and the status that are known.
-pub(crate) fn has_output(engine: &mut Engine, known: Known, length: usize) -> bool
+fn has_output(engine: &mut Engine, known: Known, length: usize) -> bool
     requires length { 0 < length }
     requires waits { NothingWaits engine.old }
 {

@@ -28,7 +28,7 @@ enum Escape {
 }
 
 /// Returns the value of a hexadecimal digit, or 0.
-pub(crate) fn digit(byte: u8) -> u8 {
+fn digit(byte: u8) -> u8 {
     match byte {
         b'0'..=b'9' => byte - b'0',
         b'A'..=b'F' => byte - b'A' + 10,
@@ -91,18 +91,16 @@ pub(crate) fn column(line: &str, number: usize) -> &str {
     line.split('\t').nth(number).unwrap_or("")
 }
 
-/// Returns the run of a line, if its limits are numbers. Its options, its limits, its ending and
-/// its input are in the first four columns, and its output, its messages and its status in the
-/// columns from the number `written` on. A status that is no number is 255, with which no run ends.
-pub(crate) fn run_of(alloc: Global, line: &str, written: usize) -> Result<Option<Row>, AllocError> {
+/// Returns the row of a line, if its limits are numbers: options, limits, ending, input, output,
+/// messages and status, split by tabs. A status that is no number is 255, with which no run ends.
+pub(crate) fn row_of(alloc: Global, line: &str) -> Result<Option<Row>, AllocError> {
     let Some((header, syllable, input)) = limits_of(column(line, 1)) else {
         return Ok(None);
     };
     let options = column(line, 0);
     let bytes = unescaped(alloc, column(line, 3))?;
-    let output = unescaped(alloc, column(line, written))?;
-    let messages = unescaped(alloc, column(line, written.saturating_add(1)))?;
-    let status = column(line, written.saturating_add(2));
+    let output = unescaped(alloc, column(line, 4))?;
+    let messages = unescaped(alloc, column(line, 5))?;
     Ok(Some(Row {
         format: format_of(options),
         all_warnings: options.ends_with("-W"),
@@ -113,12 +111,6 @@ pub(crate) fn run_of(alloc: Global, line: &str, written: usize) -> Result<Option
         bytes,
         output,
         messages,
-        status: status.parse::<u8>().unwrap_or(255),
+        status: column(line, 6).parse::<u8>().unwrap_or(255),
     }))
-}
-
-/// Returns the row of a line: options, limits, ending, input, output, messages and status, split by
-/// tabs.
-pub(crate) fn row_of(alloc: Global, line: &str) -> Result<Option<Row>, AllocError> {
-    run_of(alloc, line, 4)
 }

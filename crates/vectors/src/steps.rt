@@ -1,67 +1,22 @@
-//! Checks with which byte of its input an engine writes what, and what it does after its end.
+//! Checks what the library for C has no call for: with which bytes an engine that is fed stops, how
+//! one is filled while bytes wait, buffers that are too short for a state or longer than it, and
+//! what an engine does after its end.
 
-ghost use Rattle.std.specs.Prelude.{◌≡◌, false};
-ghost use Rattle.gregorio.specs.Engine.{NothingWaits};
+ghost use Rattle.std.specs.Prelude.{◌≡◌, true, false};
+ghost use Rattle.gregorio.specs.Engine.{NothingWaits, is_running};
 
-use crate::known::{Known, Wanted, known_of};
+use crate::known::{Known, known_of};
 use crate::pieces::end;
 use crate::row::{column, row_of};
 use crate::run::job;
-use gabc_places::Fault;
 use gregorio::Engine;
 use std::alloc::{AllocError, Global};
 
-/// The numbers of bytes of the output and of the messages that are known after the first `taken`
-/// bytes of the input.
-#[derive(Clone, Copy, PartialEq, Eq)]
-struct Step {
-    taken: usize,
-    output: usize,
-    messages: usize,
-}
+/// The number of bytes of the pieces from which an engine is filled.
+const PIECE: usize = 5;
 
-/// The step before all bytes, when nothing is known yet.
-const NONE: Step = Step {
-    taken: 0,
-    output: 0,
-    messages: 0,
-};
-
-/// A run, and the bytes with which it writes something.
-#[derive(Clone, Copy)]
-struct Trial<'a> {
-    known: Known<'a>,
-    steps: &'a [Step],
-}
-
-impl Trial<'_> {
-    /// Returns the last step that is made with at most `count` bytes.
-    fn step_at(self, count: usize) -> Step {
-        let mut last = NONE;
-        for step in self.steps {
-            if step.taken <= count {
-                last = *step;
-            }
-        }
-        last
-    }
-
-    /// Returns whether all but `left` is known after a step.
-    fn is_known(self, left: Wanted, step: Step) -> bool {
-        left.output.len().saturating_add(step.output) == self.known.wanted.output.len()
-            && left.messages.len().saturating_add(step.messages) == self.known.wanted.messages.len()
-    }
-
-    /// Returns whether `fault` is that of the run, with which its messages end, or none if it has
-    /// none. It fails only if memory runs out.
-    fn has_fault(self, alloc: Global, fault: Option<Fault>) -> Result<bool, AllocError> {
-        let Some(fault) = fault else {
-            return Ok(self.known.status != 2);
-        };
-        let line = format!(in alloc; "<stdin>:{fault}\n")?;
-        Ok(self.known.status == 2 && self.known.wanted.messages.ends_with(line.as_bytes()))
-    }
-}
+/// The number of bytes of a buffer that is longer than the states of the runs.
+const BUFFER: usize = 512;
 
 /// Returns whether output or messages wait.
 fn waits(engine: &Engine) -> bool
@@ -70,19 +25,19 @@ fn waits(engine: &Engine) -> bool
     !engine.out().is_empty() || !engine.messages().is_empty()
 }
 
-/// Returns whether a fresh engine that is fed the whole input takes up to the byte of each step in
-/// a call, and then all that is left.
-fn takes_steps(engine: &mut Engine, trial: Trial) -> bool {
-    let mut rest = trial.known.asked.bytes;
+/// Returns whether a fresh engine that is fed `bytes` takes up to each number of `stops` in a call,
+/// and then all that is left.
+fn stops_at(engine: &mut Engine, bytes: &[u8], stops: &[usize]) -> bool {
+    let mut rest = bytes;
     let mut taken = 0usize;
-    for step in trial.steps {
+    for stop in stops {
         if waits(engine) {
             return false;
         }
         let count = engine.feed(rest);
         engine.taken();
         taken = taken.saturating_add(count);
-        if taken != step.taken {
+        if taken != *stop {
             return false;
         }
         rest = &rest[count..];
@@ -90,48 +45,40 @@ fn takes_steps(engine: &mut Engine, trial: Trial) -> bool {
     !waits(engine) && engine.feed(rest) == rest.len() && !waits(engine)
 }
 
-/// Returns whether a fresh engine that is filled from the whole input continues up to the byte that
-/// stops the run, with all that it writes waiting, and then takes the rest.
-fn is_filled(engine: &mut Engine, trial: Trial) -> bool {
-    let bytes = trial.known.asked.bytes;
-    let count = engine.fill(bytes);
-    let last = trial.step_at(bytes.len());
-    let stop = if engine.running() {
-        bytes.len()
-    } else {
-        last.taken
+/// Returns whether `engine` saves its state into the longer `buffer`, whose bytes are all 0, leaves
+/// the other bytes, and saves nothing into a buffer that is a byte shorter than the state.
+fn saves(engine: &Engine, buffer: &mut [u8]) -> bool
+    requires runs { is_running engine.now ≡ true }
+    requires waits { NothingWaits engine.now }
+{
+    let len = engine.state_len();
+    let less = len.saturating_sub(1);
+    if len > buffer.len() || engine.save_into(&mut buffer[..less]).is_ok() {
+        return false;
+    }
+    let unchanged = buffer.iter().all(|byte| *byte == 0);
+    let Ok(saved) = engine.save_into(buffer) else {
+        return false;
     };
-    count == stop
-        && engine.out().len() == last.output
-        && trial.known.wanted.output.starts_with(engine.out())
-        && engine.messages().len() == last.messages
-        && trial.known.wanted.messages.starts_with(engine.messages())
-        && engine.fill(&bytes[count..]) == bytes.len() - count
+    let Some((_, rest)) = buffer.split_at_checked(len) else {
+        return false;
+    };
+    unchanged && saved == len && rest.iter().all(|byte| *byte == 0)
 }
 
-/// Returns whether a fresh engine makes the steps of a run byte by byte, writes nothing else, and
-/// has a fault only once it has stopped.
-fn gives_steps(engine: &mut Engine, trial: Trial, left: &mut Wanted) -> bool {
-    let bytes = trial.known.asked.bytes;
-    for index in 0..bytes.len() {
-        if waits(engine) {
-            return false;
-        }
-        engine.feed(&bytes[index..index + 1]);
-        let known = left.take(engine) && trial.is_known(*left, trial.step_at(index + 1));
-        if !known || engine.running() && engine.fault().is_some() {
-            return false;
+/// Returns whether a fresh engine that is filled from pieces, while all that it writes waits, has
+/// taken as many bytes as `stop` says if one of them stops it, and writes what is known.
+fn is_filled(engine: &mut Engine, known: Known, stop: Option<usize>) -> bool {
+    let mut count = 0usize;
+    for piece in known.asked.bytes.chunks(PIECE) {
+        if engine.running() {
+            count = count.saturating_add(engine.fill(piece));
         }
     }
-    true
-}
-
-/// Returns whether a fresh engine makes the steps of a run, and then its end.
-fn gives_all(engine: &mut Engine, trial: Trial) -> bool {
-    let mut left = trial.known.wanted;
-    gives_steps(engine, trial, &mut left)
+    let mut left = known.wanted;
+    (engine.running() || stop == Some(count))
         && left.take(engine)
-        && end(engine, trial.known.asked.broken).code() == trial.known.status
+        && end(engine, known.asked.broken).code() == known.status
         && left.take(engine)
         && left.is_empty()
 }
@@ -144,6 +91,7 @@ fn is_over(engine: &mut Engine, status: u8) -> bool
     let fault = engine.fault();
     !engine.running()
         && engine.feed(b"%%\na(f)b(Q)") == 11
+        && engine.fill(b"%%\na(f)b(Q)") == 11
         && !waits(engine)
         && engine.end().code() == status
         && !waits(engine)
@@ -152,42 +100,36 @@ fn is_over(engine: &mut Engine, status: u8) -> bool
         && engine.fault() == fault
 }
 
-/// Returns whether a fresh engine makes the run as its steps say, with the fault that it has to
-/// have, and has none once it is restarted.
-fn agrees(alloc: Global, engine: &mut Engine, trial: Trial) -> Result<bool, AllocError> {
-    let taken = takes_steps(engine, trial);
+/// Returns whether a fresh engine stops at `stops` when it is fed the input of the run, and, if
+/// that does not end the run, is saved then; and whether it is filled with the same input once it
+/// is restarted, and has no fault once it is restarted again.
+fn agrees(engine: &mut Engine, known: Known, stops: &[usize]) -> bool {
+    let stopped = stops_at(engine, known.asked.bytes, stops);
+    let mut buffer = [0; BUFFER];
+    let saved = !engine.running() || !waits(engine) && saves(engine, &mut buffer);
     engine.restart();
-    let filled = is_filled(engine, trial);
+    let filled = is_filled(engine, known, stops.last().copied())
+        && !waits(engine)
+        && is_over(engine, known.status);
     engine.restart();
-    let given = gives_all(engine, trial) && !waits(engine) && is_over(engine, trial.known.status);
-    let faulty = trial.has_fault(alloc, engine.fault())?;
-    engine.restart();
-    Ok(taken && filled && given && faulty && engine.fault().is_none())
+    stopped && saved && filled && engine.fault().is_none()
 }
 
-/// Returns the steps of a column: `TAKEN,OUTPUT,MESSAGES` of each, split by blanks. One that is not
-/// written so is made with no byte.
-fn steps_of(alloc: Global, column: &str) -> Result<Vec<Step>, AllocError> {
-    let mut steps = Vec::new(alloc);
+/// Returns the numbers of bytes that are taken at the steps of a column: `TAKEN,OUTPUT,MESSAGES` of
+/// each, split by blanks. A number that is none is the largest.
+fn stops_of(alloc: Global, column: &str) -> Result<Vec<usize>, AllocError> {
+    let mut stops = Vec::new(alloc);
     for part in column.split(' ') {
-        let mut numbers = part.split(',');
-        let mut next = || numbers
-            .next()
-            .and_then(|it| it.parse::<usize>().ok())
-            .unwrap_or(usize::MAX);
-        steps.push(Step {
-            taken: next(),
-            output: next(),
-            messages: next(),
-        })?;
+        let taken = part.split(',').next().unwrap_or("");
+        stops.push(taken.parse::<usize>().unwrap_or(usize::MAX))?;
     }
-    Ok(steps)
+    Ok(stops)
 }
 
-/// Returns whether the run on this line of a file is made as its row says; the row has the steps
-/// after the status.
+/// Returns whether an engine stops at the steps of this line of a file, and goes on as it has to;
+/// the row has the steps after the status.
 pub(crate) fn has_steps(alloc: Global, line: &str) -> Result<bool, AllocError> {
-    let steps = steps_of(alloc, column(line, 7))?;
+    let stops = stops_of(alloc, column(line, 7))?;
     let Some(row) = row_of(alloc, line)? else {
         return Ok(false);
     };
@@ -195,16 +137,12 @@ pub(crate) fn has_steps(alloc: Global, line: &str) -> Result<bool, AllocError> {
         return Ok(false);
     };
     let asked = known.asked;
-    let trial = Trial {
-        known,
-        steps: steps.as_slice(),
-    };
     match Engine::new(alloc, &job(asked.format, asked.all_warnings), asked.limits) {
         Ok(mut engine) => {
-            let agrees = agrees(alloc, &mut engine, trial);
+            let agrees = agrees(&mut engine, known, stops.as_slice());
             // A proof follows a call faster than all that lies inside an engine.
             drop(engine);
-            agrees
+            Ok(agrees)
         }
         Err(error) => Err(error),
     }
