@@ -1,5 +1,5 @@
 /* States of strangers: what bytes cost that are refused, whatever limits they name. Bytes of below 1 kB take at most 0.4 ms, and 0.15 ms for each further kB
- * (0.25 ms of a syllable that is held), and no more than 1 MB of memory, and 8 MB for 64 kB of state, in proportion above.
+ * (0.25 ms of a pending syllable), and no more than 1 MB of memory, and 8 MB for 64 kB of state, in proportion above.
  *
  * Linked with --wrap for `malloc`, `realloc` and `free`, which count what is asked for at one time.
  *

@@ -125,7 +125,7 @@ fn finish(alloc: Global, stage: &mut ScoreStage, out: &mut Printed) -> Result<()
     Ok(())
 }
 
-/// Prints the kept text of the held syllable, if there is one.
+/// Prints the kept text of the pending syllable, if there is one.
 fn show_held(stage: &ScoreStage, out: &mut Printed) {
     if let Some(held) = stage.held() {
         out.put(" ");
@@ -146,9 +146,9 @@ fn show_open(stage: &ScoreStage, out: &mut Printed) {
     }
 }
 
-/// Prints what a stage reports: the counts and the open spans before the held syllable, or before
-/// the one that is being read if none is held; the kept texts of both; the places of the openers;
-/// and whether a comment is open.
+/// Prints what a stage reports: the counts and the open spans before the pending syllable, or
+/// before the one that is being read if none is pending; the kept texts of both; the places of the
+/// openers; and whether a comment is open.
 fn show_report(stage: &ScoreStage, out: &mut Printed) {
     match stage.before() {
         Some(before) => {

@@ -1,4 +1,4 @@
--- The text of the headers that a stage holds until their line `%%`.
+-- The pending headers of a stage: their text, until their line `%%` has come.
 use Rattle.std.specs.Prelude.{◌≡◌, ◌⊎◌, ℕ, ◌-◌, ◌≤◌, List, [], length, drop, map, codes, true, Result, Ok, Err}
 use Rattle.std.specs.declared.hash.DefaultHasher.{DefaultHasher}
 use Rattle.gabc_places.specs.declared.place.Char.{Char}
@@ -23,7 +23,7 @@ IsWithinHeaders limit bytes = (length bytes ≤ limit) ⊎ (drop (limit - 1) byt
 abbrev pub findings_held : Limits → List ℕ → List Finding
 findings_held limits t = findings_of (heads_of limits t)
 
--- the stage that holds it
+-- the stage whose pending headers have this text
 abbrev pub holding : Limits → DefaultHasher → List ℕ → HeaderStageState
 holding limits hasher t = record { limits = limits; progress = reading t; book = []; hasher = hasher }
 

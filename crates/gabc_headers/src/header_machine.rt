@@ -16,7 +16,7 @@ pub(crate) enum HeaderStep {
 }
 
 /// The machine. It has read `point` characters, and the next one is at its place. A `%` that begins
-/// a line is held back, until the next character shows whether that is the line `%%`.
+/// a line is pending, until the next character shows whether that is the line `%%`.
 #[derive(Clone, Copy)]
 pub(crate) struct HeaderMachine {
     pub parts: PartMachine,

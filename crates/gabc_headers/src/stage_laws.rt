@@ -103,8 +103,8 @@ pub fn the_end_is_taken(stage: &mut HeaderStage, out: &mut Room<HeadEvent>)
     stage.finish(out);
 }
 
-/// Law: two stages with the same limits that hold the same text of the headers emit the same of
-/// whatever follows.
+/// Law: two stages with the same limits and the same pending headers emit the same of whatever
+/// follows.
 pub fn stages_of_one_text_agree()
     ensures { (one other : HeaderStageState) → one.limits ≡ other.limits →
         one.progress ≡ reading (text_held one.progress) →
@@ -114,8 +114,8 @@ pub fn stages_of_one_text_agree()
         ≡ events_left other.limits other.progress xs }
 {}
 
-/// Law: the text that a stage holds restores it: pushed into a fresh stage, whatever the places of
-/// its characters, it leaves a stage that holds this text. The events are the findings of the text.
+/// Law: the pending headers of a stage restore it: pushed into a fresh stage, whatever the places
+/// of their characters, they are those of that stage then. The events are their findings.
 pub fn a_held_text_is_held_again()
     ensures state { (limits : Limits) (hasher : DefaultHasher) (xs : List Char) →
         All IsScalar (text_in xs) → IsHeld limits (text_in xs) →
@@ -127,8 +127,8 @@ pub fn a_held_text_is_held_again()
         ≡ map (λ f. Found f) (findings_held limits (text_in xs)) }
 {}
 
-/// Law: the empty text is held. If a text is held, and held still with a character more, its
-/// findings stay, and further findings come after them.
+/// Law: empty headers are pending. If headers are pending, and still are with a character more,
+/// their findings stay, and further findings come after them.
 pub fn a_held_text_grows()
     ensures begins { (limits : Limits) → IsHeld limits [] }
     ensures found { (limits : Limits) (t : List ℕ) (c : ℕ) → All IsScalar t → IsScalar c →
@@ -136,8 +136,8 @@ pub fn a_held_text_grows()
         ≡ findings_held limits t ++ new_findings limits t (t ++ c ∷ []) }
 {}
 
-/// Law: the text that a stage holds is within the limit of the headers, or one `%` that begins a
-/// line is above it: the next character shows whether that belongs to the line `%%`.
+/// Law: the pending headers of a stage are within their limit, or one `%` that begins a line is
+/// above it: the next character shows whether that belongs to the line `%%`.
 pub fn a_held_text_is_within_its_limit()
     ensures { (limits : Limits) (t : List ℕ) → 1 ≤ limits.header → IsHeld limits t →
         IsWithinHeaders limits.header (encode_utf8_all t) }

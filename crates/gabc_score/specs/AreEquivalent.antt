@@ -4,9 +4,9 @@ use Rattle.gabc_score.specs.HeldAside.{HoldTheSame}
 use Rattle.gabc_score.specs.ScoreReports.{IsAt, before_of, held_of, is_in_comment, openers_of, reading_of}
 use Rattle.gabc_score.specs.witness.ScoreStage.{ScoreStageState}
 
--- They run under the same limits after the same, hold none or syllables that are equivalent to one
--- another, and report the same of the syllable that is not whole. The place of the next character
--- is the one that a text that is read has counted.
+-- They run under the same limits after the same, with equivalent pending syllables or none, and
+-- report the same of the syllable that is not whole. The place of the next character is the one
+-- that a text that is read has counted.
 pub record AreEquivalent (one other : ScoreStageState) : Type 0 where
   pub runs : is_some (before_of one) ≡ true
   pub limits : one.limits ≡ other.limits

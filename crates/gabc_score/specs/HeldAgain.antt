@@ -1,4 +1,4 @@
--- A text that is read by itself as one syllable, which is held then.
+-- A text that is read by itself as one syllable, which is pending then.
 use Rattle.std.specs.Prelude.{ℕ, ◌+◌, ◌≤◌, List, length}
 use Rattle.gabc_places.specs.declared.limits.Limits.{Limits}
 use Rattle.gabc_body.specs.declared.before.Before.{Before}

@@ -80,6 +80,6 @@ ReportsText s = s.part ≡ score_part.Body → IsReportOfText s
 
 -- ---- whatever comes in
 
--- in the body none is held only if no syllable was emitted
+-- in the body none is pending only if no syllable was emitted
 abbrev pub HoldsIfAny : ScoreStageState → Type 0
 HoldsIfAny s = s.part ≡ score_part.Body → held_of s ≡ None → s.before.syllables ≡ 0

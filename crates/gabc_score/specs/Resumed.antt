@@ -18,14 +18,16 @@ pub record BeginsText (s : ScoreStageState) : Type 0 where
   pub begins : s.body.part ≡ Text (fresh_stage first_place)
   pub next : s.held.next ≡ first_place
 
--- It is after the syllables that `before` reports, holds none and begins to read a text.
+-- It is after the syllables that `before` reports, has no pending syllable, and begins to read a
+-- text.
 pub record IsAfterSyllables (limits : Limits) (before : Before) (s : ScoreStageState) : Type 0 where
   pub limits_are : s.limits ≡ limits
   pub before_is : before_of s ≡ Some before
   pub none_held : held_of s ≡ None
   pub begins : BeginsText s
 
--- It holds the syllable of a text, is after the same as before, and begins to read the next text.
+-- Its pending syllable is that of a text. It is after the same as before, and begins to read the
+-- next text.
 pub record HoldsAgain (text : List ℕ) (old new : ScoreStageState) : Type 0 where
   pub m : UnplacedSyllable
   pub may : MayBeHeld old.limits (before_with old.body old.before) text m

@@ -22,7 +22,7 @@ abbrev pub in_body : {A : Type 0} → ScorePart → A → Option A
 in_body score_part.Body told = Some told
 in_body part told = None
 
--- the context of the held syllable, or, if none is held, of the one that is read
+-- the context of the pending syllable, or, if none is pending, of the one that is read
 abbrev pub before_with : BodyStageState → Preceding → Before
 before_with body p = record {
   nabc_lines = body.nabc_lines;
@@ -36,7 +36,7 @@ before_with body p = record {
 abbrev pub before_of : ScoreStageState → Option Before
 before_of s = in_body s.part (before_with s.body s.before)
 
--- the held syllable, if there is one
+-- the pending syllable, if there is one
 abbrev pub held_in_body : ScorePart → List UnplacedSyllable → Option UnplacedSyllable
 held_in_body score_part.Body (m ∷ ms) = Some m
 held_in_body part made = None

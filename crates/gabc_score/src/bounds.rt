@@ -1,4 +1,4 @@
-//! The totals of the syllables before and after the held one.
+//! The totals of the syllables before and after the pending one.
 
 ghost use Rattle.std.specs.Prelude.{◌≡◌, nat_lt};
 ghost use Rattle.gabc_score.specs.machine.Preceded.{after_headers, past_point};
@@ -6,7 +6,7 @@ ghost use Rattle.gabc_score.specs.machine.Preceded.{after_headers, past_point};
 use crate::preceding::{NO_SPANS, Preceding};
 use crate::slot_pair::SlotPair;
 
-/// The totals before the held syllable, and after it. If none is held, the two are the same.
+/// The totals before the pending syllable, and after it. If none is pending, the two are the same.
 #[derive(Clone, Copy)]
 pub(crate) struct Bounds {
     pub(crate) before: Preceding,
@@ -30,7 +30,7 @@ impl Bounds {
         }
     }
 
-    /// Returns whether there is a syllable before the held one.
+    /// Returns whether there is a syllable before the pending one.
     pub(crate) fn follows(&self) -> bool
         ensures { result ≡ nat_lt 0 self.now.before.syllables }
     {
@@ -38,8 +38,8 @@ impl Bounds {
     }
 
     /// Updates the bounds at a point. `is_whole` says whether a syllable has become whole there,
-    /// which is held from then on, and `gave` whether the one held before is emitted; `pair` has
-    /// what is gathered after this point.
+    /// which is pending from then on, and `gave` whether the one pending before is emitted; `pair`
+    /// has what is gathered after this point.
     pub(crate) fn pass(&mut self, is_whole: bool, gave: bool, pair: &SlotPair)
         ensures { self.new ≡ past_point is_whole gave self.old pair.now.gathered }
     {

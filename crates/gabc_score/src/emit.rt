@@ -86,9 +86,9 @@ fn give_lent(count: usize, out: &mut Room<ScoreEvent>)
     }
 }
 
-/// Emits the findings of a point, and the held syllable if another has become whole, which is held
-/// from then on. `is_preceded` says whether there is a syllable before it. Returns whether a
-/// syllable was emitted.
+/// Emits the findings of a point, and the pending syllable if another has become whole, which is
+/// pending from then on. `is_preceded` says whether there is a syllable before it. Returns whether
+/// a syllable was emitted.
 pub(crate) fn give_point(
     pair: &mut SlotPair,
     is_preceded: bool,
@@ -106,7 +106,7 @@ pub(crate) fn give_point(
     count > 0
 }
 
-/// Emits the held syllable as the last one, and the fault that stops the score.
+/// Emits the pending syllable as the last one, and the fault that stops the score.
 pub(crate) fn give_stop(
     pair: &mut SlotPair,
     is_preceded: bool,
@@ -124,7 +124,7 @@ pub(crate) fn give_stop(
     out.push(ScoreEvent::Stop(fault));
 }
 
-/// Emits the held syllable as the last one, after the source has failed.
+/// Emits the pending syllable as the last one, after the source has failed.
 pub(crate) fn give_broken(pair: &mut SlotPair, is_preceded: bool, out: &mut Room<ScoreEvent>)
     requires used { pair.old.used ≢ SlotUse.Lent }
     requires fits { Fits out.old 16 }

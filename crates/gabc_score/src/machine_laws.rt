@@ -18,7 +18,7 @@ ghost use Rattle.gabc_score.specs.machine.SlotPair.{is_made};
 use crate::score_machine::{ScoreMachine, ScorePart};
 use crate::slot_pair::SlotPair;
 
-/// Law: if no slot has a syllable beside the held one, at most one was gathered.
+/// Law: if no slot has a syllable beside the pending one, at most one was gathered.
 #[inline(always)]
 pub(crate) fn at_most_one_is_held(pair: &SlotPair)
     requires { is_made pair.now.used ≡ false }
@@ -50,7 +50,7 @@ pub(crate) fn a_stage_may_stand_so(machine: &ScoreMachine)
     }
 }
 
-/// Law: in the body the whole syllables are those that were given, and the held one.
+/// Law: in the body the whole syllables are those that were given, and the pending one.
 pub(crate) fn whole_ones_are_given_or_held(machine: &ScoreMachine)
     requires { StandsInBody machine.now }
     ensures { whole_syllables (shown machine.now) ≡ machine.now.bounds.before.syllables

@@ -115,12 +115,12 @@ impl ScoreStage {
     /// syllable, of which nothing is read, and in no comment. After the text the brackets at
     /// `openers` are open, a comment is open if `in_comment`, and the next character is at `next`.
     /// Nothing is emitted, and findings are left out. Returns whether no syllable became whole and
-    /// no limit was passed. If so, what comes before and what is held are unchanged; else the stage
-    /// is over. If some stage past the comment in front, after the same and under the same limits,
-    /// reports this of the syllable that it reads, then the answer is `true`, and this stage
-    /// reports the same. What it reports stays that of a text, if `kept` is one of an input and the
-    /// places of `openers` are in order and before `next`. Outside the body it changes nothing and
-    /// returns `false`.
+    /// no limit was passed. If so, what comes before and the pending syllable are unchanged; else
+    /// the stage is over. If some stage past the comment in front, after the same and under the
+    /// same limits, reports this of the syllable that it reads, then the answer is `true`, and this
+    /// stage reports the same. What it reports stays that of a text, if `kept` is one of an input
+    /// and the places of `openers` are in order and before `next`. Outside the body it changes
+    /// nothing and returns `false`.
     pub fn read_again(
         &mut self,
         kept: &str,

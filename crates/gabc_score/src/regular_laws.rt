@@ -83,7 +83,7 @@ pub fn a_regular_syllable_makes_its_spelling()
 
 /// Law: a regular syllable at the beginning of a text makes one syllable, which depends on the
 /// place, the characters and the open spans alone, whatever was gathered before: it is read to its
-/// end, and with it the held syllable is emitted, if there was one.
+/// end, and with it the pending syllable is emitted, if there was one.
 pub(crate) fn a_regular_syllable_goes_through()
     ensures { (lines macros : ℕ) (at : Place) (r : SyllableParts) (spans : Spans) →
         IsRegularSyllable lines r → CountsFit at (spelled r) →

@@ -124,8 +124,8 @@ impl ScoreMachine {
         }
     }
 
-    /// Reads the character `x`, while no syllable is held. Returns whether no limit is passed with
-    /// it, and no error is found. `room` is empty, and is left empty.
+    /// Reads the character `x`, while no syllable is pending. Returns whether no limit is passed
+    /// with it, and no error is found. `room` is empty, and is left empty.
     fn read_alone(&mut self, x: Char, room: &mut Room<ScoreEvent>) -> bool
         requires alone { StandsAlone self.old }
         requires room { IsFree room.old }
@@ -139,7 +139,7 @@ impl ScoreMachine {
         is_fine
     }
 
-    /// Reads the characters of `text`, the first of which is at `at`, while no syllable is held.
+    /// Reads the characters of `text`, the first of which is at `at`, while no syllable is pending.
     /// Returns whether a syllable is whole with the last of them and none before, no limit is
     /// passed and no error is found. `room` is empty, and is left empty.
     pub(crate) fn read_all(&mut self, at: Place, text: &str, room: &mut Room<ScoreEvent>) -> bool
@@ -163,9 +163,9 @@ impl ScoreMachine {
         self.pair.has_held()
     }
 
-    /// Reads `text` as one syllable, which is held from then on, and begins to read the next text.
-    /// Returns whether `text` is one syllable, with which no limit is passed and in which no error
-    /// is found. If not, the reading is over. `room` is empty, and is left empty.
+    /// Reads `text` as one syllable, which is pending from then on, and begins to read the next
+    /// text. Returns whether `text` is one syllable, with which no limit is passed and in which no
+    /// error is found. If not, the reading is over. `room` is empty, and is left empty.
     fn hold_again(&mut self, text: &str, room: &mut Room<ScoreEvent>) -> bool
         requires alone { BeginsAlone self.old }
         requires short { length text.now < 2 ^ 63 }
@@ -189,11 +189,11 @@ impl ScoreMachine {
 
 impl ScoreStage {
     /// Returns a stage in the body after the syllables that `before` reports, and reserves all the
-    /// memory that it needs, as `in_memory` does. It holds no syllable, and the next character is
-    /// the first of a text, at 1:1 unless `go_to` sets another place. `before` is what another
-    /// stage under the same limits reported as the context of the syllable that it held: if there
-    /// is no syllable before that one, no span is open and no note or clef has come. Fails only if
-    /// memory cannot be allocated.
+    /// memory that it needs, as `in_memory` does. It has no pending syllable, and the next
+    /// character is the first of a text, at 1:1 unless `go_to` sets another place. `before` is what
+    /// another stage under the same limits reported as the context of its pending syllable: if
+    /// there is no syllable before that one, no span is open and no note or clef has come. Fails
+    /// only if memory cannot be allocated.
     pub fn resume(memory: &Memory, limits: Limits, before: Before) -> Result<ScoreStage, AllocError>
         requires { IsAtOutset (preceding_of before) }
         ensures { IfOk result (λ stage. IsAfterSyllables limits before stage) }
@@ -203,13 +203,13 @@ impl ScoreStage {
         })
     }
 
-    /// Reads `text`, less than 2^63 bytes, as one syllable, which is held from then on, and begins
-    /// to read the next text. The stage has to begin a text at 1:1 and to hold no syllable. Returns
-    /// whether `text` is one syllable: whole with its last character and not before, with which no
-    /// limit is passed and in which no error is found. The spans that are open before it count, and
-    /// the context of the stage is unchanged. If `text` is no syllable, the stage is over. If it is
-    /// one of an input, what the stage reports stays that of a text. `room` is empty, has room for
-    /// 16 events, and is left empty.
+    /// Reads `text`, less than 2^63 bytes, as one syllable, which is pending from then on, and
+    /// begins to read the next text. The stage has to begin a text at 1:1 and to have no pending
+    /// syllable. Returns whether `text` is one syllable: whole with its last character and not
+    /// before, with which no limit is passed and in which no error is found. The spans that are
+    /// open before it count, and the context of the stage is unchanged. If `text` is no syllable,
+    /// the stage is over. If it is one of an input, what the stage reports stays that of a text.
+    /// `room` is empty, has room for 16 events, and is left empty.
     pub fn hold_again(&mut self, text: &str, room: &mut Room<ScoreEvent>) -> bool
         requires begins { BeginsText self.old }
         requires none { held_of self.old ≡ None }

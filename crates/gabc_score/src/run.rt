@@ -204,7 +204,7 @@ impl<'a> Reached<'a> {
 }
 
 impl SlotPair {
-    /// Gives the held syllable its position in its word. `is_preceded` says whether there is a
+    /// Gives the pending syllable its position in its word. `is_preceded` says whether there is a
     /// syllable before it, and `next_starts` whether the next one begins a word.
     fn place_held(&mut self, is_preceded: bool, next_starts: bool)
         requires used { self.old.used ≡ SlotUse.Filling }
@@ -219,8 +219,8 @@ impl SlotPair {
         self.holder.place(is_preceded, next_starts);
     }
 
-    /// Drops the held syllable. `total` is the number of canonical bytes before the next one, and
-    /// `spans` are open there.
+    /// Drops the pending syllable. `total` is the number of canonical bytes before the next one,
+    /// and `spans` are open there.
     fn forget_held(&mut self, total: usize, spans: Spans)
         requires used { self.old.used ≡ SlotUse.Filling }
         ensures gathered { self.new.gathered ≡ record self.old.gathered {
@@ -238,8 +238,8 @@ impl SlotPair {
 }
 
 impl ScoreMachine {
-    /// Returns whether the machine is between two syllables, of which the first is held, and a text
-    /// begins at `at`.
+    /// Returns whether the machine is between two syllables, of which the first is pending, and a
+    /// text begins at `at`.
     fn is_between(&self, at: Place) -> bool
         requires rests { IsScore self.now }
         ensures { result ≡ true → IsBetweenSyllables self.now at }
@@ -271,7 +271,7 @@ impl ScoreMachine {
         found.sounds(lines)
     }
 
-    /// Passes the held syllable to `out`. `next_starts` says whether the next one begins a word.
+    /// Passes the pending syllable to `out`. `next_starts` says whether the next one begins a word.
     /// Returns whether `out` took it.
     fn give_held<G: Give>(&mut self, next_starts: bool, out: &mut G) -> bool
         requires used { self.old.pair.used ≡ SlotUse.Filling }
@@ -339,7 +339,7 @@ impl ScoreMachine {
     }
 
     /// Resumes before a syllable whose first character is at `at`, after `before`: those before it
-    /// are emitted, none is held.
+    /// are emitted, none is pending.
     fn go_before(&mut self, before: Preceding, at: Place)
         requires { self.old.pair.used ≡ SlotUse.Filling }
         ensures { GoesBefore self.old before at self.new }
@@ -353,8 +353,8 @@ impl ScoreMachine {
         self.next = at;
     }
 
-    /// Ends a run in `text`, whose first character is at `at`: reads the syllable of `reached` by
-    /// its characters, and holds it. Returns the length of the run and the place after it.
+    /// Ends a run in `text`, whose first character is at `at`: reads by its characters the syllable
+    /// of `reached`, which is pending then. Returns the length of the run and the place after it.
     fn end_run(
         &mut self,
         at: Place,

@@ -42,7 +42,7 @@ pub(crate) struct ScoreMachine {
     pub(crate) found: Room<Finding>,
     /// The place of the next character of the body.
     pub(crate) next: Place,
-    /// The totals before and after the held syllable.
+    /// The totals before and after the pending syllable.
     pub(crate) bounds: Bounds,
 }
 
@@ -240,7 +240,8 @@ impl ScoreMachine {
         }
     }
 
-    /// Returns the context of the held syllable, or, if none is held, of the one that is read.
+    /// Returns the context of the pending syllable, or, if none is pending, of the one that is
+    /// read.
     pub(crate) fn before(&self) -> Before
         ensures { result ≡ before_with self.now.body self.now.bounds.before }
     {
@@ -255,7 +256,7 @@ impl ScoreMachine {
         }
     }
 
-    /// Returns the held syllable, if there is one.
+    /// Returns the pending syllable, if there is one.
     pub(crate) fn held(&self) -> Option<&Syllable>
         requires rests { IsScore self.now }
         ensures { MatchOption result (held_of (shown self.now) ≡ None)

@@ -132,11 +132,11 @@ impl ScoreStage {
         self.machine.limits
     }
 
-    /// Returns the context of the held syllable, or, if none is held, of the one that is read: the
-    /// number of NABC lines and the macros, of the headers; and of the syllables before it their
-    /// number, the bytes of the canonical headers and of their canonical texts, the spans that are
-    /// open after them, and whether one of them has a note or a clef in GABC. Before the headers
-    /// are whole, and after the last event, it returns `None`.
+    /// Returns the context of the pending syllable, or, if none is pending, of the one that is
+    /// read: the number of NABC lines and the macros, of the headers; and of the syllables before
+    /// it their number, the bytes of the canonical headers and of their canonical texts, the spans
+    /// that are open after them, and whether one of them has a note or a clef in GABC. Before the
+    /// headers are whole, and after the last event, it returns `None`.
     pub fn before(&self) -> Option<Before>
         ensures { result ≡ before_of self.now }
     {
@@ -146,8 +146,8 @@ impl ScoreStage {
         }
     }
 
-    /// Returns the held syllable, if there is one: it is whole, and is emitted when the next one is
-    /// whole, or at the last event. Outside the body it returns `None`. The position of the
+    /// Returns the pending syllable, if there is one: it is whole, and is emitted when the next one
+    /// is whole, or at the last event. Outside the body it returns `None`. The position of the
     /// syllable is not known yet, and the one that it has counts for nothing.
     pub fn held(&self) -> Option<&Syllable>
         ensures { MatchOption result (held_of self.now ≡ None)

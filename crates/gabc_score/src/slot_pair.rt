@@ -26,7 +26,8 @@ pub(crate) enum SlotUse {
     Lent,
 }
 
-/// The state gathered from the events of a body. Of its whole syllables only the last is held.
+/// The state gathered from the events of a body. Of its whole syllables it has only the pending
+/// one.
 #[derive(Drop)]
 pub(crate) struct SlotPair {
     /// The most bytes that a syllable may have.
@@ -36,7 +37,7 @@ pub(crate) struct SlotPair {
     /// The byte at which the canonical text of the whole syllable in `reader` begins in its kept
     /// text, if it is known.
     pub(crate) reader_from: Option<usize>,
-    /// The last whole syllable, if it is held.
+    /// The pending syllable, if `held`.
     pub(crate) holder: Box<Slot, Memory>,
     /// The same for the syllable in `holder`.
     pub(crate) holder_from: Option<usize>,
@@ -392,7 +393,7 @@ impl SlotPair {
         self.reader.syllable().text.word_start
     }
 
-    /// Emits the held syllable if the one that was read is whole, which is held from then on.
+    /// Emits the pending syllable if the one that was read is whole, which is pending from then on.
     /// `is_preceded` says whether there is a syllable before it. Returns the number of syllables
     /// emitted, 0 or 1.
     pub(crate) fn rotate(&mut self, is_preceded: bool) -> usize
@@ -421,7 +422,7 @@ impl SlotPair {
         }
     }
 
-    /// Emits the held syllable as the last one. `is_preceded` says whether there is a syllable
+    /// Emits the pending syllable as the last one. `is_preceded` says whether there is a syllable
     /// before it. Returns the number of syllables emitted, 0 or 1.
     pub(crate) fn give_held(&mut self, is_preceded: bool) -> usize
         requires { self.old.used ≢ SlotUse.Lent }
@@ -431,8 +432,8 @@ impl SlotPair {
         if self.held { 1 } else { 0 }
     }
 
-    /// Emits the held syllable, and after it the one that was made last. `is_preceded` says whether
-    /// there is a syllable before it. Returns the number of syllables emitted, at most 2.
+    /// Emits the pending syllable, and after it the one that was made last. `is_preceded` says
+    /// whether there is a syllable before it. Returns the number of syllables emitted, at most 2.
     pub(crate) fn give_all(&mut self, is_preceded: bool) -> usize
         requires { self.old.used ≢ SlotUse.Lent }
         ensures { LendsLast self.old (placed_after is_preceded self.old.gathered.made) 2

@@ -13,7 +13,7 @@ impl SlotPair {
     ghost use Rattle.gabc_score.specs.machine.Preceded.{spans_of};
     ghost use Rattle.gabc_score.specs.machine.SlotPair.{is_made};
 
-    /// Returns whether the slot `reader` has a whole syllable, which is not held yet.
+    /// Returns whether the slot `reader` has a whole syllable, which is not pending yet.
     #[inline(always)]
     pub(crate) fn is_whole(&self) -> bool
         ensures used { result ≡ is_made self.now.used }
@@ -65,7 +65,7 @@ impl SlotPair {
         self.spans.eu || self.spans.nlba
     }
 
-    /// Returns whether a syllable is held.
+    /// Returns whether a syllable is pending.
     pub(crate) fn has_held(&self) -> bool
         requires { is_made self.now.used ≡ false }
         ensures { result ≡ not (is_none self.now.gathered.made) }
@@ -73,7 +73,7 @@ impl SlotPair {
         self.held
     }
 
-    /// Returns the held syllable, if there is one.
+    /// Returns the pending syllable, if there is one.
     pub(crate) fn held(&self) -> Option<&Syllable>
         requires { is_made self.now.used ≡ false }
         ensures { MatchOption result (self.now.gathered.made ≡ [])

@@ -74,7 +74,7 @@ pub fn a_fresh_stage_emits(
 /// counted the place of the next character. An input may come of a text if the numbers of the
 /// headers are in range, and if a character is where the next one is expected, at a place whose
 /// numbers have not reached their last value, and is no CR and no U+FEFF. Whatever the input, if no
-/// syllable is held only as long as none was emitted, this stays so.
+/// syllable is pending only as long as none was emitted, this stays so.
 pub fn an_input_is_taken(stage: &mut ScoreStage, input: HeadEvent, out: &mut Room<ScoreEvent>)
     requires { Fits out.old 16 }
     ensures { GivesAt stage.old input stage.new out.old out.new }
@@ -90,8 +90,7 @@ pub fn inputs_that_cease_give_no_stop()
     ensures end { (s : ScoreStageState) → has_end (concat_of (left_of s [])) ≡ false }
 {}
 
-/// Law: if the inputs of a stage just cease, it emits at most one syllable then, the one that it
-/// holds.
+/// Law: if the inputs of a stage just cease, it emits at most one syllable then, the pending one.
 pub fn at_most_one_syllable_is_held(stage: &ScoreStage)
     ensures { length (syllables_in (concat_of (left_of stage.now []))) ≤ 1 }
 {
@@ -108,9 +107,9 @@ pub fn a_stage_is_reachable(stage: &ScoreStage)
 
 /// Law: in the body what a stage reports is within its limits, whatever it has read. The kept text
 /// of the syllable that is read is no longer than the limit of a syllable, nor is the canonical
-/// text of the held one, with its LF if it begins a word; with what comes before it and a last LF
-/// this is within the limit of the input. Before the first syllable no span is open, and no note or
-/// clef has come. Inside a tag, a raw part, a translation or a raw bracket no comment is open.
+/// text of the pending one, with its LF if it begins a word; with what comes before it and a last
+/// LF this is within the limit of the input. Before the first syllable no span is open, and no note
+/// or clef has come. Inside a tag, a raw part, a translation or a raw bracket no comment is open.
 pub fn what_is_reported_is_within_the_limits()
     ensures { (s : ScoreStageState) → IsReachable s → is_some (before_of s) ≡ true → ReportsWithin s }
 {
@@ -118,8 +117,8 @@ pub fn what_is_reported_is_within_the_limits()
     gabc_notes::laws::an_opener_is_reported_inside_raw();
 }
 
-/// Law: in the body the whole syllables are those that were emitted, and the held one, if there is
-/// one, whatever a stage has read.
+/// Law: in the body the whole syllables are those that were emitted, and the pending one, if there
+/// is one, whatever a stage has read.
 pub fn whole_syllables_are_given_or_held(stage: &ScoreStage)
     requires runs { is_some (before_of stage.now) ≡ true }
     ensures { whole_syllables stage.now
@@ -234,9 +233,9 @@ pub fn a_fresh_stage_reads_texts(alloc: Global, limits: Limits) -> Result<ScoreS
 
 /// Law: two stages in the body that run under the same limits and report the same emit the same of
 /// whatever follows, if both or none of them are in front of the first text. They report the same
-/// if these are the same: the context of the held syllable, the kept text of the one that is read,
-/// the open brackets, whether a comment is open, and the place of the next character, as a text
-/// that is read has counted it. The syllables that they hold need only say the same: then the one
+/// if these are the same: the context of the pending syllable, the kept text of the one that is
+/// read, the open brackets, whether a comment is open, and the place of the next character, as a
+/// text that is read has counted it. Their pending syllables need only say the same: then the one
 /// emits its own at the point at which the other emits its own.
 pub fn stages_that_report_the_same_agree()
     ensures { (one other : ScoreStageState) → IsReachable one → IsReachable other → AreEquivalent one other →
@@ -265,7 +264,7 @@ pub fn stages_that_report_the_same_agree_in_line()
     stages_that_report_the_same_agree();
 }
 
-/// Law: the whole syllable that a stage holds, whatever it has read, holds some unit: a text and
+/// Law: the pending syllable of a stage, whatever the stage has read, holds some unit: a text and
 /// its notes, with one snippet if there are no NABC lines.
 pub fn what_is_held_holds_a_unit()
     ensures { (s : ScoreStageState) → IsReachable s →
@@ -278,13 +277,13 @@ pub fn what_is_held_holds_a_unit()
 }
 
 /// Law: if the inputs of a stage just cease, whatever it has read, each syllable that it emits then
-/// is the one that it holds.
+/// is the pending one.
 pub fn what_breaks_off_is_held()
     ensures { (s : ScoreStageState) → IsReachable s → All (λ p. held_of s ≡ Some p.made)
         (syllables_in (concat_of (left_of s []))) }
 {}
 
-/// Law: the spans that are open after the whole syllable that a stage holds, whatever it has read,
+/// Law: the spans that are open after the pending syllable of a stage, whatever the stage has read,
 /// follow from its text and from those that are open before it.
 pub fn spans_of_what_is_held_follow()
     ensures { (s : ScoreStageState) → IsReachable s →
@@ -296,7 +295,7 @@ pub fn spans_of_what_is_held_follow()
     gabc_nabc::laws::kept_again();
 }
 
-/// Law: the canonical text of the syllable that a stage holds is a text of an input (UTF-8 without
+/// Law: the canonical text of the pending syllable of a stage is a text of an input (UTF-8 without
 /// CR and U+FEFF), as long as what the stage reports is that of a text.
 pub fn what_is_held_is_a_text()
     ensures { (s : ScoreStageState) → IsReachable s → ReportsText s →
@@ -306,7 +305,7 @@ pub fn what_is_held_is_a_text()
     what_is_held_holds_a_unit();
 }
 
-/// Law: the kept text of the whole syllable that a stage holds is in UTF-8.
+/// Law: the kept text of the pending syllable of a stage is in UTF-8.
 pub fn what_is_held_is_in_utf8(stage: &ScoreStage)
     ensures { IfSome (held_of stage.now) (λ m. IsUtf8 m.kept) }
 {
@@ -315,7 +314,7 @@ pub fn what_is_held_is_in_utf8(stage: &ScoreStage)
     }
 }
 
-/// Law: the whole syllable that a stage holds, whatever it has read, is within the stage's limits,
+/// Law: the pending syllable of a stage, whatever the stage has read, is within the stage's limits,
 /// whatever its position in its word.
 pub fn what_is_held_is_within_the_limits()
     ensures { (s : ScoreStageState) → IsReachable s →
@@ -352,8 +351,8 @@ pub fn one_syllable_keeps_no_more_than_its_text()
 {}
 
 /// Law: a stage that reads again the kept text that `told` reports emits what `told` emits. `again`
-/// is before this syllable, both are after the same and under the same limits, and the syllables
-/// that they hold say the same. From then on `again` emits what `told` emits, but for the held
+/// is before this syllable, both are after the same and under the same limits, and their pending
+/// syllables say the same. From then on `again` emits what `told` emits, but for the pending
 /// syllable.
 pub fn a_kept_text_gives_the_stage_back(told: &ScoreStage, again: &mut ScoreStage)
     requires runs { is_some (before_of told.now) ≡ true }

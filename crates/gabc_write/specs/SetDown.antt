@@ -17,8 +17,8 @@ use Rattle.gabc_write.specs.DumpOfSyllables.{HaveOneDump}
 use Rattle.gabc_write.specs.SyllableMeaning.{meaning_of}
 use Rattle.gabc_write.specs.SyllableRead.{as_it_stands}
 
--- two held syllables say the same, whatever their position in their word. `first` says whether no
--- syllable comes before them.
+-- two pending syllables say the same, whatever their position in their word. `first` says whether
+-- no syllable comes before them.
 abbrev pub SayTheSame : Bool → Option UnplacedSyllable → Option UnplacedSyllable → Type 0
 SayTheSame first None None = Unit {0}
 SayTheSame first (Some m) (Some n) =
@@ -26,7 +26,7 @@ SayTheSame first (Some m) (Some n) =
 SayTheSame first _ _ = ⊥
 
 -- After what `before` reports, the canonical text of a syllable spells this text. Read by itself
--- the text is a syllable that may be held there, and has the same canonical text.
+-- the text is a syllable that may be pending there, and has the same canonical text.
 pub record MayBeHeldByItsText (limits : Limits) (before : Before) (m : UnplacedSyllable) : Type 0 where
   pub text : List ℕ
   pub bytes : written_after (preceding_of before) m ≡ encode_utf8_all text
@@ -34,8 +34,8 @@ pub record MayBeHeldByItsText (limits : Limits) (before : Before) (m : UnplacedS
   pub may : MayBeHeld limits before text again
   pub same_text : written_after (preceding_of before) again ≡ written_after (preceding_of before) m
 
--- Whatever follows, the one emits what the other emits. Only the syllable that it holds takes the
--- place of the one that the other emits: it says the same, and has the same canonical text.
+-- Whatever follows, the one emits what the other emits. Only its pending syllable takes the place
+-- of that of the other: it says the same, and has the same canonical text.
 pub record GoesOnEquivalently (told made : ScoreStageState) : Type 0 where
   pub held : HoldTheSame (told.before.syllables == 0) (held_of told) (held_of made)
   pub says : SayTheSame (told.before.syllables == 0) (held_of told) (held_of made)
@@ -53,7 +53,7 @@ pub record IsWrittenAlike (m n : UnplacedSyllable) (position : Position) : Type 
   pub canonical : canonical_in_place (record { made = m; position = position }) ≡ canonical_in_place (record { made = n; position = position })
   pub dump : HaveOneDump (record { made = m; position = position }) (record { made = n; position = position })
 
--- so are two held ones, whatever their position in their word
+-- so are two pending ones, whatever their position in their word
 abbrev pub AreWrittenAlike : Option UnplacedSyllable → Option UnplacedSyllable → Type 0
 AreWrittenAlike None None = Unit {0}
 AreWrittenAlike (Some m) (Some n) = (position : Position) → IsWrittenAlike m n position

@@ -1,4 +1,4 @@
-//! Laws of printed texts, and of the syllable that a stage holds. Each function's contract is a
+//! Laws of printed texts, and of the pending syllable of a stage. Each function's contract is a
 //! law; its body does nothing, or calls other laws that it rests on.
 
 ghost use Rattle.std.specs.Prelude.{◌≡◌, ◌≤◌, ◌<◌, ◌+◌, ◌*◌, ◌^◌, ◌⊎◌, ◌++◌, ◌∷◌, [], ℕ, Bool, List, length, true, false, Some, Ok, encode_utf8_all, is_some, IfSome, IsUtf8};
@@ -81,9 +81,9 @@ pub fn a_syllable_is_read_from_its_own_text()
     syllable_again();
 }
 
-/// Law: the whole syllable that a stage over a score holds, whatever the stage has read, is read
-/// again from its own canonical text, by itself, as one syllable that says the same, without an
-/// error. The same holds if it is said to be the first one of the score.
+/// Law: the pending syllable of a stage over a score, whatever the stage has read, is read again
+/// from its own canonical text, by itself, as one syllable that says the same, without an error.
+/// The same holds if it is said to be the first one of the score.
 pub fn what_is_held_is_read_from_its_own_text()
     ensures { (s : ScoreStageState) → IsReachable s →
         IfSome (held_of s) (IsReadWhereItStands s.body.nabc_lines s.body.macros) }
@@ -110,9 +110,9 @@ pub fn what_breaks_off_is_one_syllable(stage: &ScoreStage)
     what_is_held_is_read_from_its_own_text();
 }
 
-/// Law: the whole syllable that a stage over a score holds in the body, whatever the stage has
-/// read, may be held by its canonical text: read by itself, in the context of the syllable, this
-/// text is one syllable with the same canonical text there. No limit is passed with it, and no
+/// Law: the canonical text of the pending syllable of a stage over a score in the body can stand
+/// for the syllable, whatever the stage has read: read by itself, in the context of the syllable,
+/// this text is one syllable with the same canonical text there. No limit is passed with it, and no
 /// error is found in it.
 pub fn what_is_held_may_be_held_by_its_text(stage: &ScoreStage)
     requires runs { is_some (before_of stage.now) ≡ true }
@@ -261,9 +261,9 @@ pub fn syllables_that_say_the_same_have_one_dump()
         lines_of_syllables number outset ss ≡ lines_of_syllables number outset ts }
 {}
 
-/// Law: two held syllables that say the same have one dump, and leave the same in force if the same
-/// is in force before them, whatever their position in their word and whatever their texts say of
-/// the start of a word, if the spans of their snippets begin and end between characters.
+/// Law: two pending syllables that say the same have one dump, and leave the same in force if the
+/// same is in force before them, whatever their position in their word and whatever their texts say
+/// of the start of a word, if the spans of their snippets begin and end between characters.
 pub fn held_syllables_that_say_the_same_have_one_dump()
     ensures { (first : Bool) (m n : UnplacedSyllable) (position : Position) → HasWholeSnippets m →
         HasWholeSnippets n → SayTheSame first (Some m) (Some n) →

@@ -1,5 +1,5 @@
 //! Laws by which a saved state stands for a stage: two stages over a score of which the same is
-//! saved go on alike, and their held syllables are written alike. Each function's contract is a
+//! saved go on alike, and their pending syllables are written alike. Each function's contract is a
 //! law, and its body calls the laws that it rests on.
 
 ghost use Rattle.gabc_score.specs.ScoreReports.{held_of};
@@ -11,11 +11,11 @@ ghost use Rattle.gabc_write.specs.SetDown.{AreWrittenAlike, GoesOnEquivalentlyIn
 use crate::laws;
 
 /// Law: in the body two stages of which the same is saved go on alike, over characters that come
-/// one after the other. They run under the same limits after the same, hold none or syllables with
-/// one canonical text there, and report the same of the syllable that is not whole. What the one
-/// reports is that of a text, and the place of the next character is the one that a text that is
-/// read has counted. Of syllables with one canonical text each is equivalent to the other, since
-/// both are read from this text.
+/// one after the other. They run under the same limits after the same, with pending syllables that
+/// have one canonical text there, or none, and report the same of the syllable that is not whole.
+/// What the one reports is that of a text, and the place of the next character is the one that a
+/// text that is read has counted. Of syllables with one canonical text each is equivalent to the
+/// other, since both are read from this text.
 pub fn what_is_saved_alike_goes_on_alike()
     ensures { (one other : ScoreStageState) → IsReachable one → IsReachable other →
         AreSavedAlike one other → GoesOnEquivalentlyInLine one other }
@@ -31,7 +31,7 @@ pub fn what_is_saved_alike_goes_on_alike()
     gabc_score::stage_laws::stages_that_report_the_same_agree_in_line();
 }
 
-/// Law: the held syllables of two stages that go on alike are written alike, whatever their
+/// Law: the pending syllables of two stages that go on alike are written alike, whatever their
 /// position in their word: each has the canonical text of the other, and the dump of the other.
 pub fn what_goes_on_alike_is_written_alike()
     ensures { (one other : ScoreStageState) → IsReachable one → IsReachable other →

@@ -12,8 +12,9 @@ use crate::laws;
 use gabc_places::Room;
 use gabc_score::{ScoreEvent, ScoreStage};
 
-/// Makes `stage` hold the held syllable of `told`, if there is one, by its canonical text `held`.
-/// Returns whether this text is a syllable. `room` is left empty.
+/// Reads in `stage` the canonical text `held` of the pending syllable of `told`, if there is one:
+/// the syllable is pending in `stage` then. Returns whether this text is a syllable. `room` is left
+/// empty.
 fn hold_reported(
     stage: &mut ScoreStage,
     told: &ScoreStage,
@@ -65,12 +66,12 @@ fn read_reported(stage: &mut ScoreStage, told: &ScoreStage) -> bool
 
 /// Restores in `stage`, from what `told` reports in the body, not in front of the first text, a
 /// stage that emits the same of whatever follows. `stage` is made by `ScoreStage::resume`, under
-/// the same limits, of the context that `told` reports. The restored stage holds the syllable of
-/// which `held` is the canonical text there, if `told` holds one, and reads the kept text of the
-/// next one. Only the held syllable is as it is read from this text: it says the same, and as the
-/// first of the score it begins a word. The place of the next character has to be the one that a
-/// text that is read has counted. Returns `true`. `room` is empty, has room for 16 events, and is
-/// left empty.
+/// the same limits, of the context that `told` reports. The pending syllable of the restored stage
+/// is that of which `held` is the canonical text there, if `told` has one; and the stage reads the
+/// kept text of the next one. Only the pending syllable is as it is read from this text: it says
+/// the same, and as the first of the score it begins a word. The place of the next character has to
+/// be the one that a text that is read has counted. Returns `true`. `room` is empty, has room for
+/// 16 events, and is left empty.
 pub fn a_stage_is_restored(
     told: &ScoreStage,
     stage: &mut ScoreStage,

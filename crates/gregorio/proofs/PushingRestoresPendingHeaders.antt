@@ -1,4 +1,4 @@
--- A text of headers that is pushed into a fresh stage, character by character.
+-- Pending headers that are pushed into a fresh stage, character by character.
 use Rattle.std.proofs.Common.{◌≡◌, ℕ, ◌||◌, List, [], ◌∷◌, ◌++◌, map, Bool, false, Result, Ok, Err, if◌then◌else◌, refl, ap, sym, subst, ◌∙◌, arith}
 use Rattle.std.specs.Char.{IsScalar}
 use Rattle.std.specs.List.{All, list_any}

@@ -40,7 +40,7 @@ pub record IsHeldText (format : Format) (output : List ℕ) : Type 0 where
   pub is : output ≡ texts_after format count force held ++ last_text format false (count_after count held)
 
 -- A run that breaks off now has nothing to write that it could have written before: no message, and
--- of the output nothing, or the held syllable and the last text.
+-- of the output nothing, or the pending syllable and the last text.
 pub record IsPrompt (format : Format) (broken : Streams) : Type 0 where
   pub messages : broken.messages ≡ []
   pub output : (broken.output ≡ []) ⊎ IsHeldText format broken.output
@@ -73,8 +73,8 @@ Brings old bytes new =
     (more : List ℕ) (ending : SourceEnding) → with_waiting old (streams_left old ending (bytes ++ more)) ≡ with_waiting new (streams_left new ending more)
 
 -- It took `count` bytes from the front of a piece, at least one if nothing waited. Their output and
--- messages wait, and nothing that is known is kept back but the held syllable. If the run was over,
--- all bytes are taken and nothing changes; if it is not over, no fault is known.
+-- messages wait, and nothing that is known is kept back but the pending syllable. If the run was
+-- over, all bytes are taken and nothing changes; if it is not over, no fault is known.
 pub record TakesFront (old : EngineState) (piece : List ℕ) (count : ℕ) (new : EngineState) : Type 0 where
   pub within : count ≤ length piece
   pub some : NothingWaits old → 0 < length piece → 0 < count

@@ -60,7 +60,7 @@ abbrev pub IsPointOf : List ℕ → SourceEnding → List ℕ → SourceEnding �
 IsPointOf bytes ending front at = ((rest : List ℕ) × ((bytes ≡ front ++ rest) × (at ≡ Broken))) ⊎ ((front ≡ bytes) × (at ≡ ending))
 
 -- Up to some point of the input this output and these messages are known, and no others, but for
--- the text of the held syllable.
+-- the text of the pending syllable.
 pub record IsKnown (job : Job) (limits : Limits) (bytes : List ℕ) (ending : SourceEnding) : Type 0 where
   pub front : List ℕ
   pub at : SourceEnding

@@ -17,17 +17,17 @@ use Rattle.gregorio_state.specs.Fields.{PhaseFields, ScoreFields, StateFields, I
 use Rattle.gregorio.specs.Outcome.{is_error_finding}
 use Rattle.gregorio.specs.witness.Engine.{EngineState}
 
--- the number of held syllables
+-- the number of pending syllables
 abbrev pub held_count : Option UnplacedSyllable → ℕ
 held_count None = 0
 held_count (Some m) = 1
 
--- the canonical text of the held syllable, after these: the first one begins a word
+-- the canonical text of the pending syllable, after these: the first one begins a word
 abbrev pub held_text : Preceding → Option UnplacedSyllable → List ℕ
 held_text p None = []
 held_text p (Some m) = canonical ((p.syllables == 0) || m.text.word_start) m
 
--- the reports of a stage over a score in the body, if this is in force before the held syllable
+-- the reports of a stage over a score in the body, if this is in force before the pending syllable
 abbrev pub score_fields : InForce → ScoreStageState → ScoreFields
 score_fields force s =
     let text = held_text s.before (held_of s) in
@@ -69,8 +69,8 @@ state_of e = record {
   phase = phase_fields e.heads.progress e.written.force e.score;
 }
 
--- A stage holds this text of headers, this is the place after it, and this says whether an error is
--- found in it.
+-- These are the pending headers of a stage, this is the place after them, and this says whether an
+-- error is found in them.
 pub record GivesHeaders (limits : Limits) (t : List ℕ) (place : Place) (error : Bool) : Type 0 where
   pub held : IsHeld limits t
   pub next : place ≡ place_after t

@@ -21,10 +21,10 @@ pub record ReportsLimits (s : StateFields) (limits : Limits) : Type 0 where
   pub syllable : s.syllable_limit ≡ limits.syllable
   pub input : s.input_limit ≡ limits.input
 
--- ---- the held text
+-- ---- the pending text
 
--- The context of the held syllable: the state counts that syllable, and its text is the last of the
--- canonical file.
+-- The context of the pending syllable: the state counts that syllable, and its text is the last of
+-- the canonical file.
 abbrev pub before_held : ScoreFields → Before
 before_held f = record {
   nabc_lines = f.nabc_lines;
@@ -35,8 +35,8 @@ before_held f = record {
   sounded = f.sounded;
 }
 
--- Read by itself in its context, the held text is one syllable, whole with its last character: no
--- error is found in it, no limit is passed, and it is the canonical text of that syllable.
+-- Read by itself in its context, the pending text is one syllable, whole with its last character:
+-- no error is found in it, no limit is passed, and it is the canonical text of that syllable.
 pub record IsHeldRead (limits : Limits) (f : ScoreFields) : Type 0 where
   pub m : UnplacedSyllable
   pub may : MayBeHeld limits (before_held f) (chars f.held) m

@@ -272,7 +272,7 @@ impl Engine {
     /// bytes it took: at least one, unless `piece` is empty. Nothing may wait before. The bytes
     /// that wait then and those still to be written after them are together those that were to be
     /// written before: how the input is cut changes nothing. The bytes that wait became known with
-    /// the last byte taken, and so did a fatal fault. All that is known waits, but for the held
+    /// the last byte taken, and so did a fatal fault. All that is known waits, but for the pending
     /// syllable: a run that breaks off then has no message left to write, and of the output at most
     /// this syllable and the last text. After a fatal fault or the end it takes the whole piece and
     /// changes nothing.

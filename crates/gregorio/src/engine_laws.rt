@@ -42,7 +42,7 @@ pub(crate) fn what_begins_is_written_whole()
     gabc_score::stage_laws::texts_are_read_in_full();
 }
 
-/// Law: nothing is kept back but the held syllable, and no fault is kept back while the engine
+/// Law: nothing is kept back but the pending syllable, and no fault is kept back while the engine
 /// runs.
 #[inline(always)]
 pub(crate) fn nothing_is_kept_back(engine: &Engine)

@@ -18,7 +18,7 @@ impl Engine {
     /// and messages of one byte more, and returns how many bytes it took: at least one of a piece
     /// with bytes, if nothing waits before. How much room there is, no clause says: if something
     /// waits, it may take none. The output and messages of these bytes wait then, after those that
-    /// waited before, and all that is known of them waits, but for the held syllable. It stops
+    /// waited before, and all that is known of them waits, but for the pending syllable. It stops
     /// after the byte that makes a fatal fault known. After such a fault or the end it takes the
     /// whole piece and changes nothing.
     pub fn fill(&mut self, piece: &[u8]) -> usize
@@ -86,7 +86,7 @@ impl Engine {
         1
     }
 
-    /// Returns whether a syllable is held, and nothing of the next one is kept: only there a run
+    /// Returns whether a syllable is pending, and nothing of the next one is kept: only there a run
     /// begins.
     #[inline(always)]
     fn is_between(&self) -> bool {

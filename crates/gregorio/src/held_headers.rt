@@ -1,4 +1,4 @@
-//! The text of the headers so far, which a stage reads again.
+//! The pending headers, which a stage reads again.
 
 ghost use Rattle.std.specs.Prelude.{◌≡◌, ◌↔◌, ◌≤◌, ◌<◌, ◌^◌, length, true, IsTrue, Ok};
 ghost use Rattle.std.specs.List.{list_any};

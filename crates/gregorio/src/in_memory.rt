@@ -48,9 +48,9 @@ impl Engine {
     /// Nothing may wait before, and nothing waits afterwards. The bytes put by this call and those
     /// still to be written then are together those that were to be written before, whatever follows
     /// the piece and however the input ends: how it is cut into pieces changes nothing. All that is
-    /// known is put, but for the held syllable. After a fatal fault or the end it puts nothing, and
-    /// changes nothing. If `out` or `messages` takes less than all, it is left as its `put` leaves
-    /// it.
+    /// known is put, but for the pending syllable. After a fatal fault or the end it puts nothing,
+    /// and changes nothing. If `out` or `messages` takes less than all, it is left as its `put`
+    /// leaves it.
     pub fn feed_all<O: Put, M: Put>(&mut self, piece: &[u8], out: &mut O, messages: &mut M)
         requires waits { NothingWaits self.old }
         ensures waits { NothingWaits self.new }

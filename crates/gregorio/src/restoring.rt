@@ -69,7 +69,7 @@ pub(crate) fn fresh_heads(
     }
 }
 
-/// Returns a stage of headers that holds `text`, the text of the headers of `state`. Fails with
+/// Returns a stage whose pending headers are `text`, the text of the headers of `state`. Fails with
 /// `K1` if the headers do not go on after it, or its end or its errors are others than the state
 /// says, and with `K0` if memory cannot be allocated.
 fn heads_holding(

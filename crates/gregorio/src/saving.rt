@@ -22,7 +22,7 @@ use gabc_places::{ByteCounter, Put};
 use gabc_score::{ScoreStage, Syllable, canon_starting};
 use gregorio_state::{Phase, PutText, ScoreFields, StateFields, TooShort};
 
-/// The syllable that a stage holds, if it holds one.
+/// The pending syllable of a stage, if there is one.
 #[derive(Clone, Copy)]
 pub(crate) struct HeldSyllable<'a> {
     syllable: Option<&'a Syllable>,
@@ -42,7 +42,7 @@ impl PutText for HeldSyllable<'_> {
 }
 
 impl<'a> HeldSyllable<'a> {
-    /// Returns the held syllable of `stage`.
+    /// Returns the pending syllable of `stage`.
     pub(crate) fn of(stage: &'a ScoreStage) -> HeldSyllable<'a>
         ensures { text_when_held result.first (option_map (λ s. unplaced_of s.now) result.syllable)
             ≡ held_text stage.now.before (held_of stage.now) }
@@ -76,7 +76,7 @@ fn in_headers(headers: &str) -> Phase<'_>
 }
 
 impl Engine {
-    /// Returns the number of held syllables, 0 or 1.
+    /// Returns the number of pending syllables, 0 or 1.
     fn held_count(&self) -> u32
         ensures { result ≡ held_count (held_of self.now.score) }
     {
@@ -86,7 +86,7 @@ impl Engine {
         }
     }
 
-    /// Returns the fields of the score, without the held text, which has `held` bytes.
+    /// Returns the fields of the score, without the pending text, which has `held` bytes.
     fn score_fields(&self, held: usize) -> ScoreFields<'_>
         requires body { self.now.score.part ≡ Body }
         requires syllables { (score_fields self.now.written.force self.now.score).syllables
@@ -126,7 +126,7 @@ impl Engine {
         }
     }
 
-    /// Returns the phase of the run, without the held text, which has `held` bytes.
+    /// Returns the phase of the run, without the pending text, which has `held` bytes.
     fn phase(&self, held: usize) -> Phase<'_>
         requires runs { is_running self.now ≡ true }
         requires state { AreStateFields (state_of self.now) }
@@ -143,7 +143,7 @@ impl Engine {
         }
     }
 
-    /// Returns the fields of its state, without the held text, which has `held` bytes.
+    /// Returns the fields of its state, without the pending text, which has `held` bytes.
     fn state_fields(&self, held: usize) -> StateFields<'_>
         requires runs { is_running self.now ≡ true }
         requires state { AreStateFields (state_of self.now) }
@@ -186,8 +186,8 @@ impl Engine {
     /// `buf` is unchanged. It does not fail if `buf` has 128 bytes more than the limit of the
     /// headers, and than twice the limit of a syllable. The bytes written are a state: its fields
     /// meet their conditions, and its texts are read as it says. Its headers have the place and the
-    /// errors that it reports; or the held text, read by itself, is one syllable of which it is the
-    /// canonical text, and the kept text is kept again, with the brackets and the comment open
+    /// errors that it reports; or the pending text, read by itself, is one syllable of which it is
+    /// the canonical text, and the kept text is kept again, with the brackets and the comment open
     /// after it that the state reports. The run may not be over, and nothing may wait.
     pub fn save_into(&self, buf: &mut [u8]) -> Result<usize, TooShort>
         requires runs { is_running self.now ≡ true }

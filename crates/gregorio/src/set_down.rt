@@ -18,7 +18,7 @@ use gabc_places::{Memory, Room};
 use gabc_score::{Before, Openers, ScoreEvent, ScoreStage, Spans};
 use gregorio_state::{PutText, ScoreFields, StateFields};
 
-/// Returns the context of the held syllable of `fields`.
+/// Returns the context of the pending syllable of `fields`.
 fn before_held(fields: &ScoreFields<'_>) -> Before
     requires { length fields.now.held.now ≤ fields.now.canonical }
     ensures { result ≡ before_held (score_of fields.now) }
@@ -57,8 +57,8 @@ fn event_room(memory: &Memory) -> Result<Room<ScoreEvent>, StateFault>
     }
 }
 
-/// Returns a stage in `memory` under the limits of `state`, after the syllables before the held one
-/// of `fields`.
+/// Returns a stage in `memory` under the limits of `state`, after the syllables before the pending
+/// one of `fields`.
 fn stage_after(
     memory: &Memory,
     state: &StateFields<'_>,
@@ -75,7 +75,7 @@ fn stage_after(
     }
 }
 
-/// Returns whether `text` is the canonical text of the held syllable of `stage`.
+/// Returns whether `text` is the canonical text of the pending syllable of `stage`.
 fn is_held_text(stage: &ScoreStage, text: &str) -> bool
     ensures { IsTrue result ↔ held_text stage.now.before (held_of stage.now) ≡ text.now }
 {
@@ -84,8 +84,8 @@ fn is_held_text(stage: &ScoreStage, text: &str) -> bool
     comparison.is_same()
 }
 
-/// Reads the held text of `fields` as one syllable, which `stage` holds then; without such a text,
-/// does nothing. Returns whether the text is read as `fields` say.
+/// Reads the pending text of `fields` as one syllable, the pending one of `stage` then; without
+/// such a text, does nothing. Returns whether the text is read as `fields` say.
 fn hold(stage: &mut ScoreStage, fields: &ScoreFields<'_>, room: &mut Room<ScoreEvent>) -> bool
     requires held { IsHeldWithin stage.old.limits.syllable (score_of fields.now) }
     requires stands { IsResumed stage.old.limits (score_of fields.now) stage.old }

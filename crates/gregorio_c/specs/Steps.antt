@@ -60,7 +60,7 @@ pub record Begins (job : Job) (limits : Limits) (made : Made) : Type 0 where
   pub stands : StandsFor job limits made.state (run_of job limits)
 
 -- Of what was left, these bytes were written at a piece. What was known is written, but for the
--- held syllable, and the state stands for the rest.
+-- pending syllable, and the state stands for the rest.
 pub record GoesOn (job : Job) (limits : Limits) (left : Writes) (piece : List ℕ) (made : Made) : Type 0 where
   pub rest : Writes
   pub stands : StandsFor job limits made.state rest

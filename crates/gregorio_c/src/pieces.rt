@@ -87,8 +87,8 @@ pub extern "C" fn gregorio_begin(
 /// limits, nothing is written.
 ///
 /// Of whatever the state before stands for, what is written are the first bytes: all that is known,
-/// but for the held syllable. The state after it stands for the rest. A state is accepted exactly
-/// if `Engine::restore` accepts it.
+/// but for the pending syllable. The state after it stands for the rest. A state is accepted
+/// exactly if `Engine::restore` accepts it.
 #[unsafe(no_mangle)]
 pub extern "C" fn gregorio_feed(
     alloc: Global,

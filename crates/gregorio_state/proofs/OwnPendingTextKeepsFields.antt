@@ -1,4 +1,4 @@
--- Fields that hold their own held text are themselves.
+-- Fields with their own pending text are themselves.
 use Rattle.std.proofs.Common.{◌≡◌, ℕ, List, ap, ◌∙◌, arith}
 use Rattle.gregorio_state.specs.Fields.{StateFields, PhaseFields, holding, phase_holding}
 use Rattle.gregorio_state.specs.machine.HeldTexts.{text_held}

@@ -1,6 +1,6 @@
 -- The conditions of the fields of a saved state by themselves. The engine that reads a state has
 -- those of its texts: that the headers go on after their text, with this place and these errors;
--- that the held text is a whole syllable, and again its canonical text when it is read; that the
+-- that the pending text is a whole syllable, and again its canonical text when it is read; that the
 -- kept text is kept again, has no whole syllable, and leaves the openers open; that no comment is
 -- open after an unpaired `$`.
 use Rattle.std.specs.Prelude.{◌≡◌, ◌↔◌, ℕ, ◌+◌, ◌<◌, ◌≤◌, List, [], ◌∷◌, length, Bool, true, false, None, IfSome}
@@ -35,7 +35,7 @@ pub record IsAtOutset (f : ScoreFields) : Type 0 where
   pub sounded : f.sounded ≡ false
   pub in_force : f.in_force ≡ nothing_in_force
 
--- The context of the held syllable. The clef and the alterations in force are tracked for a dump
+-- The context of the pending syllable. The clef and the alterations in force are tracked for a dump
 -- alone.
 pub record AreBeforeHeld (format : Format) (f : ScoreFields) : Type 0 where
   pub line : IfSome f.in_force.clef (λ c. (1 ≤ c.line) × (c.line ≤ 5))
@@ -44,7 +44,7 @@ pub record AreBeforeHeld (format : Format) (f : ScoreFields) : Type 0 where
   pub outset : f.syllables ≤ 1 → IsAtOutset f
   pub untracked : format ≡ formats.Gabc → f.in_force ≡ nothing_in_force
 
--- the held text is empty exactly if no syllable is whole; that of the first one begins with LF
+-- the pending text is empty exactly if no syllable is whole; that of the first one begins with LF
 pub record IsHeldWithin (limit : ℕ) (f : ScoreFields) : Type 0 where
   pub is_text : IsText f.held
   pub short : length f.held ≤ limit

@@ -46,7 +46,7 @@ pub record StateFields : Type 0 where
   pub has_error : Bool
   pub phase : PhaseFields
 
--- ---- fields with another held text
+-- ---- fields with another pending text
 
 abbrev pub with_held : List ℕ → ScoreFields → ScoreFields
 with_held text f = record f { held = text }
@@ -55,7 +55,7 @@ abbrev pub phase_holding : List ℕ → PhaseFields → PhaseFields
 phase_holding text (InHeaders headers) = InHeaders headers
 phase_holding text (InScore f) = InScore (with_held text f)
 
--- the headers hold none
+-- the headers have none
 abbrev pub holding : List ℕ → StateFields → StateFields
 holding text s = record s { phase = phase_holding text s.phase }
 

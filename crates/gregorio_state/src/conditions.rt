@@ -116,15 +116,15 @@ impl ScoreFields<'_> {
         self.clef.is_none() && are_none(&self.alters)
     }
 
-    /// Returns whether nothing comes before the held syllable: no span is open, no note or clef has
-    /// come, and nothing is in force.
+    /// Returns whether nothing comes before the pending syllable: no span is open, no note or clef
+    /// has come, and nothing is in force.
     fn is_at_outset(&self) -> bool
         ensures { IsTrue result ↔ IsAtOutset (score_of self.now) }
     {
         !self.in_eu && !self.in_nlba && !self.sounded && self.has_nothing_in_force()
     }
 
-    /// Returns whether the fields of the context of the held syllable are possible in a run that
+    /// Returns whether the fields of the context of the pending syllable are possible in a run that
     /// writes `format`.
     fn is_before_held(&self, format: Format) -> bool
         ensures { IsTrue result ↔ AreBeforeHeld format (score_of self.now) }
@@ -139,7 +139,7 @@ impl ScoreFields<'_> {
             && tracked
     }
 
-    /// Returns whether the held text is possible, if a syllable has at most `limit` bytes.
+    /// Returns whether the pending text is possible, if a syllable has at most `limit` bytes.
     fn is_held_within(&self, limit: u32) -> bool
         ensures { IsTrue result ↔ IsHeldWithin limit (score_of self.now) }
     {

@@ -136,7 +136,7 @@ fn number_of_spans(eu: bool, nlba: bool) -> u8
 }
 
 impl ScoreFields<'_> {
-    /// Puts the fields in their order, with `held` as the held text. Each text has to have less
+    /// Puts the fields in their order, with `held` as the pending text. Each text has to have less
     /// than 2^32 bytes.
     fn write<H: PutText, S: Put>(&self, held: &H, out: &mut S)
         requires held { length (H.text held.now) < 2 ^ 32 }
@@ -161,7 +161,7 @@ impl ScoreFields<'_> {
 }
 
 impl Phase<'_> {
-    /// Returns the held text. In the headers it is empty.
+    /// Returns the pending text. In the headers it is empty.
     fn held(&self) -> &str
         ensures { result.now ≡ text_held (phase_of self.now) }
     {
@@ -171,8 +171,8 @@ impl Phase<'_> {
         }
     }
 
-    /// Puts 0 and the text of the headers, or 1 and the fields of the score with `held` as the held
-    /// text. Each text has to have less than 2^32 bytes.
+    /// Puts 0 and the text of the headers, or 1 and the fields of the score with `held` as the
+    /// pending text. Each text has to have less than 2^32 bytes.
     fn write<H: PutText, S: Put>(&self, held: &H, out: &mut S)
         requires { AreShort (phase_holding (H.text held.now) (phase_of self.now)) }
         ensures { out.new
@@ -202,7 +202,7 @@ impl StateFields<'_> {
         self.write_holding(&held, out);
     }
 
-    /// Puts the bytes of the state with `held` as the held text.
+    /// Puts the bytes of the state with `held` as the pending text.
     fn write_holding<H: PutText, S: Put>(&self, held: &H, out: &mut S)
         requires { AreStateFields (holding (H.text held.now) (fields_of self.now)) }
         ensures { out.new
@@ -224,8 +224,8 @@ impl StateFields<'_> {
         self.phase.write(held, out);
     }
 
-    /// Writes the bytes of the state with `held` as the held text to the front of `buf`, as many as
-    /// fit.
+    /// Writes the bytes of the state with `held` as the pending text to the front of `buf`, as many
+    /// as fit.
     fn fill<H: PutText>(&self, held: &H, buf: &mut [u8])
         requires { AreStateFields (holding (H.text held.now) (fields_of self.now)) }
         ensures { buf.new
@@ -250,9 +250,9 @@ impl StateFields<'_> {
         self.save_holding(&held, buf)
     }
 
-    /// Writes the bytes of the state as `save_into` does, with the text `held` in place of the held
-    /// text of the fields, which is not read. The fields with that text have to meet the conditions
-    /// of a saved state. It does not fail if `buf` is as long as `len` can return.
+    /// Writes the bytes of the state as `save_into` does, with the text `held` in place of the
+    /// pending text of the fields, which is not read. The fields with that text have to meet the
+    /// conditions of a saved state. It does not fail if `buf` is as long as `len` can return.
     pub fn save_holding<H: PutText>(&self, held: &H, buf: &mut [u8]) -> Result<usize, TooShort>
         requires { AreStateFields (holding (H.text held.now) (fields_of self.now)) }
         ensures written { OnOk result (
@@ -288,7 +288,7 @@ impl StateFields<'_> {
     }
 
     /// Returns the number of bytes of the state as `len` does, with the text `held` in place of the
-    /// held text of the fields, which is not read. The fields with that text have to meet the
+    /// pending text of the fields, which is not read. The fields with that text have to meet the
     /// conditions of a saved state.
     pub fn len_holding<H: PutText>(&self, held: &H) -> usize
         requires { AreStateFields (holding (H.text held.now) (fields_of self.now)) }

@@ -1,4 +1,4 @@
--- The text that a stage of headers holds, from the first character on.
+-- The pending headers of a stage, from the first character on.
 use Rattle.std.proofs.Common.{◌≡◌, ℕ, List, [], ◌∷◌, ◌++◌, map, false, refl, sym, ap, ◌∙◌, append-nil, Result, Ok, arith}
 use Rattle.std.specs.Char.{IsScalar}
 use Rattle.std.specs.List.{All}

@@ -1,4 +1,4 @@
--- The text that a stage of headers holds is within their limit, or one `%` that begins a line is above it.
+-- The pending headers of a stage are within their limit, or one `%` that begins a line is above it.
 use Rattle.std.proofs.Common.{◌≡◌, ℕ, zero, suc, ◌+◌, ◌-◌, ◌<◌, ◌≤◌, inl, inr, Bool, true, false, cond, ◌==◌, ◌||◌, List, [], ◌∷◌, ◌++◌, length, take, drop, get_or, nat_lt, codes, encode_utf8_all, Option, Some, None, Result, Ok, Err, refl, sym, ap, ◌∙◌, subst, arith, append_assoc, length-append, length-take}
 use Rattle.std.specs.Option.{option_map}
 use Rattle.std.specs.Char.{len_utf8}

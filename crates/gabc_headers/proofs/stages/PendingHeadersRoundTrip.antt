@@ -1,4 +1,4 @@
--- The text that a stage of headers holds: its end alone stops it, and pushed into a fresh stage it is held again.
+-- The pending headers of a stage: their end alone stops them, and pushed into a fresh stage they are pending again.
 use Rattle.std.proofs.Common.{◌≡◌, ℕ, List, [], ◌∷◌, ◌++◌, length, take, map, Bool, true, false, refl, sym, ap, ◌∙◌, subst, append-nil, Result, Err, arith}
 use Rattle.std.specs.Str.{chars}
 use Rattle.std.specs.Hash.DefaultHasher.{initial}

@@ -1,4 +1,4 @@
--- A text of headers that is held, under other limits that are no less than its bytes.
+-- Pending headers, under other limits that are no less than their bytes.
 use Rattle.std.proofs.Common.{◌≡◌, ℕ, ◌+◌, ◌-◌, ◌<◌, ◌≤◌, suc, zero, List, [], ◌∷◌, Bool, true, false, refl, sym, ap, ◌∙◌, arith, length, take, Option, Some, None, Err}
 use Rattle.std.specs.Char.{len_utf8}
 use Rattle.gabc_places.proofs.NumbersByTests.{below_eqb}

@@ -1,4 +1,4 @@
--- A score that holds one syllable at most reads another one, by the lists of its characters.
+-- A score with at most one pending syllable reads another one, by the lists of its characters.
 use Rattle.std.proofs.Math.Bool.{or-false}
 use Rattle.std.proofs.Common.{◌≡◌, ℕ, zero, suc, ◌+◌, ◌-◌, ◌<◌, ◌≤◌, ◌||◌, not, nat_lt, Bool, false, List, [], ◌∷◌, ◌++◌, map, length, take, drop, Option, None, is_some, refl, sym, ap, subst, ◌∙◌, arith, append_assoc, append-nil, length-append}
 use Rattle.std.proofs.lemmas.Bool.Decides.{nat_tests}

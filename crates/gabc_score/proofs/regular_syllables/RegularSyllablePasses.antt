@@ -1,5 +1,5 @@
--- A regular syllable is read between two syllables: the held one is given, and the one that it
--- makes is held.
+-- A regular syllable is read between two syllables: the pending one is given, and the one that it
+-- makes is pending.
 use Rattle.std.proofs.Common.{◌≡◌, ℕ, ◌<◌, ◌≤◌, ◌||◌, nat_lt, true, false, List, [], ◌∷◌, ◌++◌, map, length, take, take_all, take-take, take_at, length-take-le, is_some, refl, sym, ap, subst, ◌∙◌, arith, append_assoc, append-nil, length-append}
 use Rattle.std.specs.List.{list_any}
 use Rattle.std.proofs.lemmas.List.{append_cancel_left}

@@ -1,4 +1,5 @@
--- A machine that begins a text and holds nothing reads a text by itself as the definition says.
+-- A machine without a pending syllable, at the beginning of a text, reads a text by itself as the
+-- definition says.
 use Rattle.std.proofs.Common.{◌≡◌, ℕ, ◌≤◌, nat_lt, true, List, [], length, take, None, ap, ◌∙◌}
 use Rattle.gabc_places.specs.Place.{placed_characters_from}
 use Rattle.gabc_places.specs.StageLaw.{concat_of}

@@ -1,4 +1,4 @@
--- What a stage gives does not depend on the syllable that it holds, but for that syllable itself.
+-- What a stage gives does not depend on its pending syllable, but for that syllable itself.
 use Rattle.std.proofs.Math.Bool.{and-false, or-false}
 use Rattle.std.proofs.Common.{◌≡◌, ℕ, zero, suc, ◌-◌, ◌||◌, nat_lt, List, [], ◌∷◌, ◌++◌, map, length, take, Bool, true, false, cond, Option, Some, None, is_some, refl, sym, ap, ◌∙◌, subst, arith}
 use Rattle.gabc_places.specs.declared.code.Code.{Code}

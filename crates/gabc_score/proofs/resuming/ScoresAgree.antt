@@ -1,4 +1,5 @@
--- Two stages over a score that hold and report the same give the same, but for the held syllable.
+-- Two stages over a score that hold and report the same give the same, but for the pending
+-- syllable.
 use Rattle.std.proofs.Common.{◌≡◌, inl, inr, ℕ, ◌≤◌, ◌==◌, ◌||◌, not, nat_lt, List, [], ◌∷◌, length, Bool, false, Option, Some, is_some, refl, sym, ap, ◌∙◌, arith}
 use Rattle.std.proofs.lemmas.Str.{encodes_same}
 use Rattle.gabc_headers.specs.declared.head_event.HeadEvent.{HeadEvent}

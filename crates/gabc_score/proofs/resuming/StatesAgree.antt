@@ -1,4 +1,4 @@
--- Two stages over a score in one state give the same, but for the held syllable.
+-- Two stages over a score in one state give the same, but for the pending syllable.
 use Rattle.std.proofs.Common.{◌≡◌, ◌==◌, List, [], Bool, true, false, Option, Some, None, is_some, refl, sym, ap, subst, ◌∙◌, arith}
 use Rattle.gabc_places.specs.declared.place.Place.{Place}
 use Rattle.gabc_headers.specs.declared.head_event.HeadEvent.{HeadEvent}

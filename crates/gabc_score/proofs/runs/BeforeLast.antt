@@ -1,4 +1,4 @@
--- A machine that goes on before a syllable, and holds none.
+-- A machine that goes on before a syllable, while none is pending.
 use Rattle.std.proofs.Math.Bool.{or-false}
 use Rattle.std.proofs.Common.{◌≡◌, ℕ, ◌≤◌, true, false, [], length, is_some, sym, ap, subst, ◌∙◌, arith}
 use Rattle.std.proofs.lemmas.Bool.{true≢false}

@@ -1,4 +1,4 @@
--- A machine that reads the last syllable of a run by itself holds it then.
+-- The last syllable of a run, which a machine reads by itself, is pending then.
 use Rattle.std.proofs.Common.{◌≡◌, ℕ, nat_lt, Bool, true, List, [], length, take, refl, sym, ap, subst, ◌∙◌, arith}
 use Rattle.std.proofs.lemmas.Bool.{true≢false}
 use Rattle.std.proofs.lemmas.Bool.Decides.{nat_tests}

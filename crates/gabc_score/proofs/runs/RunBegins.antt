@@ -1,4 +1,4 @@
--- A run begins with the held syllable.
+-- A run begins with the pending syllable.
 use Rattle.std.proofs.Math.Bool.{or-false}
 use Rattle.std.proofs.Common.{◌≡◌, ◌||◌, not, Bool, List, [], ◌∷◌, length, is_some, refl, sym, ap, ap₂, subst, ◌∙◌, arith}
 use Rattle.std.proofs.lemmas.List.Elements.{All-nil, All-cons, All-head}

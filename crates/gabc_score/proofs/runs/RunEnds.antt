@@ -1,4 +1,4 @@
--- The last syllable of a run, which is held after it.
+-- The last syllable of a run, which is pending after it.
 use Rattle.std.proofs.Common.{◌≡◌, ℕ, ◌+◌, ◌<◌, ◌^◌, nat_lt, Bool, true, List, [], ◌++◌, length, refl, sym, ap, subst, ◌∙◌, arith}
 use Rattle.std.specs.Str.{chars}
 use Rattle.gabc_places.specs.Place.{place_past}

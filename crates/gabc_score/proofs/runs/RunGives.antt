@@ -1,4 +1,4 @@
--- What a run gives, once its last syllable is held.
+-- What a run gives, once its last syllable is pending.
 use Rattle.gabc_text.proofs.tokens.CountsOfTexts.{place_small}
 use Rattle.std.proofs.Common.{◌≡◌, ℕ, ◌+◌, ◌<◌, ◌≤◌, ◌^◌, Bool, true, List, [], ◌∷◌, ◌++◌, map, length, refl, sym, ap, subst, ◌∙◌, arith, length-append}
 use Rattle.std.specs.Str.{chars}

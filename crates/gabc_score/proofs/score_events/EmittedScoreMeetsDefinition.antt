@@ -1,4 +1,4 @@
--- What a stage emits that holds one whole syllable is what the definition says.
+-- A stage with at most one pending syllable emits what the definition says.
 use Rattle.std.proofs.Common.{◌≡◌, ℕ, ◌+◌, ◌-◌, ◌<◌, ◌≤◌, ◌^◌, nat_lt, List, [], ◌∷◌, ◌++◌, length, Option, Some, None, option_map, refl, ap, subst, ◌∙◌, arith, length-append, length-drop}
 use Rattle.gabc_places.specs.StageLaw.{concat_of, silence}
 use Rattle.gabc_places.specs.Place.{next_place, saturating_next_place}

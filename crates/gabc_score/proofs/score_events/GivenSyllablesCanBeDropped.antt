@@ -1,4 +1,4 @@
--- What is gathered if only the syllables not given yet are held.
+-- What is gathered if the syllables that were given are dropped.
 use Rattle.std.proofs.Common.{◌≡◌, ℕ, zero, suc, ◌+◌, ◌-◌, ◌≤◌, ◌||◌, ◌&&◌, not, nat_lt, Bool, true, false, cond, List, [], ◌∷◌, ◌++◌, length, take, drop, Some, None, refl, sym, ap, ◌∙◌, arith, length-append, length-drop}
 use Rattle.std.proofs.lemmas.List.{drop-append-le, drop-drop, drop-take}
 use Rattle.gabc_places.specs.declared.code.Code.TheVariants.{F5, F7}

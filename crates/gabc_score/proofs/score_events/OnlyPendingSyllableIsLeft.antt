@@ -1,4 +1,4 @@
--- If the inputs of a stage just cease, each syllable that it gives is the one that it holds.
+-- If the inputs of a stage just cease, each syllable that it gives is the pending one.
 use Rattle.std.proofs.Common.{◌≡◌, ◌≤◌, List, [], length, Some, arith}
 use Rattle.std.proofs.lemmas.List.Elements.{All-nil}
 use Rattle.std.specs.List.{All}

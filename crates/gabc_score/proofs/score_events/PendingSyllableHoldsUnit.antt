@@ -1,4 +1,4 @@
--- What is held holds a unit, and its spans follow from those before it, past a point.
+-- The pending syllable holds a unit, and its spans follow from those before it, past a point.
 use Rattle.std.proofs.Common.{◌≡◌, ℕ, zero, suc, ◌-◌, ◌<◌, ◌^◌, not, take, drop, Bool, true, false, List, [], ◌∷◌, ◌++◌, length, IfSome, refl, sym, ap, subst, ◌∙◌, arith}
 use Rattle.std.proofs.lemmas.List.Elements.{All-nil, All-head, All-drop}
 use Rattle.std.proofs.lemmas.Str.{length-le-encodes}

@@ -1,4 +1,4 @@
--- The canonical text of the held syllable is a text of an input.
+-- The canonical text of the pending syllable is a text of an input.
 use Rattle.std.proofs.Common.{◌≡◌, ℕ, ◌==◌, ◌||◌, Bool, List, [], ◌∷◌, refl}
 use Rattle.std.specs.Prelude.{IfSome}
 use Rattle.std.specs.List.{All}

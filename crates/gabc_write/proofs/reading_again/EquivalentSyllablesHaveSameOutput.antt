@@ -1,4 +1,4 @@
--- Held syllables that are equivalent and say the same are written alike.
+-- Pending syllables that are equivalent and say the same are written alike.
 use Rattle.std.proofs.Common.{◌≡◌, ℕ, Bool, Option, Some, None, IfSome, arith}
 use Rattle.std.proofs.lemmas.List.{append_cancel_left}
 use Rattle.gabc_body.specs.Canonical.{canonical, starts_word}

@@ -1,4 +1,4 @@
--- The syllable that a stage over a score holds is read again from its own text, and its text is one
+-- The pending syllable of a stage over a score is read again from its own text, and its text is one
 -- syllable.
 use Rattle.std.proofs.Common.{◌≡◌, ℕ, ◌+◌, ◌<◌, ◌≤◌, ◌^◌, ◌||◌, Bool, true, false, List, [], length, Option, Some, None, IfSome, encode_utf8_all, ◌∷◌, subst, refl, arith}
 use Rattle.std.specs.Prelude.{◌↔◌}

@@ -1,4 +1,4 @@
--- A stage that stands after the same holds by its text what is equivalent to the held syllable.
+-- If a stage after the same reads the text of the pending syllable, its own one is equivalent then.
 use Rattle.std.proofs.Common.{◌≡◌, ℕ, Bool, true, false, List, Option, Some, IfSome, is_some, refl, sym, ap, subst, ◌∙◌, arith}
 use Rattle.std.specs.Prelude.{IsUtf8, ◌==◌}
 use Rattle.std.specs.Str.{chars}

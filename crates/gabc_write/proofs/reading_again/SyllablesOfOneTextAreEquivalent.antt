@@ -1,4 +1,4 @@
--- Two syllables that are held after the same and have one canonical text there are equivalent.
+-- Two syllables that are pending after the same and have one canonical text there are equivalent.
 use Rattle.std.proofs.Common.{◌≡◌, ℕ, ◌==◌, ◌≤◌, length, Bool, true, List, Option, Some, IfSome, is_some, sym, ap, subst, ◌∙◌, arith}
 use Rattle.std.specs.Option.{option_map}
 use Rattle.std.specs.Prelude.{IsUtf8}

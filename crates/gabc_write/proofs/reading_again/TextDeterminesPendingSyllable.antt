@@ -1,5 +1,5 @@
--- The text of a syllable may be held again after what stands before it, and what may be held with
--- it is equivalent to that syllable.
+-- A syllable may be pending again by its text, after what stands before it, and what may be pending
+-- by this text is equivalent to that syllable.
 use Rattle.std.proofs.Common.{◌≡◌, ℕ, ◌+◌, ◌<◌, ◌≤◌, ◌==◌, ◌||◌, ◌&&◌, Bool, List, [], ◌∷◌, ◌++◌, length, get_or, map, is_some, encode_utf8_all, Option, Some, None, IfSome, refl, sym, ap, ap₂, subst, ◌∙◌, arith}
 use Rattle.std.specs.Char.{IsScalar}
 use Rattle.std.specs.List.{All, list_any}

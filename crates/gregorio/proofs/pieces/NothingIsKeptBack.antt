@@ -1,4 +1,5 @@
--- An engine keeps nothing back but the held syllable, and stops with the byte that brings a fault.
+-- An engine keeps nothing back but the pending syllable, and stops with the byte that brings a
+-- fault.
 use Rattle.std.proofs.Common.{rules, ◌≡◌, ℕ, ◌+◌, ◌-◌, ◌<◌, ◌≤◌, ◌⊎◌, ◌||◌, inl, inr, IsSome, List, [], ◌∷◌, ◌++◌, length, map, take, drop, Bool, true, false, if◌then◌else◌, Option, Some, None, Result, codes, refl, ap, sym, subst, ◌∙◌, arith, append-nil, length-append, take-add}
 use Rattle.std.proofs.lemmas.Bool.{or_parts}
 use Rattle.std.specs.List.{All, flat_map}

@@ -1,4 +1,4 @@
--- The held text of a state is read as its fields say, or it is not.
+-- The pending text of a state is read as its fields say, or it is not.
 use Rattle.std.proofs.Common.{◌≡◌, ◌≢◌, ℕ, ◌-◌, List, [], length, false, Some, ap, sym, subst, ◌∙◌, arith}
 use Rattle.std.proofs.lemmas.Bool.{false≢true}
 use Rattle.std.specs.Prelude.{◌==◌, ◌||◌}

@@ -1,4 +1,4 @@
--- What stands before the held text of a state is within its limits, and its texts are read.
+-- What stands before the pending text of a state is within its limits, and its texts are read.
 use Rattle.std.proofs.Common.{◌≡◌, ◌≢◌, ◌-◌, [], length, arith}
 use Rattle.gabc_places.specs.declared.limits.Limits.{Limits}
 use Rattle.gabc_score.specs.ReportedWithin.{AreCountsWithin}

@@ -1,4 +1,4 @@
--- A text of headers that is pushed into a fresh stage, and its findings.
+-- Pending headers that are pushed into a fresh stage, and their findings.
 use Rattle.std.specs.Prelude.{◌≡◌, ℕ, List, [], Bool, false}
 use Rattle.std.specs.List.{All, list_any}
 use Rattle.std.specs.Char.{IsScalar}
