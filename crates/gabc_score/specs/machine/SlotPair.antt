@@ -1,5 +1,5 @@
 -- Two slots: the current syllable, and the pending one.
-use Rattle.std.specs.Prelude.{◌≡◌, ◌≤◌, ℕ, ◌+◌, ◌||◌, min, nat_lt, List, [], ◌∷◌, Bool, true, false, take, Option}
+use Rattle.std.specs.Prelude.{◌≡◌, ◌≤◌, ℕ, ◌+◌, min, nat_lt, List, [], ◌∷◌, Bool, true, false, take, Option}
 use Rattle.gabc_notes.specs.declared.stage.NoteEvent.{NoteEvent}
 use Rattle.gabc_body.specs.Events.{is_close}
 use Rattle.gabc_score.specs.declared.preceding.Preceding.{Preceding}
