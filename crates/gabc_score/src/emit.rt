@@ -8,7 +8,7 @@ ghost use Rattle.gabc_body.specs.witness.BodyBuilder.{end_findings};
 ghost use Rattle.gabc_score.specs.machine.FirstSound.{kind_of};
 ghost use Rattle.gabc_score.specs.machine.ReadsChar.{GivesAsLast, GivesPoint};
 ghost use Rattle.gabc_score.specs.machine.ScoreStage.{placed_after};
-ghost use Rattle.gabc_score.specs.machine.SlotPair.{lent_of};
+ghost use Rattle.gabc_score.specs.machine.SlotPair.{is_preceded, lent_of};
 
 use crate::first_sound::FirstSound;
 use crate::score_event::{BorrowedSyllable, ScoreEvent};
@@ -87,51 +87,39 @@ fn give_lent(count: usize, out: &mut Room<ScoreEvent>)
 }
 
 /// Emits the findings of a point, and the pending syllable if another has become whole, which is
-/// pending from then on. `is_preceded` says whether there is a syllable before it. Returns whether
-/// a syllable was emitted.
-pub(crate) fn give_point(
-    pair: &mut SlotPair,
-    is_preceded: bool,
-    found: &mut Room<Finding>,
-    out: &mut Room<ScoreEvent>,
-) -> bool
+/// pending from then on.
+pub(crate) fn give_point(pair: &mut SlotPair, found: &mut Room<Finding>, out: &mut Room<ScoreEvent>)
     requires few { length found.old.items ≤ 9 }
     requires fits { Fits out.old 16 }
-    ensures { GivesPoint is_preceded pair.old found.old result pair.new found.new out.old out.new }
+    ensures { GivesPoint pair.old found.old pair.new found.new out.old out.new }
 {
     give_found(found.slice(), out);
     found.clear();
-    let count = pair.rotate(is_preceded);
+    let count = pair.rotate();
     give_lent(count, out);
-    count > 0
 }
 
 /// Emits the pending syllable as the last one, and the fault that stops the score.
-pub(crate) fn give_stop(
-    pair: &mut SlotPair,
-    is_preceded: bool,
-    fault: Fault,
-    out: &mut Room<ScoreEvent>,
-)
+pub(crate) fn give_stop(pair: &mut SlotPair, fault: Fault, out: &mut Room<ScoreEvent>)
     requires used { pair.old.used ≢ SlotUse.Lent }
     requires fits { Fits out.old 16 }
-    ensures { let held = placed_after is_preceded pair.old.held in
+    ensures { let held = placed_after (is_preceded pair.old) pair.old.held in
         GivesAsLast pair.old (outputs_of [] held ++ Stop fault ∷ []) held 1
         out.old out.new pair.new }
 {
-    let count = pair.give_held(is_preceded);
+    let count = pair.give_held();
     give_lent(count, out);
     out.push(ScoreEvent::Stop(fault));
 }
 
 /// Emits the pending syllable as the last one, after the source has failed.
-pub(crate) fn give_broken(pair: &mut SlotPair, is_preceded: bool, out: &mut Room<ScoreEvent>)
+pub(crate) fn give_broken(pair: &mut SlotPair, out: &mut Room<ScoreEvent>)
     requires used { pair.old.used ≢ SlotUse.Lent }
     requires fits { Fits out.old 16 }
-    ensures { let held = placed_after is_preceded pair.old.held in
+    ensures { let held = placed_after (is_preceded pair.old) pair.old.held in
         GivesAsLast pair.old (outputs_of [] held) held 1 out.old out.new pair.new }
 {
-    let count = pair.give_held(is_preceded);
+    let count = pair.give_held();
     give_lent(count, out);
 }
 
@@ -139,7 +127,6 @@ pub(crate) fn give_broken(pair: &mut SlotPair, is_preceded: bool, out: &mut Room
 /// `has_last` says whether a last text is a syllable.
 pub(crate) fn give_end(
     pair: &mut SlotPair,
-    is_preceded: bool,
     has_last: bool,
     at: Place,
     found: &[Finding],
@@ -149,7 +136,7 @@ pub(crate) fn give_end(
     requires few { length found.now ≤ 8 }
     requires fits { Fits out.old 16 }
     ensures { let g = pair.old.gathered in
-        let made = placed_after is_preceded g.made in
+        let made = placed_after (is_preceded pair.old) g.made in
         GivesAsLast pair.old
         (outputs_of (found.now ++ end_findings at has_last (g.eu || g.nlba)) made ++ End ∷ [])
         made 2 out.old out.new pair.new }
@@ -157,7 +144,7 @@ pub(crate) fn give_end(
     give_found(found, out);
     give_code(has_last, at, Code::W9, out);
     give_code(pair.has_open(), at, Code::W11, out);
-    let count = pair.give_all(is_preceded);
+    let count = pair.give_all();
     give_lent(count, out);
     out.push(ScoreEvent::End);
 }

@@ -17,7 +17,6 @@
 
 mod body_stage;
 mod body_tells;
-mod bounds;
 mod build_body;
 mod collecting;
 mod context;

@@ -53,7 +53,7 @@ pub(crate) fn a_stage_may_stand_so(machine: &ScoreMachine)
 /// Law: in the body the whole syllables are those that were given, and the pending one.
 pub(crate) fn whole_ones_are_given_or_held(machine: &ScoreMachine)
     requires { StandsInBody machine.now }
-    ensures { whole_syllables (shown machine.now) ≡ machine.now.bounds.before.syllables
+    ensures { whole_syllables (shown machine.now) ≡ machine.now.pair.contexts.before.syllables
         + length (option_to_list (held_of (shown machine.now))) }
 {
     at_most_one_is_held(&machine.pair);

@@ -1,7 +1,7 @@
-//! The totals of the syllables before a syllable of a score.
+//! The context of a syllable of a score.
 
-ghost use Rattle.std.specs.Prelude.{◌≡◌};
-ghost use Rattle.gabc_score.specs.Before.{preceding_of};
+ghost use Rattle.std.specs.Prelude.{◌≡◌, nat_lt};
+ghost use Rattle.gabc_score.specs.Before.{no_syllable, preceding_of};
 
 use gabc_body::{Before, Spans};
 
@@ -11,7 +11,7 @@ pub(crate) const NO_SPANS: Spans = Spans {
     nlba: false,
 };
 
-/// The totals of the syllables before a syllable.
+/// The context of a syllable: the totals of the syllables before it.
 #[derive(Clone, Copy)]
 pub(crate) struct Preceding {
     /// Their number, which saturates.
@@ -25,6 +25,18 @@ pub(crate) struct Preceding {
 }
 
 impl Preceding {
+    /// Returns the totals before the first syllable, after canonical headers of `canonical` bytes.
+    pub(crate) fn after_headers(canonical: usize) -> Preceding
+        ensures { result ≡ no_syllable canonical }
+    {
+        Preceding {
+            syllables: 0,
+            canonical,
+            spans: NO_SPANS,
+            sounded: false,
+        }
+    }
+
     /// Returns the totals that `before` reports.
     pub(crate) fn of(before: Before) -> Preceding
         ensures { result ≡ preceding_of before }
@@ -35,5 +47,12 @@ impl Preceding {
             spans: before.spans,
             sounded: before.sounded,
         }
+    }
+
+    /// Returns whether a syllable comes before.
+    pub(crate) fn has_syllable(&self) -> bool
+        ensures { result ≡ nat_lt 0 self.now.syllables }
+    {
+        0 < self.syllables
     }
 }

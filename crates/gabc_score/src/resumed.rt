@@ -15,11 +15,11 @@ ghost use Rattle.gabc_score.specs.machine.PartCounts.{CountsHold};
 ghost use Rattle.gabc_score.specs.machine.PartKeeps.{in_text, PartKeeps};
 ghost use Rattle.gabc_body.specs.witness.SyllableBuilder.{nothing_open};
 ghost use Rattle.gabc_score.specs.machine.ReadAlone.{is_error_event, BeginsAlone, HasRoomFor, HoldsAlone, IsFree, ReadsAll, ReadsAlone, StandsAlone};
-ghost use Rattle.gabc_score.specs.machine.Resumed.{gathered_after};
+ghost use Rattle.gabc_score.specs.machine.Resumed.{gathered_resumed};
 ghost use Rattle.gabc_score.specs.machine.ScoreMachine.{shown, IsScore};
+ghost use Rattle.gabc_score.specs.machine.SlotPair.{is_made, slots_after};
 
 use crate::body_stage::{BodyPart, BodyStage};
-use crate::bounds::Bounds;
 use crate::first_sound::FirstSound;
 use crate::preceding::Preceding;
 use crate::score_event::ScoreEvent;
@@ -33,15 +33,15 @@ use gabc_text::TextStage;
 use std::alloc::AllocError;
 
 impl SlotPair {
-    /// Sets the totals before the syllable that is read to those that `before` reports.
-    fn follow(&mut self, before: Before)
-        ensures { self.new ≡ record self.old {
-          gathered = gathered_after before self.old.gathered;
+    /// Sets the context of the current syllable to what `before` reports, and drops the pending
+    /// one.
+    fn resume(&mut self, before: Before)
+        requires { is_made self.old.used ≡ false }
+        ensures { self.new ≡ record (slots_after (preceding_of before) self.old) {
+          gathered = gathered_resumed before self.old.gathered;
         } }
     {
-        self.spans = before.spans;
-        self.follows = 0 < before.syllables;
-        self.total = before.canonical;
+        self.follow(Preceding::of(before));
         self.sounded = if before.sounded {
             Some(FirstSound::Either)
         } else {
@@ -73,9 +73,8 @@ impl ScoreMachine {
         body.restart(before.nabc_lines, before.macros);
         body.begin_text(Place::START);
         let mut pair = SlotPair::with_limit(memory, limits.syllable as usize)?;
-        pair.follow(before);
+        pair.resume(before);
         let found = Room::in_memory(memory, 9)?;
-        let preceding = Preceding::of(before);
         Ok(ScoreMachine {
             limits,
             part: ScorePart::Body,
@@ -83,10 +82,6 @@ impl ScoreMachine {
             pair,
             found,
             next: Place::START,
-            bounds: Bounds {
-                before: preceding,
-                after: preceding,
-            },
         })
     }
 }

@@ -10,9 +10,9 @@ ghost use Rattle.gabc_body.specs.Syllable.{PlacedSyllable, UnplacedSyllable};
 ghost use Rattle.gabc_score.specs.RegularSyllable.{with_lines};
 ghost use Rattle.gabc_score.specs.machine.Run.{EndsRun, GoesBefore, IsFound, IsSamePair, IsSpelledBy, KeepsFirstSound, SpellsFound, IsBetweenSyllables, RunsTo, RunsMore, TakesRun, before_by, canonical_length, len_of, mark_of, sounds_among};
 ghost use Rattle.gabc_score.specs.machine.ScoreMachine.{has_given, IsScore, IsShort};
+ghost use Rattle.gabc_score.specs.machine.SlotPair.{is_preceded};
 
 use crate::body_stage::BodyPart;
-use crate::bounds::Bounds;
 use crate::give::{Give, Run};
 use crate::preceding::{NO_SPANS, Preceding};
 use crate::regular::{plain_len, regular_syllable, spans_past};
@@ -204,36 +204,20 @@ impl<'a> Reached<'a> {
 }
 
 impl SlotPair {
-    /// Gives the pending syllable its position in its word. `is_preceded` says whether there is a
-    /// syllable before it, and `next_starts` whether the next one begins a word.
-    fn place_held(&mut self, is_preceded: bool, next_starts: bool)
+    /// Gives the pending syllable its position in its word. `next_starts` says whether the next one
+    /// begins a word.
+    fn place_held(&mut self, next_starts: bool)
         requires used { self.old.used ≡ SlotUse.Filling }
         ensures gathered { self.new.gathered ≡ self.old.gathered }
+        ensures contexts { self.new.contexts ≡ self.old.contexts }
         ensures used { self.new.used ≡ SlotUse.Filling }
         ensures first { (m : UnplacedSyllable) → self.old.gathered.made ≡ m ∷ [] →
             self.new.first ≡ record {
               made = m;
-              position = position_by (not is_preceded || m.text.word_start) next_starts;
+              position = position_by (not (is_preceded self.old) || m.text.word_start) next_starts;
             } }
     {
-        self.holder.place(is_preceded, next_starts);
-    }
-
-    /// Drops the pending syllable. `total` is the number of canonical bytes before the next one,
-    /// and `spans` are open there.
-    fn forget_held(&mut self, total: usize, spans: Spans)
-        requires used { self.old.used ≡ SlotUse.Filling }
-        ensures gathered { self.new.gathered ≡ record self.old.gathered {
-          made = [];
-          total = total;
-          eu = spans.eu;
-          nlba = spans.nlba;
-        } }
-        ensures used { self.new.used ≡ SlotUse.Filling }
-    {
-        self.held = false;
-        self.total = total;
-        self.spans = spans;
+        self.holder.place(self.before.has_syllable(), next_starts);
     }
 }
 
@@ -285,7 +269,7 @@ impl ScoreMachine {
             } ∷ []) }
         ensures kept { result ≡ false → out.new ≡ out.old }
     {
-        self.pair.place_held(self.bounds.follows(), next_starts);
+        self.pair.place_held(next_starts);
         out.give(self.pair.first(), self.limits.syllable as usize + 1)
     }
 
@@ -344,11 +328,7 @@ impl ScoreMachine {
         requires { self.old.pair.used ≡ SlotUse.Filling }
         ensures { GoesBefore self.old before at self.new }
     {
-        self.pair.forget_held(before.canonical, before.spans);
-        self.bounds = Bounds {
-            before,
-            after: before,
-        };
+        self.pair.follow(before);
         self.body.begin_text(at);
         self.next = at;
     }
@@ -375,7 +355,8 @@ impl ScoreMachine {
         let (before, _) = text.split_at(bytes - last.spelled.len());
         let start = place_past(at, before);
         let next = place_past(start, last.spelled);
-        self.go_before(reached.preceding(self.bounds.after), start);
+        let context = reached.preceding(self.pair.after());
+        self.go_before(context, start);
         self.read_all(start, last.spelled, room);
         self.body.begin_text(next);
         self.next = next;
@@ -401,7 +382,7 @@ impl ScoreMachine {
         if !is_low(at, text) || !self.is_between(at) {
             return none;
         }
-        let before = self.bounds.after;
+        let before = self.pair.after();
         let lines = self.body.nabc_lines();
         let Some(first) = find(lines, &self.limits, text, 0, before.canonical) else {
             return none;

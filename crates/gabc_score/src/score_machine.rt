@@ -14,8 +14,8 @@ ghost use Rattle.gabc_score.specs.machine.ScoreMachine.{shown, IsInBody, IsBefor
 ghost use Rattle.gabc_score.specs.machine.ReadsChar.{EndsInputs, Gathers, ReadsChar, StandsInBody, StopsWith, TakesInput};
 
 use crate::body_stage::{BodyPart, BodyStage};
-use crate::bounds::Bounds;
 use crate::emit::{find_first, give_broken, give_end, give_point, give_stop};
+use crate::preceding::Preceding;
 use crate::score_event::ScoreEvent;
 use crate::slot_pair::{SlotPair, SlotUse};
 use gabc_body::{Before, Syllable};
@@ -42,8 +42,6 @@ pub(crate) struct ScoreMachine {
     pub(crate) found: Room<Finding>,
     /// The place of the next character of the body.
     pub(crate) next: Place,
-    /// The totals before and after the pending syllable.
-    pub(crate) bounds: Bounds,
 }
 
 impl ScoreMachine {
@@ -65,9 +63,8 @@ impl ScoreMachine {
         ensures head { head < 2 ^ 64 }
     {
         let mut pair = SlotPair::with_limit(memory, limits.syllable as usize)?;
-        pair.start(head);
+        pair.follow(Preceding::after_headers(head));
         let found = Room::in_memory(memory, 9)?;
-        let bounds = Bounds::after_headers(head);
         Ok(ScoreMachine {
             limits,
             part: ScorePart::Body,
@@ -75,7 +72,6 @@ impl ScoreMachine {
             pair,
             found,
             next: at,
-            bounds,
         })
     }
 
@@ -99,7 +95,7 @@ impl ScoreMachine {
         requires fits { Fits out.old 16 }
         ensures { StopsWith self.old fault self.new out.old out.new }
     {
-        give_stop(&mut self.pair, self.bounds.follows(), fault, out);
+        give_stop(&mut self.pair, fault, out);
         self.part = ScorePart::Over;
     }
 
@@ -143,10 +139,7 @@ impl ScoreMachine {
                 out,
             ),
             None => {
-                let is_whole = self.pair.is_whole();
-                let follows = self.bounds.follows();
-                let gave = give_point(&mut self.pair, follows, &mut self.found, out);
-                self.bounds.pass(is_whole, gave, &self.pair);
+                give_point(&mut self.pair, &mut self.found, out);
                 self.next = x.place.saturating_after(x.c);
             }
         }
@@ -166,9 +159,7 @@ impl ScoreMachine {
         match self.pair.end_fault(self.limits, self.next) {
             Some(fault) => self.stop(fault, out),
             None => {
-                let follows = self.bounds.follows();
-                let found = self.found.slice();
-                give_end(&mut self.pair, follows, has_last, self.next, found, out);
+                give_end(&mut self.pair, has_last, self.next, self.found.slice(), out);
                 self.part = ScorePart::Over;
             }
         }
@@ -209,8 +200,8 @@ impl ScoreMachine {
                 canonical,
             } => {
                 self.body.restart(nabc_lines, macros);
-                self.pair.start(canonical as usize);
-                self.bounds = Bounds::after_headers(canonical as usize);
+                self.pair
+                    .follow(Preceding::after_headers(canonical as usize));
                 self.next = Place::START;
                 self.part = ScorePart::Body;
             }
@@ -243,9 +234,9 @@ impl ScoreMachine {
     /// Returns the context of the pending syllable, or, if none is pending, of the one that is
     /// read.
     pub(crate) fn before(&self) -> Before
-        ensures { result ≡ before_with self.now.body self.now.bounds.before }
+        ensures { result ≡ before_with self.now.body self.now.pair.contexts.before }
     {
-        let before = self.bounds.before;
+        let before = self.pair.before();
         Before {
             nabc_lines: self.body.nabc_lines(),
             macros: self.body.macros(),
@@ -285,7 +276,7 @@ impl ScoreMachine {
         ensures { EndsInputs self.old out.old out.new self.new }
     {
         self.pair.free();
-        give_broken(&mut self.pair, self.bounds.follows(), out);
+        give_broken(&mut self.pair, out);
         self.part = ScorePart::Over;
     }
 

@@ -18,7 +18,6 @@ ghost use Rattle.gabc_body.specs.Syllable.{placed_of, unplaced_of};
 
 use crate::body_stage::BodyStage;
 use crate::body_tells::Openers;
-use crate::bounds::Bounds;
 use crate::give::{Give, Run};
 use crate::score_event::{BorrowedSyllable, ScoreEvent};
 use crate::score_machine::{ScoreMachine, ScorePart};
@@ -76,7 +75,6 @@ impl ScoreStage {
         let body = BodyStage::new(memory, 0, 0)?;
         let pair = SlotPair::with_limit(memory, limits.syllable as usize)?;
         let found = Room::in_memory(memory, 9)?;
-        let bounds = Bounds::after_headers(0);
         Ok(ScoreStage {
             machine: ScoreMachine {
                 limits,
@@ -85,7 +83,6 @@ impl ScoreStage {
                 pair,
                 found,
                 next: Place::START,
-                bounds,
             },
         })
     }

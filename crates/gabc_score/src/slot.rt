@@ -156,6 +156,14 @@ impl Slot {
         self.syllable.nlba = spans.nlba;
     }
 
+    /// Returns whether the syllable that was read begins a word. `follows` says whether there is a
+    /// syllable before it.
+    pub(crate) fn starts_word(&self, follows: bool) -> bool
+        ensures { result ≡ (not follows || self.now.reading.view.word_start) }
+    {
+        !follows || self.syllable.text.word_start
+    }
+
     /// Gives the syllable its position in its word. `follows` says whether there is a syllable
     /// before it, and `next_starts` whether the next one begins a word.
     pub(crate) fn place(&mut self, follows: bool, next_starts: bool)
@@ -163,8 +171,7 @@ impl Slot {
           position = position_by (not follows || self.old.reading.view.word_start) next_starts;
         } }
     {
-        let starts = !follows || self.syllable.text.word_start;
-        self.syllable.position = position_by(starts, next_starts);
+        self.syllable.position = position_by(self.starts_word(follows), next_starts);
     }
 
     /// Returns the bytes of `span` in the kept text.

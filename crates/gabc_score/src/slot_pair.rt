@@ -1,11 +1,11 @@
-//! Two slots: one for the syllable that is read, and one for the last whole one.
+//! Two slots: one for the current syllable, and one for the pending one.
 
 ghost use Rattle.std.specs.Prelude.{◌<◌, ◌^◌};
 ghost use Rattle.std.specs.Prelude.{IfOk};
 ghost use Rattle.gabc_body.specs.witness.SyllableBuilder.{nothing_open};
 
 use crate::first_sound::FirstSound;
-use crate::preceding::NO_SPANS;
+use crate::preceding::{NO_SPANS, Preceding};
 use crate::slot::Slot;
 use gabc_body::{LentSyllable, Spans, canonical_len};
 use gabc_notes::{NoteEnd, NoteEvent};
@@ -42,14 +42,15 @@ pub(crate) struct SlotPair {
     /// The same for the syllable in `holder`.
     pub(crate) holder_from: Option<usize>,
     pub(crate) held: bool,
-    /// Whether there is a syllable before the one that is read.
-    pub(crate) follows: bool,
+    /// The context of the pending syllable; if none is pending, the same as `after`.
+    pub(crate) before: Preceding,
+    /// The context of the current syllable, the one in `reader`.
+    pub(crate) after: Preceding,
+    /// The canonical bytes of the whole syllable in `reader`. Counts only while `used` is `Made`.
+    pub(crate) made_len: usize,
     /// The spans that are open.
     pub(crate) spans: Spans,
-    /// The bytes of the canonical headers and of all syllables before the one that is read;
-    /// saturates.
-    pub(crate) total: usize,
-    /// Whether one of these syllables is longer than the limit.
+    /// Whether a syllable that was made is longer than the limit.
     over: bool,
     /// The place of the bracket that the end of the input leaves open.
     cut: Option<Place>,
@@ -73,7 +74,7 @@ impl Model for SlotPair {
     ghost use Rattle.std.specs.Prelude.{◌≡◌, ◌++◌};
     ghost use Rattle.gabc_score.specs.machine.FirstSound.{kind_of};
     ghost use Rattle.gabc_score.specs.machine.Slot.{placed_in};
-    ghost use Rattle.gabc_score.specs.machine.SlotPair.{SlotPairState, reading_in, held_in, made_last, first_in, StandsIn, StandsInReader};
+    ghost use Rattle.gabc_score.specs.machine.SlotPair.{SlotPairState, reading_in, held_in, made_last, first_in, follows_in, total_in, StandsIn, StandsInReader};
 
     ghost Value = { SlotPairState };
 
@@ -84,13 +85,14 @@ impl Model for SlotPair {
         eu = s.spans.eu;
         nlba = s.spans.nlba;
         made = held_in s.held s.holder.value ++ made_last s.used s.reader.value;
-        follows = s.follows;
-        total = s.total;
+        follows = follows_in s.used s.after;
+        total = total_in s.used s.after s.made_len;
         over = s.over;
         cut = s.cut;
         first_kind = kind_of s.sounded;
       };
       held = held_in s.held s.holder.value;
+      contexts = record { before = s.before; after = s.after };
       used = s.used;
       first = first_in s.used s.reader.value s.holder.value;
       second = placed_in s.reader.value;
@@ -105,9 +107,10 @@ impl SlotPair {
     ghost use Rattle.gabc_body.specs.Body.{has_text, is_none};
     ghost use Rattle.gabc_body.specs.witness.BodyBuilder.{code_in, end_fault};
     ghost use Rattle.gabc_body.specs.witness.Gatherer.{nothing_gathered, with_mark, with_mark_of, with_text_end, with_text, with_syllable, with_note_end, with_note, with_last, awaits, first_past};
+    ghost use Rattle.gabc_score.specs.machine.Preceded.{past_point};
     ghost use Rattle.gabc_score.specs.machine.ScoreStage.{placed_after, with_held};
     ghost use Rattle.gabc_score.specs.machine.Slot.{FitsText, FitsNote, FitsKept, FitsSnippet};
-    ghost use Rattle.gabc_score.specs.machine.SlotPair.{HasGathered, LendsLast, is_made, used_past, lent_syllables};
+    ghost use Rattle.gabc_score.specs.machine.SlotPair.{HasGathered, LendsLast, is_made, is_preceded, used_past, lent_syllables, slots_after};
 
     /// Returns two slots in which nothing was read, and reserves room for syllables of `limit`
     /// bytes in `memory`.
@@ -124,9 +127,10 @@ impl SlotPair {
             holder: boxed(memory, limit)?,
             holder_from: None,
             held: false,
-            follows: false,
+            before: Preceding::after_headers(0),
+            after: Preceding::after_headers(0),
+            made_len: 0,
             spans: NO_SPANS,
-            total: 0,
             over: false,
             cut: None,
             sounded: None,
@@ -140,22 +144,21 @@ impl SlotPair {
     {
         self.reader.clear();
         self.used = SlotUse::Filling;
-        self.held = false;
-        self.follows = false;
-        self.spans = NO_SPANS;
-        self.total = 0;
+        self.follow(Preceding::after_headers(0));
         self.over = false;
         self.cut = None;
         self.sounded = None;
     }
 
-    /// Begins the count of canonical bytes with `head`, those of the headers.
-    pub(crate) fn start(&mut self, head: usize)
-        ensures { self.new ≡ record self.old {
-          gathered = record self.old.gathered { total = head };
-        } }
+    /// Sets the context of the current syllable to `before`, and drops the pending one.
+    pub(crate) fn follow(&mut self, before: Preceding)
+        requires { is_made self.old.used ≡ false }
+        ensures { self.new ≡ slots_after before self.old }
     {
-        self.total = head;
+        self.held = false;
+        self.before = before;
+        self.after = before;
+        self.spans = before.spans;
     }
 
     /// Takes back the borrowed syllables.
@@ -163,6 +166,7 @@ impl SlotPair {
         requires { is_made self.old.used ≡ false }
         ensures gathered { self.new.gathered ≡ self.old.gathered }
         ensures held { self.new.held ≡ self.old.gathered.made }
+        ensures contexts { self.new.contexts ≡ self.old.contexts }
         ensures used { self.new.used ≡ SlotUse.Filling }
         ensures one { length self.new.gathered.made ≤ 1 }
     {
@@ -296,14 +300,13 @@ impl SlotPair {
         ensures { HasGathered self.old (with_syllable self.old.gathered) SlotUse.Made self.new }
     {
         self.reader.close(self.spans);
+        let starts = self.reader.starts_word(self.after.has_syllable());
         let made = LentSyllable::of(self.reader.syllable());
-        let starts = !self.follows || made.syllable.text.word_start;
         let len = canonical_len(made, starts);
         let kept = made.syllable.kept.len();
         self.reader_from = made.kept_from;
         self.over = self.over || kept > self.limit || len > self.limit;
-        self.total = self.total.saturating_add(len);
-        self.follows = true;
+        self.made_len = len;
         self.used = SlotUse::Made;
     }
 
@@ -314,6 +317,7 @@ impl SlotPair {
         ensures gathered { self.new.gathered ≡ with_last self.old.gathered }
         ensures has_last { result ≡ has_text self.old.gathered.builder.view }
         ensures held { self.new.held ≡ self.old.held }
+        ensures contexts { self.new.contexts ≡ self.old.contexts }
         ensures used { self.new.used ≢ SlotUse.Lent }
     {
         let has_last = match self.used {
@@ -327,6 +331,16 @@ impl SlotPair {
         has_last
     }
 
+    /// Returns the bytes of the canonical headers and of all syllables that were made; saturates.
+    fn total(&self) -> usize
+        ensures { result ≡ self.now.gathered.total }
+    {
+        match self.used {
+            SlotUse::Made => self.after.canonical.saturating_add(self.made_len),
+            SlotUse::Filling | SlotUse::Lent => self.after.canonical,
+        }
+    }
+
     /// Returns the code of the limit that is passed, if one is; the lower one, if two are.
     pub(crate) fn code(&self, limits: Limits) -> Option<Code>
         ensures code { result ≡ code_in limits self.now.gathered }
@@ -338,7 +352,7 @@ impl SlotPair {
         };
         if self.over || self.kept_len() > self.limit {
             Some(Code::F5)
-        } else if is_made && self.total >= most {
+        } else if is_made && self.total() >= most {
             Some(Code::F7)
         } else {
             None
@@ -393,62 +407,73 @@ impl SlotPair {
         self.reader.syllable().text.word_start
     }
 
-    /// Emits the pending syllable if the one that was read is whole, which is pending from then on.
-    /// `is_preceded` says whether there is a syllable before it. Returns the number of syllables
-    /// emitted, 0 or 1.
-    pub(crate) fn rotate(&mut self, is_preceded: bool) -> usize
+    /// Emits the pending syllable if the current one is whole, which is pending from then on.
+    /// Returns the number of syllables emitted, 0 or 1.
+    pub(crate) fn rotate(&mut self) -> usize
         ensures gathered { self.new.gathered ≡ with_held self.old.gathered }
+        ensures contexts { self.new.contexts ≡ past_point
+            (nat_lt (length self.old.held) (length self.old.gathered.made))
+            (nat_lt 1 (length self.old.gathered.made)) self.old.contexts self.old.gathered }
         ensures lends { lent_syllables result self.new ≡ take (length self.old.gathered.made - 1)
-            (placed_after is_preceded self.old.gathered.made) }
+            (placed_after (is_preceded self.old) self.old.gathered.made) }
         ensures most { result ≤ 1 }
-        ensures some { nat_lt 0 result ≡ nat_lt 1 (length self.old.gathered.made) }
         ensures used { is_made self.new.used ≡ false }
     {
         let SlotUse::Made = self.used else {
             return 0;
         };
         let next_starts = self.starts();
+        let total = self.total();
         swap(&mut self.reader, &mut self.holder);
         swap(&mut self.reader_from, &mut self.holder_from);
-        if self.held {
-            self.reader.place(is_preceded, next_starts);
+        let count = if self.held {
+            self.reader.place(self.before.has_syllable(), next_starts);
             self.used = SlotUse::Lent;
+            self.before = self.after;
             1
         } else {
             self.reader.clear();
             self.used = SlotUse::Filling;
             self.held = true;
             0
-        }
+        };
+        self.after = Preceding {
+            syllables: self.before.syllables.saturating_add(1),
+            canonical: total,
+            spans: self.spans,
+            sounded: self.has_sounded(),
+        };
+        count
     }
 
-    /// Emits the pending syllable as the last one. `is_preceded` says whether there is a syllable
-    /// before it. Returns the number of syllables emitted, 0 or 1.
-    pub(crate) fn give_held(&mut self, is_preceded: bool) -> usize
+    /// Emits the pending syllable as the last one. Returns the number of syllables emitted, 0 or 1.
+    pub(crate) fn give_held(&mut self) -> usize
         requires { self.old.used ≢ SlotUse.Lent }
-        ensures { LendsLast self.old (placed_after is_preceded self.old.held) 1 result self.new }
+        ensures { LendsLast self.old (placed_after (is_preceded self.old) self.old.held) 1
+            result self.new }
     {
-        self.holder.place(is_preceded, true);
+        self.holder.place(self.before.has_syllable(), true);
         if self.held { 1 } else { 0 }
     }
 
-    /// Emits the pending syllable, and after it the one that was made last. `is_preceded` says
-    /// whether there is a syllable before it. Returns the number of syllables emitted, at most 2.
-    pub(crate) fn give_all(&mut self, is_preceded: bool) -> usize
+    /// Emits the pending syllable, and after it the one that was made last. Returns the number of
+    /// syllables emitted, at most 2.
+    pub(crate) fn give_all(&mut self) -> usize
         requires { self.old.used ≢ SlotUse.Lent }
-        ensures { LendsLast self.old (placed_after is_preceded self.old.gathered.made) 2
+        ensures { LendsLast self.old (placed_after (is_preceded self.old) self.old.gathered.made) 2
             result self.new }
     {
         let SlotUse::Made = self.used else {
-            return self.give_held(is_preceded);
+            return self.give_held();
         };
+        let follows = self.before.has_syllable();
         if self.held {
             let next_starts = self.starts();
-            self.holder.place(is_preceded, next_starts);
+            self.holder.place(follows, next_starts);
             self.reader.place(true, true);
             2
         } else {
-            self.reader.place(is_preceded, true);
+            self.reader.place(follows, true);
             swap(&mut self.reader, &mut self.holder);
             swap(&mut self.reader_from, &mut self.holder_from);
             1

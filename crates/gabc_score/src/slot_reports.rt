@@ -1,8 +1,9 @@
 //! What two slots report of what was gathered.
 
 use crate::first_sound::FirstSound;
+use crate::preceding::Preceding;
 use crate::slot_pair::{SlotPair, SlotUse};
-use gabc_body::{LentSyllable, Spans, Syllable};
+use gabc_body::{LentSyllable, Syllable};
 
 impl SlotPair {
     ghost use Rattle.std.specs.Prelude.{◌≡◌, ◌||◌, not, nat_lt, [], ◌∷◌, length, is_some, false, MatchOption};
@@ -10,7 +11,6 @@ impl SlotPair {
     ghost use Rattle.gabc_body.specs.Syllable.{placed_of, unplaced_of};
     ghost use Rattle.gabc_body.specs.Body.{is_none};
     ghost use Rattle.gabc_score.specs.machine.FirstSound.{kind_of};
-    ghost use Rattle.gabc_score.specs.machine.Preceded.{spans_of};
     ghost use Rattle.gabc_score.specs.machine.SlotPair.{is_made};
 
     /// Returns whether the slot `reader` has a whole syllable, which is not pending yet.
@@ -25,21 +25,18 @@ impl SlotPair {
         }
     }
 
-    /// Returns the bytes of the canonical headers and of all syllables that were made, a count that
-    /// saturates.
-    #[inline(always)]
-    pub(crate) fn canonical(&self) -> usize
-        ensures { result ≡ self.now.gathered.total }
+    /// Returns the context of the pending syllable, or, if none is pending, of the current one.
+    pub(crate) fn before(&self) -> Preceding
+        ensures { result ≡ self.now.contexts.before }
     {
-        self.total
+        self.before
     }
 
-    /// Returns the spans that are open.
-    #[inline(always)]
-    pub(crate) fn spans(&self) -> Spans
-        ensures { result ≡ spans_of self.now.gathered }
+    /// Returns the context of the current syllable.
+    pub(crate) fn after(&self) -> Preceding
+        ensures { result ≡ self.now.contexts.after }
     {
-        self.spans
+        self.after
     }
 
     /// Returns what came first in the GABC snippets that have ended, if a note or a clef has come.

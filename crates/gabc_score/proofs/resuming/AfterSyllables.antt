@@ -11,17 +11,17 @@ use Rattle.gabc_body.specs.witness.BodyBuilder.{code_in}
 use Rattle.gabc_score.proofs.score_events.EventsStayWithinBounds.{none_passed}
 use Rattle.gabc_score.specs.machine.PartKeeps.{in_text, IsReading, PartKeeps}
 use Rattle.gabc_score.specs.machine.Preceded.{EndsBefore, IsPreceded}
-use Rattle.gabc_score.specs.machine.Resumed.{first_sounded, gathered_after}
+use Rattle.gabc_score.specs.machine.Resumed.{first_sounded, gathered_resumed}
 
 sounds_then : (b : Bool) → is_some (first_sounded b) ≡ (b || false)
 sounds_then b = grind arith
 
-pub preceded_after : (b : Before) (limit : ℕ) → IsPreceded (preceding_of b) (gathered_after b (nothing_gathered limit 0))
+pub preceded_after : (b : Before) (limit : ℕ) → IsPreceded (preceding_of b) (gathered_resumed b (nothing_gathered limit 0))
 preceded_after b limit = record { follows = refl; total = refl; sounded = sounds_then b.sounded; snippets = All-nil (EndsBefore 0); from = omega arith }
 
-pub reads_after : (lines macros limit : ℕ) (p : BodyPart) (b : Before) → PartKeeps lines macros p (in_text []) → IsReading lines macros p b.spans (gathered_after b (nothing_gathered limit 0))
+pub reads_after : (lines macros limit : ℕ) (p : BodyPart) (b : Before) → PartKeeps lines macros p (in_text []) → IsReading lines macros p b.spans (gathered_resumed b (nothing_gathered limit 0))
 unfolding text.said_of
 reads_after lines macros limit p b keeps = record { parts = in_text []; keeps = keeps; said = record { builder = refl; eu = refl; nlba = refl }; kept = refl; from = refl; uncut = refl }
 
-pub nothing_passes : (limits : Limits) (b : Before) (limit : ℕ) → code_in limits (gathered_after b (nothing_gathered limit 0)) ≡ None
-nothing_passes limits b limit = none_passed limits (gathered_after b (nothing_gathered limit 0)) (record { kept = omega arith; over = refl; file = λ some. absurd (cc some) })
+pub nothing_passes : (limits : Limits) (b : Before) (limit : ℕ) → code_in limits (gathered_resumed b (nothing_gathered limit 0)) ≡ None
+nothing_passes limits b limit = none_passed limits (gathered_resumed b (nothing_gathered limit 0)) (record { kept = omega arith; over = refl; file = λ some. absurd (cc some) })

@@ -66,7 +66,7 @@ nothing_in_body p kept e h = sym (ap (λ (q : ScorePart). reading_in_body q kept
 is_unread : (g : Gathered) → g.builder ≡ nothing_open → g.eu ≡ false → g.nlba ≡ false → g.cut ≡ None → g ≡ unread g.limit g.made g.follows g.total g.over g.first_kind
 is_unread g builder eu nlba cut = grind arith
 
-module _ (m : ScoreMachine) (front : is_in_front m.body.part ≡ true) (first : m.bounds.before.syllables ≡ 0) (place : Place) where
+module _ (m : ScoreMachine) (front : is_in_front m.body.part ≡ true) (first : m.pair.contexts.before.syllables ≡ 0) (place : Place) where
   comment : m.body.part ≡ part.Comment
   comment = front_is m.body.part front
 
@@ -76,11 +76,11 @@ module _ (m : ScoreMachine) (front : is_in_front m.body.part ≡ true) (first : 
       nothing : m.pair.gathered.builder ≡ nothing_open
       nothing = front_reads m.body.part m.pair.gathered.builder front h.counts
 
-      alike : ReadAlike m.pair.gathered (begun m.bounds.after.spans)
-      alike = nothing_alike m.body.nabc_lines m.body.macros m.body.part m.bounds.after.spans m.pair.gathered h.reading (ap (λ (o : OpenSyllable). o.kept) nothing)
+      alike : ReadAlike m.pair.gathered (begun m.pair.contexts.after.spans)
+      alike = nothing_alike m.body.nabc_lines m.body.macros m.body.part m.pair.contexts.after.spans m.pair.gathered h.reading (ap (λ (o : OpenSyllable). o.kept) nothing)
 
-      closed : m.bounds.after.spans ≡ record { eu = false; nlba = false }
-      closed = ap (λ (p : Preceding). p.spans) (h.after ∙ ap (with_each m.bounds.before) none ∙ h.within.outset first)
+      closed : m.pair.contexts.after.spans ≡ record { eu = false; nlba = false }
+      closed = ap (λ (p : Preceding). p.spans) (h.after ∙ ap (with_each m.pair.contexts.before) none ∙ h.within.outset first)
 
   in_body : IsInBody m → m.pair.gathered.made ≡ [] → (xs : List HeadEvent)
       → body_left m.limits (record (held_score m) { next = place }) (running_events_left (record m.body { part = moved_part place m.body.part }) (characters_in xs)) xs

@@ -28,7 +28,7 @@ use Rattle.gabc_score.specs.machine.ReadAlone.{is_error, is_error_event, ReadsAl
 use Rattle.gabc_score.specs.machine.ReadsChar.{Gathers, Passes, ReadsChar, found_past, past_char, stops, goes}
 use Rattle.gabc_score.specs.machine.ScoreMachine.{has_given, IsInBody}
 use Rattle.gabc_score.specs.machine.ScoreStage.{placed_after, with_held}
-use Rattle.gabc_score.specs.machine.SlotPair.{SlotPairState}
+use Rattle.gabc_score.specs.machine.SlotPair.{SlotPairState, is_preceded}
 use Rattle.gabc_score.specs.witness.BodyStage.{BodyStageState}
 use Rattle.gabc_score.proofs.building.EventsOfSnippets.{stage_emits}
 use Rattle.gabc_score.proofs.building.PartsKeepOnly.{keeps_only}
@@ -69,7 +69,7 @@ held_all g few = ap (λ (ms : List UnplacedSyllable). record g { made = ms }) (f
 
 module _ {old : ScoreMachine} {x : Char} {given left : BoundedList ScoreEvent} (part : old.part ≡ score_part.Body) (h : IsInBody old) (none : old.pair.gathered.made ≡ []) (empty : given.items ≡ []) where
   -- if no limit is passed
-  module _ {b : BodyStageState} {p : SlotPairState} {f : BoundedList Finding} {whole gave : Bool} {q : SlotPairState} {r : BoundedList Finding} (a : Gathers old x b p f) (s : Passes old x p f whole gave q r given left) where
+  module _ {b : BodyStageState} {p : SlotPairState} {f : BoundedList Finding} {q : SlotPairState} {r : BoundedList Finding} (a : Gathers old x b p f) (s : Passes old x p f q r given left) where
     abbrev now : List BodyEvent
     now = b.events
 
@@ -86,8 +86,8 @@ module _ {old : ScoreMachine} {x : Char} {given left : BoundedList ScoreEvent} (
     few = few_made was now last none
 
     -- n are given
-    abbrev given_of : ℕ → List PlacedSyllable
-    given_of n = take n (placed_after (has_given old) p.gathered.made)
+    abbrev given_of : Bool → ℕ → List PlacedSyllable
+    given_of is_preceded n = take n (placed_after is_preceded p.gathered.made)
 
     left_none : length p.gathered.made - 1 ≡ 0
     left_none = let is = ap (λ (k : Gathered). length k.made) a.gathered in omega (arith, few, is)
@@ -95,11 +95,11 @@ module _ {old : ScoreMachine} {x : Char} {given left : BoundedList ScoreEvent} (
     items : left.items ≡ events_of (outputs_of (findings_now now ++ found_first was.first_kind then.first_kind x.place) [])
     items =
         ap (λ (k : BoundedList ScoreEvent). k.items) s.given.emitted.events
-        ∙ ap (λ (es : List ScoreEvent). es ++ events_of (outputs_of (found_past old x p f).items (given_of (length p.gathered.made - 1)))) empty
-        ∙ ap (λ (n : ℕ). events_of (outputs_of (found_past old x p f).items (given_of n))) left_none
+        ∙ ap (λ (es : List ScoreEvent). es ++ events_of (outputs_of (found_past old x p f).items (given_of (is_preceded p) (length p.gathered.made - 1)))) empty
+        ∙ ap (λ (n : ℕ). events_of (outputs_of (found_past old x p f).items (given_of (is_preceded p) n))) left_none
         ∙ ap (λ (fs : List Finding). events_of (outputs_of fs [])) (sym (found_is h a))
 
-    alone : {fine : Bool} → fine ≡ not (list_any is_error_event left.items) → ReadsAlone old (past_char old x b whole gave q r) x fine
+    alone : {fine : Bool} → fine ≡ not (list_any is_error_event left.items) → ReadsAlone old (past_char old x b q r) x fine
     alone is =
         record {
           now = now;
@@ -117,7 +117,7 @@ module _ {old : ScoreMachine} {x : Char} {given left : BoundedList ScoreEvent} (
             gathered = s.given.gathered ∙ ap with_held a.gathered ∙ held_all then few;
             lines = ap (λ (k : BodyStageState). k.nabc_lines) a.body;
             macros = ap (λ (k : BodyStageState). k.macros) a.body;
-            before = before_is part h a s.none (has_turned s) ∙ ap (λ (n : ℕ). with_placed old.bounds.before (given_of n)) left_none;
+            before = before_is part h a s.none (has_turned s) ∙ ap (λ (n : ℕ). with_placed old.pair.contexts.before (given_of (has_given old) n)) left_none;
             limits = refl;
             whole = λ some. elim (same_or_closed was now last) [ inl same ↦ absurd (true≢false (sym (ap is_none (same ∙ none)) ∙ some)) | inr c ↦ c.builder ];
           };

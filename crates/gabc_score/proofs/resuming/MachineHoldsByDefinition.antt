@@ -36,16 +36,16 @@ module _ (m : ScoreMachine) (rests : IsInBody m) (begins : BeginsText (shown m))
   g = m.pair.gathered
 
   abbrev b : Before
-  b = before_with m.body m.bounds.before
+  b = before_with m.body m.pair.contexts.before
 
   pub none : g.made ≡ []
   none = none_in_body m.part g.made begins.body none_held
 
-  alike : ReadAlike g (begun m.bounds.after.spans)
-  alike = nothing_alike m.body.nabc_lines m.body.macros m.body.part m.bounds.after.spans g rests.reading (nothing_in_body m.part g.builder.kept begins.body begins.nothing_read)
+  alike : ReadAlike g (begun m.pair.contexts.after.spans)
+  alike = nothing_alike m.body.nabc_lines m.body.macros m.body.part m.pair.contexts.after.spans g rests.reading (nothing_in_body m.part g.builder.kept begins.body begins.nothing_read)
 
-  after_is : m.bounds.after ≡ m.bounds.before
-  after_is = rests.after ∙ ap (with_each m.bounds.before) none
+  after_is : m.pair.contexts.after ≡ m.pair.contexts.before
+  after_is = rests.after ∙ ap (with_each m.pair.contexts.before) none
 
   each : length (lists_of m text) ≡ length text
   each = lists_each m first_place text
@@ -56,8 +56,8 @@ module _ (m : ScoreMachine) (rests : IsInBody m) (begins : BeginsText (shown m))
   pub found_alone : is_alone m.limits g (lists_of m text) ≡ true → length (with_all g (concat_of (lists_of m text))).made ≤ 1 → Found m.limits b g text (lists_of m text)
   found_alone e few =
       found m.limits b g rests.rests.limit alike.builder (alike.eu ∙ ap (λ (p : Preceding). p.spans.eu) after_is) (alike.nlba ∙ ap (λ (p : Preceding). p.spans.nlba) after_is) none rests.rests.over
-      (rests.preceded.total ∙ ap (λ ms. (with_each m.bounds.before ms).canonical) none) (rests.preceded.follows ∙ ap (λ ms. nat_lt 0 (with_each m.bounds.before ms).syllables) none) text (lists_of m text) are each by_kept e few
+      (rests.preceded.total ∙ ap (λ ms. (with_each m.pair.contexts.before ms).canonical) none) (rests.preceded.follows ∙ ap (λ ms. nat_lt 0 (with_each m.pair.contexts.before ms).syllables) none) text (lists_of m text) are each by_kept e few
 
   pub is_found : (n : UnplacedSyllable) → MayBeHeld m.limits b text n → is_alone m.limits g (lists_of m text) ≡ true
   is_found = alone m.limits b g rests.rests.limit alike.builder (alike.eu ∙ ap (λ (p : Preceding). p.spans.eu) after_is) (alike.nlba ∙ ap (λ (p : Preceding). p.spans.nlba) after_is) none rests.rests.over
-      (rests.preceded.total ∙ ap (λ ms. (with_each m.bounds.before ms).canonical) none) (rests.preceded.follows ∙ ap (λ ms. nat_lt 0 (with_each m.bounds.before ms).syllables) none) text (lists_of m text) are each by_kept
+      (rests.preceded.total ∙ ap (λ ms. (with_each m.pair.contexts.before ms).canonical) none) (rests.preceded.follows ∙ ap (λ ms. nat_lt 0 (with_each m.pair.contexts.before ms).syllables) none) text (lists_of m text) are each by_kept

@@ -70,7 +70,7 @@ no_code limits g h none made total over few = grind (arith, none_passed)
 
 -- ---- a machine past a character at which nothing became whole
 
-pub none_turned : {m : ScoreMachine} {x : Char} {b : BodyStageState} {p : SlotPairState} {f : BoundedList Finding} → Gathers m x b p f → nat_lt (length p.held) (length p.gathered.made) ≡ false → is_made p.used ≡ false → HasTurned p false false p
+pub none_turned : {m : ScoreMachine} {x : Char} {b : BodyStageState} {p : SlotPairState} {f : BoundedList Finding} → Gathers m x b p f → nat_lt (length p.held) (length p.gathered.made) ≡ false → is_made p.used ≡ false → HasTurned p p
 none_turned a fewer used = grind (arith, few_is, held_all)
 
 -- ---- the next character

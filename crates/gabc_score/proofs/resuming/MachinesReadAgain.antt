@@ -33,7 +33,7 @@ run_through m n o [] e = subst (IsRunAlike m) e (record { limits = refl; lines =
 run_through m n o (c ∷ cs) t = let h = t.1.0.run in let g = run_through t.0 n o cs t.1.1 in record { limits = g.limits ∙ h.limits; lines = g.lines ∙ h.lines; macros = g.macros ∙ h.macros }
 
 same_through : (m n : ScoreMachine) (o : Openers) (cs : List ℕ) → ReadsThrough m o cs n → n.part ≡ score_part.Body → IsSameBut m n
-same_through m n o [] e body = subst (IsSameBut m) e (record { body = ap (λ (k : ScoreMachine). k.part) e ∙ body; bounds = refl; made = refl })
+same_through m n o [] e body = subst (IsSameBut m) e (record { body = ap (λ (k : ScoreMachine). k.part) e ∙ body; contexts = refl; made = refl })
 same_through m n o (c ∷ cs) t body = grind (arith, same_through t.0 n o cs t.1.1 body)
 
 reported_alike : (a b : ScoreMachine) (told : BodyPart) (kept : List ℕ) → IsRunAlike a b → IsReportedBy a.body.nabc_lines a.body.macros a.limits.syllable told kept → IsReportedBy b.body.nabc_lines b.body.macros b.limits.syllable told kept

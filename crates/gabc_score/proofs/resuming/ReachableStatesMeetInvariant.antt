@@ -19,7 +19,7 @@ pub at_state : (P : ScoreStageState → Type 0) → ((m : ScoreMachine) → IsSc
 at_state P law s h = subst P h.shows (law h.machine h.rests)
 
 running : (m : ScoreMachine) → IsScore m → (m.part ≡ score_part.Body → length m.pair.gathered.made ≤ 1) → is_some (before_of (shown m)) ≡ true → IsRunning m
-running m rests few runs = let body = in_body_by m.part (before_with m.body m.bounds.before) runs in record { part = body; body = subst (λ (p : ScorePart). IsScoreAt p m) body rests; few = few body }
+running m rests few runs = let body = in_body_by m.part (before_with m.body m.pair.contexts.before) runs in record { part = body; body = subst (λ (p : ScorePart). IsScoreAt p m) body rests; few = few body }
 
 pub in_the_body : (P : ScoreStageState → Type 0) → ((m : ScoreMachine) → IsRunning m → P (shown m)) → (s : ScoreStageState) → IsReachable s → is_some (before_of s) ≡ true → P s
 in_the_body P law s h = subst (λ (s : ScoreStageState). is_some (before_of s) ≡ true → P s) h.shows (λ runs. law h.machine (running h.machine h.rests h.few runs))

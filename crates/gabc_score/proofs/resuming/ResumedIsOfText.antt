@@ -28,7 +28,7 @@ pub reported_again : (old m : ScoreMachine) (next : Place) → IsSameBut old m �
     → IsText (reading_of new) → ReportsText (shown old) → ReportsText new)
 reported_again old m next same run now is openers text told body =
     let t = told same.body in
-    record { counts = rw (run.limits, run.lines, run.macros, same.bounds) t.counts; next = is; openers = openers; reading = rw now at text; held = rw same.made t.held }
+    record { counts = rw (run.limits, run.lines, run.macros, same.contexts) t.counts; next = is; openers = openers; reading = rw now at text; held = rw same.made t.held }
 
 -- so it is if nothing was read yet
 pub reported_after : (limits : Limits) (before : Before) (s : ScoreStageState) → IsAfterSyllables limits before s → AreCountsWithin limits before.nabc_lines before.macros before.canonical → ReportsText s

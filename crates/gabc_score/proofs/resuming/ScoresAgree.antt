@@ -79,7 +79,7 @@ before_is_reported p q b c e f same = let some : Some b ≡ Some c = rw (e, f) a
 
 -- ---- two machines in the body
 
-module _ (again : Again) (a b : ScoreMachine) (ra : IsInBody a) (rb : IsInBody b) (same_limits : a.limits ≡ b.limits) (before : before_with a.body a.bounds.before ≡ before_with b.body b.bounds.before)
+module _ (again : Again) (a b : ScoreMachine) (ra : IsInBody a) (rb : IsInBody b) (same_limits : a.limits ≡ b.limits) (before : before_with a.body a.pair.contexts.before ≡ before_with b.body b.pair.contexts.before)
     (reading : a.pair.gathered.builder.kept ≡ b.pair.gathered.builder.kept) where
   same_lines : a.body.nabc_lines ≡ b.body.nabc_lines
   same_lines = ap (λ (k : Before). k.nabc_lines) before
@@ -87,7 +87,7 @@ module _ (again : Again) (a b : ScoreMachine) (ra : IsInBody a) (rb : IsInBody b
   same_macros : a.body.macros ≡ b.body.macros
   same_macros = ap (λ (k : Before). k.macros) before
 
-  same_before : a.bounds.before ≡ b.bounds.before
+  same_before : a.pair.contexts.before ≡ b.pair.contexts.before
   same_before = ap (λ (k : Before). preceding_of k) before
 
   other_keeps : PartKeeps a.body.nabc_lines a.body.macros b.body.part rb.reading.parts
@@ -102,11 +102,11 @@ module _ (again : Again) (a b : ScoreMachine) (ra : IsInBody a) (rb : IsInBody b
   pub bodies_keep : KeepTheSame a.body.nabc_lines a.body.macros a.body.part b.body.part
   bodies_keep = record { parts = ra.reading.parts; one = ra.reading.keeps; other = rw same_parts other_keeps }
 
-  module _ (next : a.next ≡ b.next) (alike : PendingAreEquivalent (a.bounds.before.syllables == 0) a.pair.gathered.made b.pair.gathered.made) where
-    after_same : with_each a.bounds.before a.pair.gathered.made ≡ with_each b.bounds.before b.pair.gathered.made
-    after_same = each_same a.bounds.before a.pair.gathered.made b.pair.gathered.made alike ∙ ap (λ (p : Preceding). with_each p b.pair.gathered.made) same_before
+  module _ (next : a.next ≡ b.next) (alike : PendingAreEquivalent (a.pair.contexts.before.syllables == 0) a.pair.gathered.made b.pair.gathered.made) where
+    after_same : with_each a.pair.contexts.before a.pair.gathered.made ≡ with_each b.pair.contexts.before b.pair.gathered.made
+    after_same = each_same a.pair.contexts.before a.pair.gathered.made b.pair.gathered.made alike ∙ ap (λ (p : Preceding). with_each p b.pair.gathered.made) same_before
 
-    same_spans : a.bounds.after.spans ≡ b.bounds.after.spans
+    same_spans : a.pair.contexts.after.spans ≡ b.pair.contexts.after.spans
     same_spans = ap (λ (p : Preceding). p.spans) (ra.after ∙ after_same ∙ sym rb.after)
 
     read_alike : ReadAlike a.pair.gathered b.pair.gathered
@@ -135,10 +135,10 @@ module _ (again : Again) (a b : ScoreMachine) (ra : IsInBody a) (rb : IsInBody b
         left : (m n : UnplacedSyllable) → AreMadeAlike m n (has_given a) a.pair.gathered.made b.pair.gathered.made → AreSameLists m n (left_of_one xs) (left_of_other xs)
         left m n made = rw (sym same_limits, sym next, sym lent_same, sym events) (left_same m n a.limits xs (running_events_left a.body (characters_in xs)) (held_score a) b.pair.gathered (aside m n made))
 
-        twins : (m n : UnplacedSyllable) → IsEquivalentSyllable (a.bounds.before.syllables == 0) m n → (not (has_given a) || m.text.word_start) ≡ (not (has_given a) || n.text.word_start)
-        twins m n s = rw (not_some a.bounds.before.syllables) s.starts
+        twins : (m n : UnplacedSyllable) → IsEquivalentSyllable (a.pair.contexts.before.syllables == 0) m n → (not (has_given a) || m.text.word_start) ≡ (not (has_given a) || n.text.word_start)
+        twins m n s = rw (not_some a.pair.contexts.before.syllables) s.starts
 
-        by : (ms ns : List UnplacedSyllable) → a.pair.gathered.made ≡ ms → b.pair.gathered.made ≡ ns → PendingAreEquivalent (a.bounds.before.syllables == 0) ms ns
+        by : (ms ns : List UnplacedSyllable) → a.pair.gathered.made ≡ ms → b.pair.gathered.made ≡ ns → PendingAreEquivalent (a.pair.contexts.before.syllables == 0) ms ns
             → GiveTheSame (held_in_body score_part.Body ms) (held_in_body score_part.Body ns) (left_of_one xs) (left_of_other xs)
         by [] [] e f h = lists_are dummy _ _ (left dummy dummy (inl (f ∙ sym e)))
         by (m ∷ []) (n ∷ []) e f h = left m n (inr (record { rest = []; one = e; other = f; twins = twins m n h.1.1 }))

@@ -48,13 +48,13 @@ turned one other none others alike = record {
 
 module _ (again : Again) where
   module _ (a b : ScoreMachine) (ra : IsRunning a) (rb : IsRunning b) (alike : AreEquivalent (shown a) (shown b)) where
-    before : before_with a.body a.bounds.before ≡ before_with b.body b.bounds.before
-    before = before_is_reported a.part b.part (before_with a.body a.bounds.before) (before_with b.body b.bounds.before) ra.part rb.part alike.before
+    before : before_with a.body a.pair.contexts.before ≡ before_with b.body b.pair.contexts.before
+    before = before_is_reported a.part b.part (before_with a.body a.pair.contexts.before) (before_with b.body b.pair.contexts.before) ra.part rb.part alike.before
 
     reading : a.pair.gathered.builder.kept ≡ b.pair.gathered.builder.kept
     reading = rw (ra.part, rb.part) at alike.reading
 
-    held : PendingAreEquivalent (a.bounds.before.syllables == 0) a.pair.gathered.made b.pair.gathered.made
+    held : PendingAreEquivalent (a.pair.contexts.before.syllables == 0) a.pair.gathered.made b.pair.gathered.made
     held = (ra.few, (rb.few, rw (ra.part, rb.part) at alike.held))
 
     -- they give the same if their bodies emit the same
@@ -68,7 +68,7 @@ module _ (again : Again) where
       fronts_give xs line =
           given_alike xs
           (fronts_emit law a.body b.body (ap (λ (k : Before). k.nabc_lines) before) (ap (λ (k : Before). k.macros) before) front
-          (nothing_kept b.body.nabc_lines b.body.macros b.body.part b.bounds.after.spans b.pair.gathered rb.body.reading (sym reading ∙ nothing))
+          (nothing_kept b.body.nabc_lines b.body.macros b.body.part b.pair.contexts.after.spans b.pair.gathered rb.body.reading (sym reading ∙ nothing))
           comment b.next xs alike.other_stands (subst (λ (p : Place). AreInLine p xs) alike.next line))
         where
           nothing : a.pair.gathered.builder.kept ≡ []

@@ -18,7 +18,7 @@ use Rattle.gabc_body.specs.witness.BodyBuilder.{code_in}
 use Rattle.gabc_body.specs.witness.Gatherer.{Gathered}
 use Rattle.gabc_score.specs.machine.PartCounts.{CountsHold}
 use Rattle.gabc_score.specs.machine.PartKeeps.{in_text, IsReading, PartKeeps}
-use Rattle.gabc_score.specs.machine.Preceded.{IsPreceded}
+use Rattle.gabc_score.specs.machine.Preceded.{IsPreceded, none_pending}
 use Rattle.gabc_score.specs.machine.ScoreMachine.{IsInBody, IsShort}
 use Rattle.gabc_score.specs.machine.SlotPair.{SlotPairState, is_made}
 use Rattle.gabc_body.specs.witness.SyllableBuilder.{OpenSyllable, nothing_open}
@@ -41,10 +41,10 @@ module _ (m : ScoreMachine) (rests : IsInBody m) (p : Preceding) (some : 1 ≤ p
   reads_next lines macros b keeps = grind arith
 
   -- It rests, whatever slots it has, in which this is gathered.
-  pub rests_next : (pair : SlotPairState) (body : BodyStageState) (next at : Place) → pair.gathered ≡ before_last m p → is_made pair.used ≡ false → body ≡ record m.body { part = Text (fresh_stage at) }
+  pub rests_next : (pair : SlotPairState) (body : BodyStageState) (next at : Place) → pair.gathered ≡ before_last m p → pair.contexts ≡ none_pending p → is_made pair.used ≡ false → body ≡ record m.body { part = Text (fresh_stage at) }
       → CountsHold body.part nothing_open → ((lines macros : ℕ) → PartKeeps lines macros body.part (in_text []))
-      → IsInBody (record m { pair = pair; bounds = record { before = p; after = p }; body = body; next = next })
-  rests_next pair body next at is used text counts keeps = record {
+      → IsInBody (record m { pair = pair; body = body; next = next })
+  rests_next pair body next at is there used text counts keeps = record {
     rests = record {
       none = rests.rests.none;
       room = rests.rests.room;
@@ -55,12 +55,12 @@ module _ (m : ScoreMachine) (rests : IsInBody m) (p : Preceding) (some : 1 ≤ p
     };
     counts = subst (CountsHold body.part) (sym (ap (λ (g : Gathered). g.builder) is ∙ nothing)) counts;
     kept = (let k = ap (λ (g : Gathered). length g.builder.kept) is ∙ ap (λ (o : OpenSyllable). length o.kept) nothing in omega (arith, k));
-    preceded = subst (IsPreceded p) (sym is) preceded_next;
-    after = ap (λ (g : Gathered). with_each p g.made) (sym is);
+    preceded = rw there (subst (IsPreceded p) (sym is) preceded_next);
+    after = rw there (ap (λ (g : Gathered). with_each p g.made) (sym is));
     code = ap (code_in m.limits) is ∙ none_passed m.limits (before_last m p) (record { kept = (let k = ap (λ (o : OpenSyllable). length o.kept) nothing in omega (arith, k)); over = rests.rests.over; file = λ some. absurd (cc some) });
-    reading = subst (IsReading body.nabc_lines body.macros body.part p.spans) (sym is)
-        (reads_next body.nabc_lines body.macros body.part (keeps body.nabc_lines body.macros));
-    units = none_held body.nabc_lines p pair.gathered.made (ap (λ (g : Gathered). g.made) is);
-    within = within_none m.limits p pair.gathered outset_next (ap (λ (g : Gathered). g.made) is);
+    reading = rw there (subst (IsReading body.nabc_lines body.macros body.part p.spans) (sym is)
+        (reads_next body.nabc_lines body.macros body.part (keeps body.nabc_lines body.macros)));
+    units = none_held body.nabc_lines pair.contexts.before pair.gathered.made (ap (λ (g : Gathered). g.made) is);
+    within = rw there (within_none m.limits p pair.gathered outset_next (ap (λ (g : Gathered). g.made) is));
     front = λ e. absurd (true≢false (sym e ∙ ap (λ (b : BodyStageState). is_in_front b.part) text));
   }

@@ -21,6 +21,7 @@ use Rattle.gabc_body.specs.witness.Gatherer.{Gathered}
 use Rattle.gabc_score.specs.machine.PartCounts.{CountsHold}
 use Rattle.gabc_score.specs.machine.PartKeeps.{in_text, PartKeeps}
 use Rattle.gabc_score.specs.machine.PartOnly.{HasText, HoldsTexts}
+use Rattle.gabc_score.specs.machine.Preceded.{Contexts}
 use Rattle.gabc_score.specs.machine.ReadAlone.{is_alone, lists_from, HasRead}
 use Rattle.gabc_score.specs.machine.Run.{GoesBefore, IsFound, RunsBefore, IsBetweenSyllables}
 use Rattle.gabc_score.specs.machine.ScoreMachine.{IsInBody, IsScoreAt}
@@ -35,10 +36,16 @@ use Rattle.gabc_body.proofs.units.CanonicalTextIsText.{nothing_plain}
 
 module _ (m : ScoreMachine) (at : Place) (t : List ℕ) (given : List PlacedSyllable) (starts : Bool) (p : Preceding) (next : Place) (runs : RunsBefore m at t given starts p next)
     (stands : IsBetweenSyllables m at) (f : Found) (on : ScoreMachine) (goes : GoesBefore m p next on) where
+  some_before : nat_lt 0 p.syllables ≡ true
+  some_before = let s = runs.some in grind (arith, nat_tests, s)
+
+  gathered_there : on.pair.gathered ≡ before_last m p
+  gathered_there = goes.gathered ∙ ap (λ b. record (before_last m p) { follows = b }) (some_before ∙ sym stands.between.follows)
+
   -- it rests there
   pub rests_there : IsInBody on
   rests_there = subst IsInBody (sym goes.is)
-      (rests_next m stands.rests p runs.some runs.sounded stands.between.nothing stands.between.follows on.pair on.body next next goes.gathered (ap is_made goes.used) goes.body goes.counts goes.keeps)
+      (rests_next m stands.rests p runs.some runs.sounded stands.between.nothing stands.between.follows on.pair on.body next next gathered_there goes.contexts (ap is_made goes.used) goes.body goes.counts goes.keeps)
 
   limits_there : on.limits ≡ m.limits
   limits_there = ap (λ (n : ScoreMachine). n.limits) goes.is
@@ -47,12 +54,12 @@ module _ (m : ScoreMachine) (at : Place) (t : List ℕ) (given : List PlacedSyll
   lists_are = ap (λ (b : BodyStageState). take (length (chars f.spelled.now)) (running_events_left b (placed_characters_from next (chars f.spelled.now)))) goes.body
 
   texts_there : HoldsTexts on.pair.gathered
-  texts_there = subst HoldsTexts (sym goes.gathered) (subst IsText (sym (ap (λ (o : OpenSyllable). o.kept) stands.between.nothing)) nothing_plain, All-nil HasText)
+  texts_there = subst HoldsTexts (sym gathered_there) (subst IsText (sym (ap (λ (o : OpenSyllable). o.kept) stands.between.nothing)) nothing_plain, All-nil HasText)
 
   module _ (ends : EndsWith m at t given p f next) where
     -- the syllable is whole with its last character
     pub is_alone_there : is_alone on.limits on.pair.gathered (lists_from on next (chars f.spelled.now)) ≡ true
-    is_alone_there = grind (arith, limits_there, lists_are)
+    is_alone_there = grind (arith, limits_there, lists_are, gathered_there)
 
     module _ (found : IsFound m.body.nabc_lines m.limits p.canonical f) (read : ScoreMachine) (has : HasRead on read (lists_from on next (chars f.spelled.now)))
         (was : IsScoreAt read.part read) (texts : IsText f.spelled.now → HoldsTexts on.pair.gathered → HoldsTexts read.pair.gathered)
@@ -62,13 +69,13 @@ module _ (m : ScoreMachine) (at : Place) (t : List ℕ) (given : List PlacedSyll
       then = record read { body = body; next = place_past next (chars f.spelled.now) }
 
       gathered_is : read.pair.gathered ≡ gathered_with (before_last m p) ends.made
-      gathered_is = grind (arith, lists_are)
+      gathered_is = grind (arith, lists_are, gathered_there)
 
       nothing : read.pair.gathered.builder ≡ nothing_open
       nothing = ap (λ (g : Gathered). g.builder) gathered_is
 
-      before_is : read.bounds.before ≡ p
-      before_is = has.before ∙ ap (λ (n : ScoreMachine). n.bounds.before) goes.is
+      before_is : read.pair.contexts.before ≡ p
+      before_is = has.before ∙ ap (λ (k : Contexts). k.before) goes.contexts
 
       rested : IsInBody read
       rested = subst (λ (q : ScorePart). IsScoreAt q read) has.part was
@@ -88,7 +95,7 @@ module _ (m : ScoreMachine) (at : Place) (t : List ℕ) (given : List PlacedSyll
         preceded = rested.preceded;
         after = rested.after;
         code = rested.code;
-        reading = begins_again _ _ read.body.part body.part read.bounds.after.spans read.pair.gathered (rw (lines_are, macros_are) rested.reading) nothing (keeps _ _);
+        reading = begins_again _ _ read.body.part body.part read.pair.contexts.after.spans read.pair.gathered (rw (lines_are, macros_are) rested.reading) nothing (keeps _ _);
         units = rw lines_are rested.units;
         within = rested.within;
         front = λ e. absurd (true≢false (sym e ∙ ap (λ (b : BodyStageState). is_in_front b.part) begins));
@@ -108,9 +115,6 @@ module _ (m : ScoreMachine) (at : Place) (t : List ℕ) (given : List PlacedSyll
         at = refl;
         gathered = gathered_is;
         before = before_is;
-        lent = ap (λ (q : Preceding). nat_lt 0 q.syllables) before_is ∙ some;
+        lent = ap (λ (q : Preceding). nat_lt 0 q.syllables) before_is ∙ some_before;
         texts = texts spelled_is_text texts_there;
       }
-        where
-          some : nat_lt 0 p.syllables ≡ true
-          some = let s = runs.some in grind (arith, nat_tests, s)

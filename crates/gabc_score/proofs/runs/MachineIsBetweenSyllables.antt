@@ -20,15 +20,15 @@ stands_between m at x part rests made kept begins = record {
   rests = rests;
   begins = begins;
   between = record {
-    nothing = (nothing_alike m.body.nabc_lines m.body.macros m.body.part m.bounds.after.spans m.pair.gathered rests.reading kept).builder;
+    nothing = (nothing_alike m.body.nabc_lines m.body.macros m.body.part m.pair.contexts.after.spans m.pair.gathered rests.reading kept).builder;
     limit = rests.rests.limit;
     few = (let n = ap (λ (ms : List UnplacedSyllable). length ms) made in omega (arith, n));
-    follows = rests.preceded.follows ∙ ap (λ (ms : List UnplacedSyllable). nat_lt 0 (with_each m.bounds.before ms).syllables) made ∙ some;
+    follows = rests.preceded.follows ∙ ap (λ (ms : List UnplacedSyllable). nat_lt 0 (with_each m.pair.contexts.before ms).syllables) made ∙ some;
     over = rests.rests.over;
     total = (let low = rests.within.file (ap is_none made) in omega (arith, low));
   };
   one = ap (λ (ms : List UnplacedSyllable). length ms) made;
 }
   where
-    some : nat_lt 0 (with_one m.bounds.before x).syllables ≡ true
+    some : nat_lt 0 (with_one m.pair.contexts.before x).syllables ≡ true
     some = grind (arith, nat_tests)

@@ -6,7 +6,7 @@ use Rattle.gabc_score.specs.machine.Run.{IsBetweenSyllables}
 use Rattle.gabc_score.specs.machine.ScoreMachine.{IsInBody}
 use Rattle.gabc_score.specs.machine.SlotPair.{SlotPairState, is_made}
 
-module _ (m : ScoreMachine) (pair : SlotPairState) (gathered : pair.gathered ≡ m.pair.gathered) (used : is_made pair.used ≡ false) where
+module _ (m : ScoreMachine) (pair : SlotPairState) (gathered : pair.gathered ≡ m.pair.gathered) (contexts : pair.contexts ≡ m.pair.contexts) (used : is_made pair.used ≡ false) where
   -- it rests
   moved_rests : IsInBody m → IsInBody (record m { pair = pair })
   moved_rests rests = grind arith

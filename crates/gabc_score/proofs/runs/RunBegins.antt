@@ -26,25 +26,25 @@ held_of (m ∷ []) e = (m, refl)
 held_of (m ∷ n ∷ made) e = absurd (omega (arith, e))
 
 module _ (m : ScoreMachine) (at : Place) (held : UnplacedSyllable) (stands : IsBetweenSyllables m at) (one : m.pair.gathered.made ≡ held ∷ []) where
-  after_is : m.bounds.after ≡ with_one m.bounds.before held
-  after_is = stands.rests.after ∙ ap (with_each m.bounds.before) one
+  after_is : m.pair.contexts.after ≡ with_one m.pair.contexts.before held
+  after_is = stands.rests.after ∙ ap (with_each m.pair.contexts.before) one
 
-  total_is : m.pair.gathered.total ≡ m.bounds.after.canonical
+  total_is : m.pair.gathered.total ≡ m.pair.contexts.after.canonical
   total_is = stands.rests.preceded.total ∙ ap (λ (p : Preceding). p.canonical) (sym stands.rests.after)
 
-  sounded_is : is_some m.pair.gathered.first_kind ≡ m.bounds.after.sounded
+  sounded_is : is_some m.pair.gathered.first_kind ≡ m.pair.contexts.after.sounded
   sounded_is = grind (arith, or-false)
 
-  alike : ReadAlike m.pair.gathered (begun m.bounds.after.spans)
-  alike = nothing_alike m.body.nabc_lines m.body.macros m.body.part m.bounds.after.spans m.pair.gathered stands.rests.reading (ap (λ (o : OpenSyllable). o.kept) stands.between.nothing)
+  alike : ReadAlike m.pair.gathered (begun m.pair.contexts.after.spans)
+  alike = nothing_alike m.body.nabc_lines m.body.macros m.body.part m.pair.contexts.after.spans m.pair.gathered stands.rests.reading (ap (λ (o : OpenSyllable). o.kept) stands.between.nothing)
 
-  gathered_is : m.pair.gathered ≡ record m.pair.gathered { made = held ∷ []; total = m.bounds.after.canonical; eu = m.bounds.after.spans.eu; nlba = m.bounds.after.spans.nlba }
+  gathered_is : m.pair.gathered ≡ record m.pair.gathered { made = held ∷ []; total = m.pair.contexts.after.canonical; eu = m.pair.contexts.after.spans.eu; nlba = m.pair.contexts.after.spans.nlba }
   gathered_is =
       ap (λ (ms : List UnplacedSyllable). record m.pair.gathered { made = ms }) one ∙ ap (λ n. record m.pair.gathered { made = held ∷ []; total = n }) total_is
-      ∙ ap₂ (λ a b. record m.pair.gathered { made = held ∷ []; total = m.bounds.after.canonical; eu = a; nlba = b }) alike.eu alike.nlba
+      ∙ ap₂ (λ a b. record m.pair.gathered { made = held ∷ []; total = m.pair.contexts.after.canonical; eu = a; nlba = b }) alike.eu alike.nlba
 
   -- nothing is read yet, and it is given
-  pub run_begins : (starts : Bool) → RunsBefore m at [] (record { made = held; position = position_by (not (has_given m) || held.text.word_start) starts } ∷ []) starts m.bounds.after at
+  pub run_begins : (starts : Bool) → RunsBefore m at [] (record { made = held; position = position_by (not (has_given m) || held.text.word_start) starts } ∷ []) starts m.pair.contexts.after at
   run_begins starts = record {
     held = held;
     s = held_score m;

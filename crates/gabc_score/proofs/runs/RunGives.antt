@@ -61,7 +61,7 @@ pub record HoldsLast (m : ScoreMachine) (p : Preceding) (next : Place) (made : U
   pub macros : after.body.macros ≡ m.body.macros
   pub at : after.next ≡ next
   pub gathered : after.pair.gathered ≡ gathered_with (before_last m p) made
-  pub before : after.bounds.before ≡ p
+  pub before : after.pair.contexts.before ≡ p
   pub lent : has_given after ≡ true
   pub texts : HoldsTexts after.pair.gathered
 
@@ -119,7 +119,7 @@ module _ (m : ScoreMachine) (at : Place) (t : List ℕ) (given : List PlacedSyll
         counts = record {
           few_lines = subst (λ (n : ℕ). n ≤ 4) (sym held.lines) was.counts.few_lines;
           ten_macros = subst (λ (n : ℕ). n < 1024) (sym held.macros) was.counts.ten_macros;
-          headers = subst (λ (q : Preceding). 2 ≤ q.canonical) (sym (held.before ∙ runs.before)) (more 2 m.bounds.before (map (λ (s : PlacedSyllable). s.made) given) (omega arith) was.counts.headers);
+          headers = subst (λ (q : Preceding). 2 ≤ q.canonical) (sym (held.before ∙ runs.before)) (more 2 m.pair.contexts.before (map (λ (s : PlacedSyllable). s.made) given) (omega arith) was.counts.headers);
           below = (let b = ap (λ (q : Preceding). q.canonical) held.before in let l = ap (λ l. l.input) held.limits in omega (arith, b, l, input));
         };
         next = place_is (subst IsPlace (sym here) was.next);

@@ -26,6 +26,7 @@ use Rattle.gabc_body.specs.witness.Gatherer.{Gathered}
 use Rattle.gabc_score.specs.machine.PartCounts.{CountsHold}
 use Rattle.gabc_score.specs.machine.PartKeeps.{in_text, PartKeeps}
 use Rattle.gabc_score.specs.machine.PartOnly.{HoldsTexts}
+use Rattle.gabc_score.specs.machine.Preceded.{Contexts}
 use Rattle.gabc_score.specs.machine.ReadAlone.{is_alone, lists_from, HasRead}
 use Rattle.gabc_score.specs.machine.Run.{GoesBefore, IsFound, IsSamePair, KeepsFirstSound, IsBetweenSyllables, RunsBefore, RunsTo, before_in}
 use Rattle.gabc_score.specs.machine.ScoreMachine.{has_given, shown, IsInBody, IsScoreAt}
@@ -73,10 +74,10 @@ abbrev pub placed_first : ScoreMachine → UnplacedSyllable → Bool → PlacedS
 placed_first m x starts = record { made = x; position = position_by (not (has_given m) || x.text.word_start) starts }
 
 module _ (m : ScoreMachine) (at : Place) (text : List ℕ) (first : Found) (stands : IsBetweenSyllables m at)
-    (found : IsFound m.body.nabc_lines m.limits m.bounds.after.canonical first) (steady : KeepsFirstSound m.body.nabc_lines m.pair.gathered.first_kind found.is.syllable) (is : text ≡ first.spelled.now ++ first.rest.now)
+    (found : IsFound m.body.nabc_lines m.limits m.pair.contexts.after.canonical first) (steady : KeepsFirstSound m.body.nabc_lines m.pair.gathered.first_kind found.is.syllable) (is : text ≡ first.spelled.now ++ first.rest.now)
     (line : at.line + length text < 2 ^ 63) (column : at.column + length text < 2 ^ 63) where
   abbrev pub reached_first : Reached
-  reached_first = record { last = first; count = 0; canonical = m.bounds.after.canonical; spans = m.bounds.after.spans }
+  reached_first = record { last = first; count = 0; canonical = m.pair.contexts.after.canonical; spans = m.pair.contexts.after.spans }
 
   -- the held syllable
   abbrev held_first : (x : UnplacedSyllable) × (m.pair.gathered.made ≡ x ∷ [])
@@ -85,19 +86,20 @@ module _ (m : ScoreMachine) (at : Place) (text : List ℕ) (first : Found) (stan
   abbrev pub given_first : List PlacedSyllable
   given_first = placed_first m held_first.0 (nat_lt 0 first.gap) ∷ []
 
-  run_from : (pair : SlotPairState) → pair.gathered ≡ m.pair.gathered → is_made pair.used ≡ false → RunsTo (record m { pair = pair }) at text given_first reached_first
-  run_from pair gathered used =
-      let there = moved_stands m pair gathered used at stands in
+  run_from : (slots : SlotPairState) → slots.gathered ≡ m.pair.gathered → is_made slots.used ≡ false → RunsTo (record m { pair = record slots { contexts = m.pair.contexts } }) at text given_first reached_first
+  run_from slots gathered used =
+      let pair = record slots { contexts = m.pair.contexts } in
+      let there = moved_stands m pair gathered refl used at stands in
       let begins = run_begins (record m { pair = pair }) at held_first.0 there (ap (λ (g : Gathered). g.made) gathered ∙ held_first.1) (nat_lt 0 first.gap) in
-      let first_before : before_in m reached_first ≡ m.bounds.after =
-      ap (λ n. record { syllables = n; canonical = m.bounds.after.canonical; spans = m.bounds.after.spans; sounded = m.bounds.after.sounded })
+      let first_before : before_in m reached_first ≡ m.pair.contexts.after =
+      ap (λ n. record { syllables = n; canonical = m.pair.contexts.after.canonical; spans = m.pair.contexts.after.spans; sounded = m.pair.contexts.after.sounded })
       (let e = ap (λ (p : Preceding). p.syllables) begins.before in omega (arith, e)) in
       record {
         stands = there;
         bytes = [];
         utf8 = IsUtf8-nil;
         runs = subst (λ (p : Preceding). RunsBefore (record m { pair = pair }) at (chars []) given_first (nat_lt 0 first.gap) p (place_past at (chars []))) (sym first_before)
-            (subst (λ (t : List ℕ). RunsBefore (record m { pair = pair }) at t given_first (nat_lt 0 first.gap) m.bounds.after (place_past at t)) (sym chars-nil) begins);
+            (subst (λ (t : List ℕ). RunsBefore (record m { pair = pair }) at t given_first (nat_lt 0 first.gap) m.pair.contexts.after (place_past at t)) (sym chars-nil) begins);
         found = found;
         steady = subst (λ (g : Gathered). KeepsFirstSound m.body.nabc_lines g.first_kind found.is.syllable) (sym gathered) steady;
         text_is = is;
@@ -107,7 +109,7 @@ module _ (m : ScoreMachine) (at : Place) (text : List ℕ) (first : Found) (stan
 
   -- a run has given the syllable held before, and has reached the first one that was found
   pub run_to_first : (new : ScoreMachine) → IsSamePair m new → RunsTo new at text given_first reached_first
-  run_to_first new same = subst (λ (n : ScoreMachine). RunsTo n at text given_first reached_first) (sym same.is) (run_from new.pair same.gathered (ap is_made same.used))
+  run_to_first new same = subst (λ (n : ScoreMachine). RunsTo n at text given_first reached_first) (sym (same.is ∙ ap (λ (k : Contexts). record m { pair = record new.pair { contexts = k } }) same.contexts)) (run_from new.pair same.gathered (ap is_made same.used))
 
 -- ---- the text of a run
 

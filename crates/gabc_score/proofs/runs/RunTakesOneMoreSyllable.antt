@@ -140,7 +140,7 @@ module _ (m : ScoreMachine) (at : Place) (t : List ℕ) (given : List PlacedSyll
         let sounded : (p.sounded || sounds one) ≡ p.sounded = subst (λ b. SoundsNoMore b (sounds one)) runs.sounded (steady_one m.pair.gathered refl) in
         rw (none_first, size, low, eu_is, nlba_is, sounded) refl
 
-    before_is : (placed : PlacedSyllable) → placed.made ≡ one → past_found p f ≡ with_placed m.bounds.before (given ++ placed ∷ [])
+    before_is : (placed : PlacedSyllable) → placed.made ≡ one → past_found p f ≡ with_placed m.pair.contexts.before (given ++ placed ∷ [])
     before_is placed is = grind (arith, preceding_is, each_then, map-append)
 
     goes_on_by : (begins : Bool) → GoesOnWith m at t given p f r begins

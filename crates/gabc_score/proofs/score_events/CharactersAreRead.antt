@@ -12,7 +12,6 @@ use Rattle.gabc_places.specs.declared.place.Place.{Place}
 use Rattle.gabc_headers.specs.declared.head_event.HeadEvent.{HeadEvent}
 use Rattle.gabc_headers.specs.declared.head_event.HeadEvent.TheVariants as head_event
 use Rattle.gabc_score.specs.declared.preceding.Preceding.{Preceding}
-use Rattle.gabc_score.specs.declared.bounds.Bounds.{Bounds}
 use Rattle.gabc_body.specs.declared.events.BodyEvent.{BodyEvent}
 use Rattle.gabc_score.specs.declared.score_event.ScoreEvent.{ScoreEvent}
 use Rattle.gabc_score.specs.declared.score_machine.ScoreMachine.{ScoreMachine}
@@ -33,8 +32,8 @@ use Rattle.gabc_body.specs.witness.Gatherer.{Gathered}
 use Rattle.gabc_score.specs.machine.HeldWithin.{HoldsWithin}
 use Rattle.gabc_score.specs.machine.PartCounts.{CountsHold}
 use Rattle.gabc_score.specs.machine.PartOnly.{HoldsTexts, kept_codes}
-use Rattle.gabc_score.specs.machine.Preceded.{IsPreceded, past_point}
-use Rattle.gabc_score.specs.machine.ReadsChar.{Gathers, Passes, ReadsChar, StopsWith, found_past, past_char, stops, goes}
+use Rattle.gabc_score.specs.machine.Preceded.{Contexts, IsPreceded, past_point}
+use Rattle.gabc_score.specs.machine.ReadsChar.{Gathers, GivesPoint, Passes, ReadsChar, StopsWith, found_past, past_char, stops, goes}
 use Rattle.gabc_score.specs.machine.ScoreMachine.{has_given, IsInBody, IsScore, IsScoreAt, IsShort, held_score, shown}
 use Rattle.gabc_score.specs.machine.ScoreStage.{body_left, left_by, placed_after, with_held}
 use Rattle.gabc_score.specs.machine.SlotPair.{SlotPairState, is_made}
@@ -77,11 +76,10 @@ module _ {m : ScoreMachine} {x : Char} {b : BodyStageState} {p : SlotPairState} 
   found_is =
       rw (← a.gathered, a.found, h.rests.none) refl
 
--- past a point a syllable has become whole or not, and the one held before was given or not
-pub record HasTurned (p : SlotPairState) (whole gave : Bool) (q : SlotPairState) : Type 0 where
-  pub whole_is : whole ≡ nat_lt (length p.held) (length p.gathered.made)
-  pub gave_is : gave ≡ nat_lt 1 (length p.gathered.made)
+-- the slots past a point: of the whole syllables the last is pending, and the contexts are its
+pub record HasTurned (p q : SlotPairState) : Type 0 where
   pub gathered : q.gathered ≡ with_held p.gathered
+  pub contexts : q.contexts ≡ past_point (nat_lt (length p.held) (length p.gathered.made)) (nat_lt 1 (length p.gathered.made)) p.contexts p.gathered
   pub used : is_made q.used ≡ false
 
 -- ---- a character
@@ -109,6 +107,7 @@ module _ {m : ScoreMachine} {x : Char} {b : BodyStageState} {p : SlotPairState} 
     gives_stop : GivesAt (shown m) (head_event.Body x) (shown n) old new
     gives_stop =
         let fault = fault_at x.place code in
+        let s = subst (λ (k : Contexts). StopsWith (record m { body = b; pair = record p { contexts = k }; found = found_past m x p f }) fault n old new) a.contexts s in
         let given = outputs_of [] (placed_after (has_given m) p.held) in
         gives_outside (given ++ Stop fault ∷ []) (λ is. absurd (cc (is, s.part))) (λ heads. absurd (cc (heads, body))) (record {
           lends = held_lends m.limits 1 (has_given m) p.held was.made (Stop fault ∷ []) refl a.held h.rests.short s.few (omega arith);
@@ -125,30 +124,35 @@ module _ {m : ScoreMachine} {x : Char} {b : BodyStageState} {p : SlotPairState} 
 
   -- ---- none is passed
 
-  module _ {whole gave : Bool} {q : SlotPairState} (none_now : code_in m.limits p.gathered ≡ None) (u : HasTurned p whole gave q) where
+  module _ {q : SlotPairState} (none_now : code_in m.limits p.gathered ≡ None) (u : HasTurned p q) where
     abbrev g : Gathered
     g = p.gathered
 
     abbrev lent : List PlacedSyllable
     lent = take (length g.made - 1) (placed_after (has_given m) g.made)
 
-    abbrev bounds : Bounds
-    bounds = past_point whole gave m.bounds q.gathered
+    -- a syllable has become whole
+    abbrev whole : Bool
+    whole = nat_lt (length p.held) (length g.made)
 
-    turns : Turns m.bounds g (has_given m) whole gave
-    turns = rw a.gathered (turned m.bounds was now h.preceded h.after (closes_last a.steps.0 a.steps.1) a.one (has_given m) whole gave (rw (a.held, a.gathered) at u.whole_is) (rw a.gathered at u.gave_is))
+    -- the one pending before was given
+    abbrev gave : Bool
+    gave = nat_lt 1 (length g.made)
 
-    passed : bounds ≡ past_point whole gave m.bounds g
-    passed = ap (past_point whole gave m.bounds) u.gathered
+    turns : Turns m.pair.contexts g (has_given m) whole gave
+    turns = rw a.gathered (turned m.pair.contexts was now h.preceded h.after (closes_last a.steps.0 a.steps.1) a.one (has_given m) (nat_lt (length p.held) (length (with_all was now).made)) (nat_lt 1 (length (with_all was now).made)) (ap (λ (ms : List UnplacedSyllable). nat_lt (length ms) (length (with_all was now).made)) a.held) refl)
 
-    pub before_is : bounds.before ≡ with_placed m.bounds.before lent
-    before_is = ap (λ (k : Bounds). k.before) passed ∙ turns.given
+    passed : q.contexts ≡ past_point whole gave m.pair.contexts g
+    passed = u.contexts ∙ ap (λ (k : Contexts). past_point whole gave k g) a.contexts
+
+    pub before_is : q.contexts.before ≡ with_placed m.pair.contexts.before lent
+    before_is = ap (λ (k : Contexts). k.before) passed ∙ turns.given
 
     none : code_in m.limits (with_all was now) ≡ None
     none = sym (ap (code_in m.limits) a.gathered) ∙ none_now
 
     short : All (IsShort m.limits.syllable) g.made
-    short = rw a.gathered (within_now m.limits m.bounds.before was now h.rests.limit h.rests.over h.preceded.follows h.within.written h.rests.short none).1
+    short = rw a.gathered (within_now m.limits m.pair.contexts.before was now h.rests.limit h.rests.over h.preceded.follows h.within.written h.rests.short none).1
 
     lines : b.nabc_lines ≡ m.body.nabc_lines
     lines = ap (λ (k : BodyStageState). k.nabc_lines) a.body
@@ -156,17 +160,17 @@ module _ {m : ScoreMachine} {x : Char} {b : BodyStageState} {p : SlotPairState} 
     macros : b.macros ≡ m.body.macros
     macros = ap (λ (k : BodyStageState). k.macros) a.body
 
-    preceded : IsPreceded bounds.before q.gathered
-    preceded = subst (IsPreceded bounds.before) (sym u.gathered) (subst (λ (k : Bounds). IsPreceded k.before (with_held g)) (sym passed) turns.preceded)
+    preceded : IsPreceded q.contexts.before q.gathered
+    preceded = subst (IsPreceded q.contexts.before) (sym u.gathered) (subst (λ (k : Contexts). IsPreceded k.before (with_held g)) (sym passed) turns.preceded)
 
-    held_within : HoldsWithin m.limits bounds.before q.gathered
-    held_within = within_past m.limits m.bounds.before bounds.before (has_given m) was g q.gathered now h.rests.limit h.rests.over h.preceded.follows h.within h.rests.short a.gathered none before_is u.gathered
+    held_within : HoldsWithin m.limits q.contexts.before q.gathered
+    held_within = within_past m.limits m.pair.contexts.before q.contexts.before (has_given m) was g q.gathered now h.rests.limit h.rests.over h.preceded.follows h.within h.rests.short a.gathered none before_is u.gathered
 
     -- the kept text is short enough to be counted
     counted : length was.builder.kept < 2 ^ 64
     counted = let few = h.kept in let most = m.limits.in_range.syllable_most in omega (arith, few, most)
 
-    pub rests_past : (r : BoundedList Finding) (next : Place) → r.items ≡ [] → 9 ≤ r.limit → IsInBody (record (past_char m x b whole gave q r) { next = next })
+    pub rests_past : (r : BoundedList Finding) (next : Place) → r.items ≡ [] → 9 ≤ r.limit → IsInBody (record (past_char m x b q r) { next = next })
     rests_past r next empty room = record {
       rests = record {
         none = empty;
@@ -179,22 +183,26 @@ module _ {m : ScoreMachine} {x : Char} {b : BodyStageState} {p : SlotPairState} 
       counts = subst (λ (k : Gathered). CountsHold b.part k.builder) (sym (u.gathered ∙ ap with_held a.gathered)) ((counts_go_on a.steps.0 a.steps.1).counts was h.counts);
       kept = rw (ap (λ (k : Gathered). k.builder.kept) u.gathered) (let kept = (is_within m.limits g none_now).kept in let limit = limit_gathered h a in omega (arith, kept, limit));
       preceded = preceded;
-      after = ap (λ (k : Bounds). k.after) passed ∙ turns.after ∙ ap (λ (k : Bounds). with_each k.before (with_held g).made) (sym passed) ∙ ap (λ (k : Gathered). with_each bounds.before k.made) (sym u.gathered);
+      after = ap (λ (k : Contexts). k.after) passed ∙ turns.after ∙ ap (λ (k : Contexts). with_each k.before (with_held g).made) (sym passed) ∙ ap (λ (k : Gathered). with_each q.contexts.before k.made) (sym u.gathered);
       code = ap (code_in m.limits) u.gathered ∙ code_turned m.limits g none_now;
-      reading = reading_past m.body.nabc_lines m.body.macros b.nabc_lines b.macros m.body.part b.part m.bounds bounds was g q.gathered now whole gave counted a.gathered u.gathered
-          (u.whole_is ∙ ap (λ (ms : List UnplacedSyllable). nat_lt (length ms) (length g.made)) a.held) passed lines macros (keeps_on a.steps.0) h.reading;
-      units = units_past m.body.nabc_lines m.body.macros b.nabc_lines m.body.part m.bounds.before bounds.before m.bounds.after.spans (has_given m) was g q.gathered now counted a.gathered u.gathered lines
+      reading = reading_past m.body.nabc_lines m.body.macros b.nabc_lines b.macros m.body.part b.part m.pair.contexts q.contexts was g q.gathered now whole gave counted a.gathered u.gathered
+          (ap (λ (ms : List UnplacedSyllable). nat_lt (length ms) (length g.made)) a.held) passed lines macros (keeps_on a.steps.0) h.reading;
+      units = units_past m.body.nabc_lines m.body.macros b.nabc_lines m.body.part m.pair.contexts.before q.contexts.before m.pair.contexts.after.spans (has_given m) was g q.gathered now counted a.gathered u.gathered lines
           (ap (λ (k : Preceding). k.spans) h.after) before_is (makes a.steps.0) h.reading h.units;
       within = held_within;
-      front = front_past m.body.part b.part m.bounds.before bounds.before (has_given m) was g q.gathered now (leaves_front a.steps.0) h.front a.gathered before_is u.gathered;
+      front = front_past m.body.part b.part m.pair.contexts.before q.contexts.before (has_given m) was g q.gathered now (leaves_front a.steps.0) h.front a.gathered before_is u.gathered;
     }
 
-    module _ {r : BoundedList Finding} {old new : BoundedList ScoreEvent} (s : Passes m x p f whole gave q r old new) where
+    module _ {r : BoundedList Finding} {old new : BoundedList ScoreEvent} (s : Passes m x p f q r old new) where
+      -- with the contexts before it
+      given : GivesPoint (record p { contexts = m.pair.contexts }) (found_past m x p f) q r old new
+      given = subst (λ (k : Contexts). GivesPoint (record p { contexts = k }) (found_past m x p f) q r old new) a.contexts s.given
+
       abbrev n : ScoreMachine
-      n = past_char m x b whole gave q r
+      n = past_char m x b q r
 
       given_now : (has_given m || nat_lt 1 (length g.made)) ≡ has_given n
-      given_now = lent_past m.bounds.before bounds.before (has_given m) g.made refl before_is
+      given_now = lent_past m.pair.contexts.before q.contexts.before (has_given m) g.made refl before_is
 
       abbrev fs : List Finding
       fs = (found_past m x p f).items
@@ -212,7 +220,7 @@ module _ {m : ScoreMachine} {x : Char} {b : BodyStageState} {p : SlotPairState} 
       gives_past : GivesAt (shown m) (head_event.Body x) (shown n) old new
       gives_past = record {
         outputs = outputs_of fs lent;
-        lends = subst (Lends m.limits 1) (append-nil (outputs_of fs lent)) (lends_these m.limits 1 fs lent [] refl s.given.few (one_at_most lent s.given.few)
+        lends = subst (Lends m.limits 1) (append-nil (outputs_of fs lent)) (lends_these m.limits 1 fs lent [] refl given.few (one_at_most lent given.few)
             (All-take (IsWithin m.limits) (length g.made - 1) (placed_after (has_given m) g.made) (placed_within m.limits (not (has_given m)) g.made short)));
         limits = refl;
         part = stays_inside m.part m.part (head_event.Body x) fs lent body body;
@@ -220,12 +228,12 @@ module _ {m : ScoreMachine} {x : Char} {b : BodyStageState} {p : SlotPairState} 
         passes = λ other. tt;
         line = λ lf is. ends_line a.steps.0 h.reading.parts h.reading.keeps lf;
         counts = λ place here at is. stands_on a.steps.0 h.reading.parts h.reading.keeps (subst (λ k. IsAt k m.body.part) (sym here) (at body));
-        before_held = λ is. past_in_body m.part (head_event.Body x) fs lent m.bounds.before bounds.before body before_is;
+        before_held = λ is. past_in_body m.part (head_event.Body x) fs lent m.pair.contexts.before q.contexts.before body before_is;
         next = λ is. rw body refl;
         stands = λ here at is. stands_on a.steps.0 h.reading.parts h.reading.keeps (subst (λ k. IsAt k m.body.part) (sym here) (at body));
-        whole = λ is. rw body (whole_past m.bounds.before bounds.before (has_given m) was g q.gathered now (closes_last a.steps.0 a.steps.1) a.gathered before_is u.gathered);
+        whole = λ is. rw body (whole_past m.pair.contexts.before q.contexts.before (has_given m) was g q.gathered now (closes_last a.steps.0 a.steps.1) a.gathered before_is u.gathered);
         told = λ may here t is. record {
-          counts = rw (lines, macros) (counts_past m.limits m.body.nabc_lines m.body.macros m.bounds.before bounds.before (has_given m) g q.gathered before_is u.gathered preceded held_within (t body).counts);
+          counts = rw (lines, macros) (counts_past m.limits m.body.nabc_lines m.body.macros m.pair.contexts.before q.contexts.before (has_given m) g q.gathered before_is u.gathered preceded held_within (t body).counts);
           reading = (texts may (t body)).0;
           held = (texts may (t body)).1;
           next = (next_place may (t body).next).0;
@@ -233,17 +241,17 @@ module _ {m : ScoreMachine} {x : Char} {b : BodyStageState} {p : SlotPairState} 
               (opens_on a.steps.0 h.reading.parts h.reading.keeps (subst (λ k. IsAt k m.body.part) (sym may.0) (here body)))
               (subst (λ k. AreOpenersBefore k (openers_of m.body.part)) (sym may.0) (t body).openers);
         };
-        holds = λ held is e. none_past m.bounds.before bounds.before (has_given m) was g q.gathered now (closes_last a.steps.0 a.steps.1) before_is u.gathered a.gathered
+        holds = λ held is e. none_past m.pair.contexts.before q.contexts.before (has_given m) was g q.gathered now (closes_last a.steps.0 a.steps.1) before_is u.gathered a.gathered
             (λ k. held body (ap (λ (k : ScorePart). held_in_body k was.made) body ∙ k)) (ap (λ (k : ScorePart). held_in_body k q.gathered.made) (sym body) ∙ e);
         law = law;
-        emitted = s.given.emitted;
+        emitted = given.emitted;
         front = λ heads. absurd (cc (heads, body));
       }
 
 -- ---- so it is wherever it stands then
 
-pub has_turned : {m : ScoreMachine} {x : Char} {p q : SlotPairState} {f r : BoundedList Finding} {whole gave : Bool} {old new : BoundedList ScoreEvent} → Passes m x p f whole gave q r old new → HasTurned p whole gave q
-has_turned s = record { whole_is = s.whole_is; gave_is = s.given.gave; gathered = s.given.gathered; used = s.given.used }
+pub has_turned : {m : ScoreMachine} {x : Char} {p q : SlotPairState} {f r : BoundedList Finding} {old new : BoundedList ScoreEvent} → Passes m x p f q r old new → HasTurned p q
+has_turned s = record { contexts = s.given.contexts; gathered = s.given.gathered; used = s.given.used }
 
 module _ {m : ScoreMachine} {x : Char} (body : m.part ≡ score_part.Body) (h : IsInBody m) where
   pub character_gives : {n : ScoreMachine} {old new : BoundedList ScoreEvent} → ReadsChar m x old new n → GivesAt (shown m) (head_event.Body x) (shown n) old new
@@ -252,7 +260,7 @@ module _ {m : ScoreMachine} {x : Char} (body : m.part ≡ score_part.Body) (h : 
 
   pub character_rests : {n : ScoreMachine} {old new : BoundedList ScoreEvent} → ReadsChar m x old new n → IsScore n
   character_rests (stops a some s) = rests_stop body h a some s
-  character_rests (goes {b} {whole = whole} {gave} {q} {r} a s) =
+  character_rests (goes {b} {q = q} {r} a s) =
       let limit = ap (λ (k : BoundedList Finding). k.limit) s.given.found in
       let room = room_gathered h a in
-      subst (λ (k : ScorePart). IsScoreAt k (past_char m x b whole gave q r)) (sym body) (rests_past body h a s.none (has_turned s) r _ (ap (λ (k : BoundedList Finding). k.items) s.given.found) (omega (arith, limit, room)))
+      subst (λ (k : ScorePart). IsScoreAt k (past_char m x b q r)) (sym body) (rests_past body h a s.none (has_turned s) r _ (ap (λ (k : BoundedList Finding). k.items) s.given.found) (omega (arith, limit, room)))

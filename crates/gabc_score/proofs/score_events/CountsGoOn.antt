@@ -11,7 +11,6 @@ use Rattle.gabc_score.specs.declared.body_stage.BodyPart.TheVariants as part
 use Rattle.gabc_body.specs.declared.events.BodyEvent.{BodyEvent}
 use Rattle.gabc_score.specs.declared.score_machine.ScorePart.TheVariants as score_part
 use Rattle.gabc_score.specs.ScoreReports.{held_in_body}
-use Rattle.gabc_score.specs.declared.bounds.Bounds.{Bounds}
 use Rattle.gabc_score.specs.Before.{with_one, with_each, with_placed}
 use Rattle.gabc_body.specs.Body.{is_none}
 use Rattle.gabc_body.specs.Syllable.{UnplacedSyllable, PlacedSyllable}
@@ -25,7 +24,7 @@ use Rattle.gabc_body.specs.witness.Gatherer.{Gathered}
 use Rattle.gabc_body.specs.witness.BodyBuilder.{with_all}
 use Rattle.gabc_score.specs.machine.HeldWithin.{HoldsWithin}
 use Rattle.gabc_score.specs.machine.PartPushes.{ClosesLast}
-use Rattle.gabc_score.specs.machine.Preceded.{IsPreceded, after_headers}
+use Rattle.gabc_score.specs.machine.Preceded.{Contexts, IsPreceded, after_headers}
 use Rattle.gabc_score.specs.machine.ScoreStage.{placed_after, with_held}
 use Rattle.gabc_score.proofs.score_events.WhatPrecedes.{Closed, same_or_closed}
 use Rattle.gabc_score.proofs.score_events.EventsStayWithinBounds.{last_stays}
@@ -88,7 +87,7 @@ none_past before after is_preceded g h turned now last there turns is was none =
     old (inr c) e = absurd (let n = ap (λ (ms : List UnplacedSyllable). length ms) (sym c.made ∙ e) in omega (arith, n, length-append g.made (c.m ∷ [])))
 
 -- after the headers the counts are those that they give
-pub begins_of_text : (limits : Limits) (next : Place) (input : HeadEvent) (lines macros canonical : ℕ) (body : BodyStageState) (bounds : Bounds) → input ≡ head_event.Heads lines macros canonical
-    → body ≡ record { nabc_lines = lines; macros = macros; part = part.Comment; ended = false; events = [] } → bounds ≡ after_headers canonical → MayCome limits next input
-    → (s : ScoreStageState) → s.limits ≡ limits → s.body ≡ body → s.before ≡ bounds.before → s.held.next ≡ first_place → s.held.gathered.builder.kept ≡ [] → s.held.gathered.made ≡ [] → IsReportOfText s
-begins_of_text limits next input lines macros canonical body bounds is at begun may s l b p n none empty = grind (arith, nothing_plain, All-nil)
+pub begins_of_text : (limits : Limits) (next : Place) (input : HeadEvent) (lines macros canonical : ℕ) (body : BodyStageState) (contexts : Contexts) → input ≡ head_event.Heads lines macros canonical
+    → body ≡ record { nabc_lines = lines; macros = macros; part = part.Comment; ended = false; events = [] } → contexts ≡ after_headers canonical → MayCome limits next input
+    → (s : ScoreStageState) → s.limits ≡ limits → s.body ≡ body → s.before ≡ contexts.before → s.held.next ≡ first_place → s.held.gathered.builder.kept ≡ [] → s.held.gathered.made ≡ [] → IsReportOfText s
+begins_of_text limits next input lines macros canonical body contexts is at begun may s l b p n none empty = grind (arith, nothing_plain, All-nil)

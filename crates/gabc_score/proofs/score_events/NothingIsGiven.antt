@@ -18,12 +18,12 @@ use Rattle.gabc_body.specs.Body.{is_longer, is_none}
 use Rattle.gabc_body.specs.Syllable.{UnplacedSyllable, closes}
 use Rattle.gabc_body.specs.witness.BodyBuilder.{code_in}
 use Rattle.gabc_score.specs.machine.ReadsChar.{Gathers, Passes, ReadsChar, found_past, goes}
-use Rattle.gabc_score.specs.machine.ScoreMachine.{has_given, IsInBody}
+use Rattle.gabc_score.specs.machine.ScoreMachine.{IsInBody}
 use Rattle.gabc_score.specs.machine.ScoreStage.{placed_after}
-use Rattle.gabc_score.specs.machine.SlotPair.{SlotPairState, is_made}
+use Rattle.gabc_score.specs.machine.SlotPair.{SlotPairState, is_made, is_preceded}
 use Rattle.gabc_score.specs.witness.BodyStage.{BodyStageState}
 use Rattle.gabc_score.proofs.building.PartsMakeSyllables.{whole_in, whole_stays}
-use Rattle.gabc_score.proofs.resuming.CharactersGathered.{few_is, held_all}
+use Rattle.gabc_score.proofs.resuming.CharactersGathered.{held_all}
 
 -- which limit is passed, by whether the kept text is longer than a syllable may be
 abbrev code_at : Limits → Bool → List UnplacedSyllable × (ℕ × Bool) → Option Code
@@ -44,17 +44,19 @@ module _ {m : ScoreMachine} {x : Char} {b : BodyStageState} {p : SlotPairState} 
   few = let n = ap (λ w. length w.0) whole in let one = a.one in omega (arith, n, one)
 
   module _ (out : BoundedList ScoreEvent) (nothing : (found_past m x p f).items ≡ []) where
-    none_given : take (length p.gathered.made - 1) (placed_after (has_given m) p.gathered.made) ≡ []
-    none_given = let n : length p.gathered.made - 1 ≡ 0 = omega (arith, few) in ap (λ n. take n (placed_after (has_given m) p.gathered.made)) n
+    none_given : take (length p.gathered.made - 1) (placed_after (is_preceded p) p.gathered.made) ≡ []
+    none_given = let n : length p.gathered.made - 1 ≡ 0 = omega (arith, few) in ap (λ n. take n (placed_after (is_preceded p) p.gathered.made)) n
 
-    passes : Passes m x p f false false p (found_past m x p f) out out
+    fewer : nat_lt (length p.held) (length p.gathered.made) ≡ false
+    fewer = let e = ap length a.held in let n = ap (λ w. length w.0) whole in grind (arith, nat_tests, e, n)
+
+    passes : Passes m x p f p (found_past m x p f) out out
     passes = record {
       none = none;
-      whole_is = (let e = ap length a.held in let n = ap (λ w. length w.0) whole in grind (arith, nat_tests, e, n));
       given = record {
         gathered = sym (held_all p.gathered few);
         used = ap is_made used;
-        gave = sym (few_is (length p.gathered.made) few);
+        contexts = rw fewer refl;
         emitted = rw (nothing, none_given) (record { events = ap (λ (es : List ScoreEvent). record out { items = es }) (sym (append-nil out.items)); few = omega arith; lent = refl });
         few = rw none_given (omega arith);
         found = ap (λ (fs : List Finding). record (found_past m x p f) { items = fs }) nothing;

@@ -84,7 +84,7 @@ held_unit m score_part.Body h laws = held_one (HoldsSomeUnit m.body.nabc_lines) 
 held_unit m _ h laws = tt
 
 -- its spans follow from those before it
-pub held_follows : (m : ScoreMachine) (p : ScorePart) → IsScoreAt p m → PartLaws → IfSome (held_in_body p m.pair.gathered.made) (FollowsSpans m.bounds.before.spans)
+pub held_follows : (m : ScoreMachine) (p : ScorePart) → IsScoreAt p m → PartLaws → IfSome (held_in_body p m.pair.gathered.made) (FollowsSpans m.pair.contexts.before.spans)
 unfolding HoldUnits FollowEach
 held_follows m p h laws = grind arith
 

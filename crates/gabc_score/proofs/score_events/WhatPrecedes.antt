@@ -19,7 +19,6 @@ use Rattle.gabc_notes.specs.declared.item.ItemKind.{ItemKind}
 use Rattle.gabc_notes.specs.declared.stage.NoteEnd.TheVariants as note_end
 use Rattle.gabc_notes.specs.declared.stage.NoteEvent.TheVariants as note
 use Rattle.gabc_score.specs.declared.preceding.Preceding.{Preceding}
-use Rattle.gabc_score.specs.declared.bounds.Bounds.{Bounds}
 use Rattle.gabc_body.specs.declared.events.BodyEvent.{BodyEvent}
 use Rattle.gabc_body.specs.declared.events.BodyEvent.TheVariants as event
 use Rattle.gabc_score.specs.declared.score_machine.ScorePart.{ScorePart}
@@ -32,7 +31,7 @@ use Rattle.gabc_body.specs.Syllable.{UnplacedSyllable, PlacedSyllable, is_seam, 
 use Rattle.gabc_body.specs.witness.BodyBuilder.{with_all}
 use Rattle.gabc_body.specs.witness.Gatherer.{Gathered, with_event, with_made, with_snippet}
 use Rattle.gabc_score.specs.machine.PartPushes.{ClosesLast}
-use Rattle.gabc_score.specs.machine.Preceded.{EndsBefore, IsPreceded, after_gathered, before_past, past_point}
+use Rattle.gabc_score.specs.machine.Preceded.{Contexts, EndsBefore, IsPreceded, after_gathered, before_past, past_point}
 use Rattle.gabc_score.specs.machine.ScoreStage.{placed_after, with_held}
 use Rattle.gabc_body.proofs.score_events.WhatOutputsSay.{given_syllables}
 use Rattle.gabc_body.specs.witness.SyllableBuilder.{OpenSyllable, made_from, past_text, snippet_from, nothing_open}
@@ -229,7 +228,7 @@ after_is before h ms m p made eu nlba builder = grind (arith, each_then, or-fals
 
 -- What stands before and after the held syllable then reports of what was gathered, by whether the
 -- one held before is given.
-pub record Turns (b : Bounds) (h : Gathered) (is_preceded whole gave : Bool) : Type 0 where
+pub record Turns (b : Contexts) (h : Gathered) (is_preceded whole gave : Bool) : Type 0 where
   pub preceded : IsPreceded (before_past whole gave b) (with_held h)
   pub after : (past_point whole gave b h).after ≡ with_each (before_past whole gave b) (with_held h).made
   pub given : before_past whole gave b ≡ with_placed b.before (take (length h.made - 1) (placed_after is_preceded h.made))
@@ -238,7 +237,7 @@ pub record Turns (b : Bounds) (h : Gathered) (is_preceded whole gave : Bool) : T
 given_one : (before : Preceding) (h : Gathered) (s m : UnplacedSyllable) → IsPreceded before (record h { made = s ∷ m ∷ [] }) → IsPreceded (with_one before s) (record h { made = m ∷ [] })
 given_one before h s m p = record { follows = p.follows; total = p.total; sounded = p.sounded; snippets = p.snippets; from = p.from }
 
-module _ (b : Bounds) (old : Gathered) (now : List BodyEvent) (preceded : IsPreceded b.before old) (is : b.after ≡ with_each b.before old.made) (last : ClosesLast now) (few : length old.made ≤ 1) (is_preceded : Bool) where
+module _ (b : Contexts) (old : Gathered) (now : List BodyEvent) (preceded : IsPreceded b.before old) (is : b.after ≡ with_each b.before old.made) (last : ClosesLast now) (few : length old.made ≤ 1) (is_preceded : Bool) where
   abbrev h : Gathered
   h = with_all old now
 

@@ -2,14 +2,13 @@
 use Rattle.std.proofs.Common.{◌≡◌, ℕ, ◌+◌, ◌-◌, ◌≤◌, Bool, List, [], ◌∷◌, take, drop, length, ap, arith, length-append, length-drop, length-take}
 use Rattle.std.proofs.lemmas.List.{length-map}
 use Rattle.gabc_score.specs.declared.preceding.Preceding.{Preceding}
-use Rattle.gabc_score.specs.declared.bounds.Bounds.{Bounds}
 use Rattle.gabc_body.specs.declared.events.BodyEvent.{BodyEvent}
 use Rattle.gabc_score.specs.Before.{with_one, with_each, with_placed}
 use Rattle.gabc_body.specs.Syllable.{UnplacedSyllable}
 use Rattle.gabc_body.specs.witness.BodyBuilder.{with_all}
 use Rattle.gabc_body.specs.witness.Gatherer.{Gathered}
 use Rattle.gabc_score.specs.machine.PartPushes.{ClosesLast}
-use Rattle.gabc_score.specs.machine.Preceded.{after_headers}
+use Rattle.gabc_score.specs.machine.Preceded.{Contexts, after_headers}
 use Rattle.gabc_score.specs.machine.ScoreStage.{placed_after, with_held}
 use Rattle.gabc_score.proofs.score_events.WhatPrecedes.{same_or_closed}
 
@@ -33,5 +32,5 @@ whole_past before after is_preceded g h turned now last is there turns =
     let held = ap (λ (k : Gathered). length k.made) turns in
     omega (arith, few, all, sum, count, held)
 
-pub none_whole : (b : Bounds) (head : ℕ) (g : Gathered) → b ≡ after_headers head → g.made ≡ [] → b.before.syllables + length g.made ≤ 0
-none_whole b head g is none = let n = ap (λ (k : Bounds). k.before.syllables) is in let e = ap (λ (ms : List UnplacedSyllable). length ms) none in omega (arith, n, e)
+pub none_whole : (b : Contexts) (head : ℕ) (g : Gathered) → b ≡ after_headers head → g.made ≡ [] → b.before.syllables + length g.made ≤ 0
+none_whole b head g is none = let n = ap (λ (k : Contexts). k.before.syllables) is in let e = ap (λ (ms : List UnplacedSyllable). length ms) none in omega (arith, n, e)

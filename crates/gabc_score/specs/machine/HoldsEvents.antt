@@ -19,10 +19,11 @@ pub record CanHold (events : List BodyEvent) (pair : SlotPairState) (found : Bou
   pub once : ClosesLast events
   pub room : Fits found (length events)
 
--- The events were added to the state gathered, and their findings to the room. With a `)` a
--- syllable is whole.
+-- The events were added to the state gathered, and their findings to the room; the contexts stay.
+-- With a `)` a syllable is whole.
 pub record HoldsEvents (events : List BodyEvent) (before : SlotPairState) (room : BoundedList Finding) (after : SlotPairState) (room_after : BoundedList Finding) : Type 0 where
   pub gathered : after.gathered ≡ with_all before.gathered events
   pub held : after.held ≡ before.held
+  pub contexts : after.contexts ≡ before.contexts
   pub used : after.used ≡ used_by (list_any closes events)
   pub found : room_after ≡ with_found room events

@@ -1,12 +1,17 @@
--- The totals before and after the pending syllable, and the state gathered.
-use Rattle.std.specs.Prelude.{◌≡◌, ◌||◌, ℕ, ◌+◌, ◌<◌, ◌≤◌, min, nat_lt, Bool, length, is_some, if◌then◌else◌}
+-- The contexts of the pending syllable and of the current one, and the state gathered.
+use Rattle.std.specs.Prelude.{◌≡◌, ◌||◌, ℕ, [], ◌+◌, ◌<◌, ◌≤◌, min, nat_lt, Bool, length, is_some, if◌then◌else◌}
 use Rattle.std.specs.List.{All}
 use Rattle.gabc_score.specs.declared.preceding.Preceding.{Preceding}
 use Rattle.gabc_body.specs.declared.before.Spans.{Spans}
-use Rattle.gabc_score.specs.declared.bounds.Bounds.{Bounds}
 use Rattle.gabc_body.specs.declared.snippets.Snippet.{Snippet}
 use Rattle.gabc_score.specs.Before.{most, no_syllable, sounds_in, with_each}
 use Rattle.gabc_body.specs.witness.Gatherer.{Gathered}
+
+-- the contexts of the pending syllable and of the current one; if none is pending, they are the
+-- same
+pub record Contexts : Type 0 where
+  pub before : Preceding
+  pub after : Preceding
 
 -- the spans that are open
 abbrev pub spans_of : Gathered → Spans
@@ -18,19 +23,27 @@ after_gathered syllables g = record { syllables = min (syllables + 1) most; cano
 
 -- the totals before the pending syllable, by whether a syllable has become whole, and whether the
 -- one pending before was emitted
-abbrev pub before_past : Bool → Bool → Bounds → Preceding
+abbrev pub before_past : Bool → Bool → Contexts → Preceding
 before_past whole gave b = if whole then (if gave then b.after else b.before) else b.before
 
 -- the totals before and after it then
-abbrev pub past_point : Bool → Bool → Bounds → Gathered → Bounds
+abbrev pub past_point : Bool → Bool → Contexts → Gathered → Contexts
 past_point whole gave b g = record {
   before = before_past whole gave b;
   after = if whole then after_gathered (before_past whole gave b).syllables g else b.after;
 }
 
--- the totals before the first syllable, after canonical headers of `head` bytes
-abbrev pub after_headers : ℕ → Bounds
-after_headers head = record { before = no_syllable head; after = no_syllable head }
+-- both contexts, if none is pending
+abbrev pub none_pending : Preceding → Contexts
+none_pending p = record { before = p; after = p }
+
+-- the contexts before the first syllable, after canonical headers of `head` bytes
+abbrev pub after_headers : ℕ → Contexts
+after_headers head = none_pending (no_syllable head)
+
+-- the state gathered after these syllables, if none is pending
+abbrev pub gathered_after : Preceding → Gathered → Gathered
+gathered_after p g = record g { eu = p.spans.eu; nlba = p.spans.nlba; made = []; follows = nat_lt 0 p.syllables; total = p.canonical }
 
 -- a snippet ends before byte `n`
 abbrev pub EndsBefore : ℕ → Snippet → Type 0

@@ -114,7 +114,7 @@ pub record StandsSo (m : ScoreMachine) (openers : Openers) (kept : List ℕ) (co
 -- In the body nothing has changed but the current syllable.
 pub record IsSameBut (before after : ScoreMachine) : Type 0 where
   pub body : before.part ≡ score_part.Body
-  pub bounds : after.bounds ≡ before.bounds
+  pub contexts : after.pair.contexts ≡ before.pair.contexts
   pub made : after.pair.gathered.made ≡ before.pair.gathered.made
 
 -- The machine runs under the same limits, with the same lines and macros.

@@ -64,7 +64,7 @@ pub record GoesOn (old new : ScoreMachine) (g : Gathered) : Type 0 where
   pub gathered : new.pair.gathered ≡ g
   pub lines : new.body.nabc_lines ≡ old.body.nabc_lines
   pub macros : new.body.macros ≡ old.body.macros
-  pub before : new.bounds.before ≡ old.bounds.before
+  pub before : new.pair.contexts.before ≡ old.pair.contexts.before
   pub limits : new.limits ≡ old.limits
   pub whole : is_none g.made ≡ false → g.builder ≡ nothing_open
 
@@ -124,6 +124,6 @@ pub record BeginsAlone (m : ScoreMachine) : Type 0 where
 pub record HoldsAlone (old : ScoreMachine) (text : List ℕ) (result : Bool) (new : ScoreMachine) : Type 0 where
   pub held : result ≡ true → HoldsAgain (chars text) (shown old) (shown new)
   pub told : result ≡ true → IsText text → ReportsText (shown old) → ReportsText (shown new)
-  pub refused : result ≡ false → (m : UnplacedSyllable) → MayBeHeld old.limits (before_with old.body old.bounds.before) (chars text) m → ⊥
+  pub refused : result ≡ false → (m : UnplacedSyllable) → MayBeHeld old.limits (before_with old.body old.pair.contexts.before) (chars text) m → ⊥
   pub over : result ≡ false → before_of (shown new) ≡ None
   pub ends : result ≡ false → new.part ≡ score_part.Over

@@ -1,5 +1,5 @@
 -- The step of a machine over a score at a character of the body, and at any input.
-use Rattle.std.specs.Prelude.{◌≡◌, ◌≤◌, ℕ, ◌-◌, nat_lt, Bool, false, List, [], ◌∷◌, ◌++◌, length, take, None, Some}
+use Rattle.std.specs.Prelude.{◌≡◌, ◌≤◌, ℕ, ◌-◌, nat_lt, false, List, [], ◌∷◌, ◌++◌, length, take, None, Some}
 use Rattle.std.specs.List.{list_any}
 use Rattle.gabc_places.specs.BoundedList.{BoundedList, extended_by}
 use Rattle.gabc_places.specs.Place.{saturating_next_place}
@@ -21,7 +21,7 @@ use Rattle.gabc_score.specs.machine.PartSteps.{TakesChar}
 use Rattle.gabc_score.specs.machine.Preceded.{past_point}
 use Rattle.gabc_score.specs.machine.ScoreMachine.{has_given, IsInBody, IsScore, KeepsMemory, shown}
 use Rattle.gabc_score.specs.machine.ScoreStage.{placed_after, with_held}
-use Rattle.gabc_score.specs.machine.SlotPair.{SlotPairState, is_made, used_by}
+use Rattle.gabc_score.specs.machine.SlotPair.{SlotPairState, is_made, is_preceded, used_by}
 use Rattle.gabc_score.specs.witness.BodyStage.{BodyStageState}
 
 -- A machine in the body, between two calls.
@@ -36,6 +36,7 @@ pub record Gathers (m : ScoreMachine) (x : Char) (b : BodyStageState) (p : SlotP
   pub body : b ≡ record m.body { part = b.part; events = b.events }
   pub gathered : p.gathered ≡ with_all m.pair.gathered b.events
   pub held : p.held ≡ m.pair.gathered.made
+  pub contexts : p.contexts ≡ m.pair.contexts
   pub one : length m.pair.gathered.made ≤ 1
   pub used : p.used ≡ used_by (list_any closes b.events)
   pub found : f ≡ with_found m.found b.events
@@ -47,13 +48,13 @@ found_past m x p f = extended_by f (found_first m.pair.gathered.first_kind p.gat
 -- ---- the outputs of a point
 
 -- The findings of a point were emitted, and the pending syllable if another is whole, which is
--- pending then.
-pub record GivesPoint (is_preceded : Bool) (before : SlotPairState) (room : BoundedList Finding) (result : Bool) (after : SlotPairState) (room_after : BoundedList Finding) (old new : BoundedList ScoreEvent) : Type 0 where
+-- pending then, in its context.
+pub record GivesPoint (before : SlotPairState) (room : BoundedList Finding) (after : SlotPairState) (room_after : BoundedList Finding) (old new : BoundedList ScoreEvent) : Type 0 where
   pub gathered : after.gathered ≡ with_held before.gathered
   pub used : is_made after.used ≡ false
-  pub gave : result ≡ nat_lt 1 (length before.gathered.made)
-  pub emitted : (let made = before.gathered.made in GivesOutputs (outputs_of room.items (take (length made - 1) (placed_after is_preceded made))) old new after.first after.second)
-  pub few : length (take (length before.gathered.made - 1) (placed_after is_preceded before.gathered.made)) ≤ 1
+  pub contexts : after.contexts ≡ past_point (nat_lt (length before.held) (length before.gathered.made)) (nat_lt 1 (length before.gathered.made)) before.contexts before.gathered
+  pub emitted : (let made = before.gathered.made in GivesOutputs (outputs_of room.items (take (length made - 1) (placed_after (is_preceded before) made))) old new after.first after.second)
+  pub few : length (take (length before.gathered.made - 1) (placed_after (is_preceded before) before.gathered.made)) ≤ 1
   pub found : room_after ≡ record room { items = [] }
 
 -- These outputs were emitted as the last ones, with these syllables, at most `most`.
@@ -72,28 +73,25 @@ pub record StopsWith (before : ScoreMachine) (fault : Fault) (after : ScoreMachi
 
 -- ---- a character
 
--- No limit is passed, and the findings were emitted. `whole` says whether a syllable has become
--- whole, and `gave` whether the one pending before was emitted.
-pub record Passes (m : ScoreMachine) (x : Char) (p : SlotPairState) (f : BoundedList Finding) (whole gave : Bool) (q : SlotPairState) (r : BoundedList Finding) (old new : BoundedList ScoreEvent) : Type 0 where
+-- No limit is passed, and the findings were emitted.
+pub record Passes (m : ScoreMachine) (x : Char) (p : SlotPairState) (f : BoundedList Finding) (q : SlotPairState) (r : BoundedList Finding) (old new : BoundedList ScoreEvent) : Type 0 where
   pub none : code_in m.limits p.gathered ≡ None
-  pub whole_is : whole ≡ nat_lt (length p.held) (length p.gathered.made)
-  pub given : GivesPoint (has_given m) p (found_past m x p f) gave q r old new
+  pub given : GivesPoint p (found_past m x p f) q r old new
 
 -- the machine m past the character x
-abbrev pub past_char : ScoreMachine → Char → BodyStageState → Bool → Bool → SlotPairState → BoundedList Finding → ScoreMachine
-past_char m x b whole gave q r = record m {
+abbrev pub past_char : ScoreMachine → Char → BodyStageState → SlotPairState → BoundedList Finding → ScoreMachine
+past_char m x b q r = record m {
   body = b;
   pair = q;
   found = r;
   next = saturating_next_place x.place x.c;
-  bounds = past_point whole gave m.bounds q.gathered;
 }
 
 -- It reads the character x: it stops if a limit is passed, else it continues.
 pub data ReadsChar (m : ScoreMachine) (x : Char) (old new : BoundedList ScoreEvent) : ScoreMachine → Type 0 where
   stops : {b : BodyStageState} {p : SlotPairState} {f : BoundedList Finding} {code : Code} {n : ScoreMachine} → Gathers m x b p f → code_in m.limits p.gathered ≡ Some code
       → StopsWith (record m { body = b; pair = p; found = found_past m x p f }) (fault_at x.place code) n old new → ReadsChar m x old new n
-  goes : {b : BodyStageState} {p : SlotPairState} {f : BoundedList Finding} {whole gave : Bool} {q : SlotPairState} {r : BoundedList Finding} → Gathers m x b p f → Passes m x p f whole gave q r old new → ReadsChar m x old new (past_char m x b whole gave q r)
+  goes : {b : BodyStageState} {p : SlotPairState} {f : BoundedList Finding} {q : SlotPairState} {r : BoundedList Finding} → Gathers m x b p f → Passes m x p f q r old new → ReadsChar m x old new (past_char m x b q r)
 
 -- ---- an input
 

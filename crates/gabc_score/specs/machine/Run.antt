@@ -37,6 +37,7 @@ use Rattle.gabc_score.specs.machine.Between.{IsBetween, StepsOver, SoundsNoMore}
 use Rattle.gabc_score.specs.machine.RegularLen.{BeginsRegularly, IsPlainByte, past_mark}
 use Rattle.gabc_score.specs.machine.PartCounts.{CountsHold}
 use Rattle.gabc_score.specs.machine.PartKeeps.{in_text, PartKeeps}
+use Rattle.gabc_score.specs.machine.Preceded.{gathered_after, none_pending}
 use Rattle.gabc_score.specs.machine.ScoreMachine.{held_score, shown, IsInBody, IsScore}
 use Rattle.gabc_score.specs.machine.ScoreStage.{HeldScore}
 use Rattle.gabc_body.specs.witness.SyllableBuilder.{nothing_open}
@@ -118,7 +119,7 @@ pub record RunsBefore (m : ScoreMachine) (at : Place) (t : List ℕ) (given : Li
   pub through : StepsOver m.limits m.body.nabc_lines m.body.macros at (held_score m) t earlier next s
   pub gathered : s.gathered ≡ record m.pair.gathered { made = held ∷ []; total = p.canonical; eu = p.spans.eu; nlba = p.spans.nlba }
   pub given_are : given ≡ earlier ++ record { made = held; position = position_by (not s.is_preceded || held.text.word_start) starts } ∷ []
-  pub before : p ≡ with_placed m.bounds.before given
+  pub before : p ≡ with_placed m.pair.contexts.before given
   pub place : next ≡ place_past at t
   pub within : All (IsWithin m.limits) given
   pub plain : All IsPlain t
@@ -132,7 +133,7 @@ abbrev pub before_by : Preceding → Reached → Preceding
 before_by p r = record { syllables = min (p.syllables + r.count) most; canonical = r.canonical; spans = r.spans; sounded = p.sounded }
 
 abbrev pub before_in : ScoreMachine → Reached → Preceding
-before_in m r = before_by m.bounds.after r
+before_in m r = before_by m.pair.contexts.after r
 
 -- In this text, the first of whose characters is at `at`, a run has emitted the syllables `given`,
 -- and has reached one that is not emitted yet.
@@ -184,21 +185,24 @@ pub record RunsOn {Taker : Type 0} (given_by : Taker → List PlacedSyllable →
 
 -- ---- the machine between two syllables
 
--- Only the slots may differ: the same was gathered, and the slot that reads is being filled.
+-- Only the slots may differ: the same was gathered, the contexts are the same, and the slot that
+-- reads is being filled.
 pub record IsSamePair (old new : ScoreMachine) : Type 0 where
   pub gathered : new.pair.gathered ≡ old.pair.gathered
+  pub contexts : new.pair.contexts ≡ old.pair.contexts
   pub used : new.pair.used ≡ Filling
   pub is : new ≡ record old { pair = new.pair }
 
 -- The machine is before a syllable of a run, at `at`, and none is pending. `p` has the totals
 -- before it.
 pub record GoesBefore (m : ScoreMachine) (p : Preceding) (at : Place) (on : ScoreMachine) : Type 0 where
-  pub gathered : on.pair.gathered ≡ record m.pair.gathered { made = []; total = p.canonical; eu = p.spans.eu; nlba = p.spans.nlba }
+  pub gathered : on.pair.gathered ≡ gathered_after p m.pair.gathered
+  pub contexts : on.pair.contexts ≡ none_pending p
   pub used : on.pair.used ≡ Filling
   pub body : on.body ≡ record m.body { part = Text (fresh_stage at) }
   pub counts : CountsHold on.body.part nothing_open
   pub keeps : (lines macros : ℕ) → PartKeeps lines macros on.body.part (in_text [])
-  pub is : on ≡ record m { pair = on.pair; bounds = record { before = p; after = p }; body = on.body; next = at }
+  pub is : on ≡ record m { pair = on.pair; body = on.body; next = at }
 
 -- ---- the end of a run
 

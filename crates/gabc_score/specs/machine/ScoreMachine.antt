@@ -1,5 +1,5 @@
 -- The state that a machine over a score shows, and its invariant between two calls.
-use Rattle.std.specs.Prelude.{◌≡◌, ℕ, ◌≤◌, nat_lt, Bool, true, false, [], length, None}
+use Rattle.std.specs.Prelude.{◌≡◌, ℕ, ◌≤◌, Bool, true, false, [], length, None}
 use Rattle.std.specs.List.{All}
 use Rattle.gabc_score.specs.declared.preceding.Preceding.{Preceding}
 use Rattle.gabc_score.specs.Before.{with_each}
@@ -18,18 +18,18 @@ use Rattle.gabc_score.specs.machine.PartKeeps.{IsReading}
 use Rattle.gabc_score.specs.machine.PartMakes.{HoldUnits}
 use Rattle.gabc_score.specs.machine.Preceded.{IsPreceded}
 use Rattle.gabc_score.specs.machine.ScoreStage.{HeldScore}
-use Rattle.gabc_score.specs.machine.SlotPair.{is_made}
+use Rattle.gabc_score.specs.machine.SlotPair.{is_made, is_preceded}
 
 -- a syllable was emitted: there is one before the pending one
 abbrev pub has_given : ScoreMachine → Bool
-has_given m = nat_lt 0 m.bounds.before.syllables
+has_given m = is_preceded m.pair
 
 -- the state after the headers
 abbrev pub held_score : ScoreMachine → HeldScore
 held_score m = record { next = m.next; gathered = m.pair.gathered; is_preceded = has_given m }
 
 abbrev pub shown : ScoreMachine → ScoreStageState
-shown m = record { limits = m.limits; part = m.part; before = m.bounds.before; held = held_score m; body = m.body; first = m.pair.first; second = m.pair.second }
+shown m = record { limits = m.limits; part = m.part; before = m.pair.contexts.before; held = held_score m; body = m.body; first = m.pair.first; second = m.pair.second }
 
 -- a syllable is within the limit, its canonical text without the LF before it
 pub record IsShort (limit : ℕ) (m : UnplacedSyllable) : Type 0 where
@@ -63,13 +63,13 @@ pub record IsInBody (m : ScoreMachine) : Type 0 where
   pub rests : IsAtRest m
   pub counts : CountsHold m.body.part m.pair.gathered.builder
   pub kept : length m.pair.gathered.builder.kept ≤ m.limits.syllable
-  pub preceded : IsPreceded m.bounds.before m.pair.gathered
-  pub after : m.bounds.after ≡ with_each m.bounds.before m.pair.gathered.made
+  pub preceded : IsPreceded m.pair.contexts.before m.pair.gathered
+  pub after : m.pair.contexts.after ≡ with_each m.pair.contexts.before m.pair.gathered.made
   pub code : code_in m.limits m.pair.gathered ≡ None
-  pub reading : IsReading m.body.nabc_lines m.body.macros m.body.part m.bounds.after.spans m.pair.gathered
-  pub units : HoldUnits m.body.nabc_lines m.bounds.before m.pair.gathered.made
-  pub within : HoldsWithin m.limits m.bounds.before m.pair.gathered
-  pub front : is_in_front m.body.part ≡ true → NoneIsWhole m.bounds.before m.pair.gathered
+  pub reading : IsReading m.body.nabc_lines m.body.macros m.body.part m.pair.contexts.after.spans m.pair.gathered
+  pub units : HoldUnits m.body.nabc_lines m.pair.contexts.before m.pair.gathered.made
+  pub within : HoldsWithin m.limits m.pair.contexts.before m.pair.gathered
+  pub front : is_in_front m.body.part ≡ true → NoneIsWhole m.pair.contexts.before m.pair.gathered
 
 -- the memory stays reserved: for the findings of one input, and for syllables within the limit
 pub record KeepsMemory (m : ScoreMachine) : Type 0 where

@@ -1,33 +1,42 @@
 -- Two slots: the current syllable, and the pending one.
-use Rattle.std.specs.Prelude.{◌≡◌, ◌≤◌, ℕ, List, [], ◌∷◌, Bool, true, false, take, Option}
+use Rattle.std.specs.Prelude.{◌≡◌, ◌≤◌, ℕ, ◌+◌, min, nat_lt, List, [], ◌∷◌, Bool, true, false, take, Option}
 use Rattle.gabc_notes.specs.declared.stage.NoteEvent.{NoteEvent}
 use Rattle.gabc_body.specs.Events.{is_close}
+use Rattle.gabc_score.specs.declared.preceding.Preceding.{Preceding}
 use Rattle.gabc_score.specs.declared.slot_pair.SlotUse.{SlotUse}
 use Rattle.gabc_score.specs.declared.slot_pair.SlotUse.TheVariants.{Filling, Made, Lent}
+use Rattle.gabc_score.specs.Before.{most}
 use Rattle.gabc_body.specs.Canonical.{StandsFrom}
 use Rattle.gabc_body.specs.Syllable.{UnplacedSyllable, PlacedSyllable}
 use Rattle.gabc_score.specs.declared.score_event.BorrowedSyllable.TheVariants.{First, Second}
 use Rattle.gabc_score.specs.declared.score_event.ScoreEvent.{ScoreEvent}
 use Rattle.gabc_score.specs.declared.score_event.ScoreEvent.TheVariants as event
 use Rattle.gabc_body.specs.witness.Gatherer.{Gathered}
+use Rattle.gabc_score.specs.machine.Preceded.{Contexts, gathered_after, none_pending}
 use Rattle.gabc_score.specs.machine.Slot.{ReadSyllable, made_in, placed_in}
 use Rattle.gabc_body.specs.witness.SyllableBuilder.{OpenSyllable, nothing_open}
 
--- the state gathered, the pending syllable, if there is one, the use of the slot that reads, and
--- the two syllables that may be borrowed
+-- the state gathered, the pending syllable, if there is one, its context and that of the current
+-- one, the use of the slot that reads, and the two syllables that may be borrowed
 pub record SlotPairState : Type 0 where
   pub gathered : Gathered
   pub held : List UnplacedSyllable
+  pub contexts : Contexts
   pub used : SlotUse
   pub first : PlacedSyllable
   pub second : PlacedSyllable
 
 -- The state gathered is `g`, and the use of the slot that reads `used_so`. The pending syllable
--- stays.
+-- and the contexts stay.
 pub record HasGathered (before : SlotPairState) (g : Gathered) (used_so : SlotUse) (after : SlotPairState) : Type 0 where
   pub gathered : after.gathered ≡ g
   pub held : after.held ≡ before.held
+  pub contexts : after.contexts ≡ before.contexts
   pub used : after.used ≡ used_so
+
+-- the slots after these syllables, none of them pending
+abbrev pub slots_after : Preceding → SlotPairState → SlotPairState
+slots_after p s = record s { gathered = gathered_after p s.gathered; held = []; contexts = none_pending p }
 
 -- nothing is read if the slot has a whole syllable
 abbrev pub reading_in : SlotUse → ReadSyllable → OpenSyllable
@@ -44,6 +53,22 @@ abbrev pub made_last : SlotUse → ReadSyllable → List UnplacedSyllable
 made_last Made s = made_in s ∷ []
 made_last Filling s = []
 made_last Lent s = []
+
+-- a syllable is before the one that is gathered next
+abbrev pub follows_in : SlotUse → Preceding → Bool
+follows_in Made after = true
+follows_in Filling after = nat_lt 0 after.syllables
+follows_in Lent after = nat_lt 0 after.syllables
+
+-- the canonical bytes before it, if those of the whole syllable in the slot that reads are `n`
+abbrev pub total_in : SlotUse → Preceding → ℕ → ℕ
+total_in Made after n = min (after.canonical + n) most
+total_in Filling after n = after.canonical
+total_in Lent after n = after.canonical
+
+-- a syllable is before the pending one
+abbrev pub is_preceded : SlotPairState → Bool
+is_preceded s = nat_lt 0 s.contexts.before.syllables
 
 -- the first syllable that may be borrowed: that of the slot that reads, if it was emitted, else
 -- that of the other slot

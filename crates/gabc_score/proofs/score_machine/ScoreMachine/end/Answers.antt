@@ -1,4 +1,4 @@
-use Rattle.std.proofs.Common.{rules, ◌≡◌, ◌≤◌, List, length, [], ◌∷◌, ◌++◌, ◌||◌, ◌∙◌, refl, sym, ap, subst, None, arith}
+use Rattle.std.proofs.Common.{rules, ◌≡◌, ◌≤◌, List, length, nat_lt, [], ◌∷◌, ◌++◌, ◌||◌, ◌∙◌, refl, sym, ap, subst, None, arith}
 use Rattle.std.specs.List.{All}
 use Rattle.gabc_places.specs.BoundedList.{BoundedList}
 use Rattle.gabc_places.specs.declared.code.Finding.{Finding}
@@ -11,6 +11,7 @@ use Rattle.gabc_score.specs.NoNotes.{OnlyFirstHasNotes}
 use Rattle.gabc_body.specs.Syllable.{UnplacedSyllable}
 use Rattle.gabc_body.specs.witness.BodyBuilder.{code_in, end_fault, end_findings, with_all, with_found}
 use Rattle.gabc_body.specs.witness.Gatherer.{Gathered, with_last}
+use Rattle.gabc_score.specs.machine.Preceded.{Contexts}
 use Rattle.gabc_score.specs.machine.ScoreMachine.{has_given, IsAtRest, IsScoreAt, IsShort}
 use Rattle.gabc_score.specs.machine.ScoreStage.{placed_after}
 use Rattle.gabc_score.proofs.building.EventsAreGatheredInTurn.{never_lent}
@@ -30,7 +31,7 @@ pub close_last-has_last-requires : goal.close_last-has_last-requires
 close_last-has_last-requires c = never_lent _ _ c.hold.ensures.used
 
 pub give_end-requires-clause-few : goal.give_end-requires-clause-few
-give_end-requires-clause-few c = rw (c.slice-found.ensures) (few_found c.args.self.now.found c.hold.new.found c.close.new.self.events c.requires.stands.rests.rests.none c.hold.ensures.found c.close.ensures.events.few)
+give_end-requires-clause-few c = rw (c.slice.ensures) (few_found c.args.self.now.found c.hold.new.found c.close.new.self.events c.requires.stands.rests.rests.none c.hold.ensures.found c.close.ensures.events.few)
 
 -- the memory stays reserved up to the last text
 kept_memory : (m : ScoreMachine) (g h k : Gathered) (found : BoundedList Finding) (now : List BodyEvent) → IsAtRest m → g ≡ m.pair.gathered → h ≡ with_all g now → k ≡ with_last h → found ≡ with_found m.found now → (9 ≤ found.limit) × (k.limit ≡ m.limits.syllable)
@@ -41,19 +42,20 @@ pub returns-in-Some : goal.returns-in-Some
 returns-in-Some c =
     let held = c.close_last-has_last.new.self.held in
     let m = c.args.self.now in
+    let preceded = ap (λ (k : Contexts). nat_lt 0 k.before.syllables) (c.close_last-has_last.ensures.contexts ∙ (c.hold.ensures.contexts ∙ c.free.ensures.contexts)) in
     let rests = c.requires.stands.rests.rests in
     let fault = c.in-Some.fault in
     let given = outputs_of [] (placed_after (has_given m) held) in
     let kept = kept_memory m c.free.new.self.gathered c.hold.new.pair.gathered c.close_last-has_last.new.self.gathered c.hold.new.found c.close.new.self.events rests c.free.ensures.gathered c.hold.ensures.gathered c.close_last-has_last.ensures.gathered c.hold.ensures.found in
     record {
       step = gives_outside (given ++ Stop fault ∷ []) (λ is. absurd (cc (is, c.stop.ensures.part))) (λ heads. absurd (cc (heads, c.requires.stands.part))) (record {
-        lends = held_lends m.limits 2 (has_given m) held m.pair.gathered.made (Stop fault ∷ []) refl (c.close_last-has_last.ensures.held ∙ (c.hold.ensures.held ∙ c.free.ensures.held)) rests.short c.stop.ensures.few (omega arith);
+        lends = held_lends m.limits 2 (has_given m) held m.pair.gathered.made (Stop fault ∷ []) refl (c.close_last-has_last.ensures.held ∙ (c.hold.ensures.held ∙ c.free.ensures.held)) rests.short (rw (sym preceded) c.stop.ensures.few) (omega arith);
         limits = c.stop.ensures.limits;
         part = leads_out m.part c.stop.new.self.part head_event.End given (Stop fault) c.requires.stands.part c.stop.ensures.part refl;
         last = λ other final. last_after given (Stop fault) refl;
         passes = λ other. tt;
         law = search rules;
-        emitted = c.stop.ensures.emitted;
+        emitted = rw (sym preceded) c.stop.ensures.emitted;
       });
       rests = subst (λ (k : ScorePart). IsScoreAt k c.stop.new.self) (sym c.stop.ensures.part) (c.stop.ensures.keeps (record { room = kept.0; limit = kept.1 }));
     }
@@ -65,6 +67,7 @@ returns-in-None c =
     let fs = c.hold.new.found.items in
     let found = fs ++ end_findings c.args.self.now.next c.close_last-has_last.result (p.gathered.eu || p.gathered.nlba) in
     let lent = placed_after (has_given c.args.self.now) p.gathered.made in
+    let preceded = ap (λ (k : Contexts). nat_lt 0 k.before.syllables) (c.close_last-has_last.ensures.contexts ∙ (c.hold.ensures.contexts ∙ c.free.ensures.contexts)) in
     let rests = c.requires.stands.rests.rests in
     let limits = c.args.self.now.limits in
     let now = c.close.new.self.events in
@@ -76,17 +79,17 @@ returns-in-None c =
     let held = ap (λ (k : Gathered). k.made) c.free.ensures.gathered in
     let one : length all.made ≤ 1 = omega (arith, ap (λ (ms : List UnplacedSyllable). length ms) (made ∙ sym held), c.free.ensures.one) in
     let later : OnlyFirstHasNotes lent = subst (λ (k : Gathered). OnlyFirstHasNotes (placed_after (has_given c.args.self.now) k.made)) (sym is) (last_has_no_notes (has_given c.args.self.now) all one) in
-    let short : All (IsShort limits.syllable) p.gathered.made = subst (λ (k : Gathered). All (IsShort limits.syllable) k.made) (sym is) (short_at_end limits c.args.self.now.bounds.before old now rests.limit rests.over c.requires.stands.rests.preceded.follows c.requires.stands.rests.within.written rests.short none) in
+    let short : All (IsShort limits.syllable) p.gathered.made = subst (λ (k : Gathered). All (IsShort limits.syllable) k.made) (sym is) (short_at_end limits c.args.self.now.pair.contexts.before old now rests.limit rests.over c.requires.stands.rests.preceded.follows c.requires.stands.rests.within.written rests.short none) in
     let kept = kept_memory c.args.self.now c.free.new.self.gathered g p.gathered c.hold.new.found now rests c.free.ensures.gathered c.hold.ensures.gathered c.close_last-has_last.ensures.gathered c.hold.ensures.found in
     record {
       step = gives_outside (outputs_of found lent ++ End ∷ []) (λ is. absurd (cc is)) (λ heads. absurd (cc (heads, c.requires.stands.part))) (record {
-        lends = lends_these limits 2 found lent (End ∷ []) refl (rw (sym c.follows-follows.ensures) c.give_end.ensures.few) later (placed_within limits _ p.gathered.made short);
+        lends = lends_these limits 2 found lent (End ∷ []) refl (rw (sym preceded) c.give_end.ensures.few) later (placed_within limits _ p.gathered.made short);
         limits = refl;
         part = leads_out c.args.self.now.part _ head_event.End (outputs_of found lent) End c.requires.stands.part refl refl;
         last = λ other final. last_after (outputs_of found lent) End refl;
         passes = λ other. tt;
         law = search rules;
-        emitted = rw (sym c.slice-found.ensures, sym c.follows-follows.ensures) c.give_end.ensures.emitted;
+        emitted = rw (sym c.slice.ensures, sym preceded) c.give_end.ensures.emitted;
       });
       rests = record { room = kept.0; limit = c.give_end.ensures.limit ∙ kept.1 };
     }

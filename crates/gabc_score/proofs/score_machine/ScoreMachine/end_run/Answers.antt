@@ -1,6 +1,6 @@
-use Rattle.std.proofs.Common.{rules, ◌∙◌, subst}
+use Rattle.std.proofs.Common.{rules, ◌∙◌, ap, subst}
 use Rattle.gabc_score.specs.declared.preceding.Preceding.{Preceding}
-use Rattle.gabc_score.specs.machine.Run.{GoesBefore}
+use Rattle.gabc_score.specs.machine.Run.{GoesBefore, before_by}
 use Rattle.gabc_score.proofs.runs.RunIsTaken.{cut_before, start_is, within_is, plain_there, next_there, rests_on, alone_on, rests_after, gives_after}
 use Rattle.gabc_score.proofs.score_machine.ScoreMachine.end_run.Goals as goal
 
@@ -11,7 +11,7 @@ pub read_all-requires-clause-alone : goal.read_all-requires-clause-alone
 read_all-requires-clause-alone c =
     let to = c.requires.to.1 in
     let from_is = start_is c.args.self.now c.args.at c.args.text.now c.requires.to.0 c.args.reached to _ c.place_past-start.result c.place_past-start.ensures.place c.split_at.ensures.front in
-    record { part = search rules; rests = rests_on c.args.self.now c.args.at c.args.text.now c.requires.to.0 c.args.reached to c.place_past-start.result from_is c.a_regular_syllable_goes_through.ensures c.go_before.new.self (subst (λ (p : Preceding). GoesBefore c.args.self.now p c.place_past-start.result c.go_before.new.self) c.preceding.ensures c.go_before.ensures); none = search rules }
+    record { part = search rules; rests = rests_on c.args.self.now c.args.at c.args.text.now c.requires.to.0 c.args.reached to c.place_past-start.result from_is c.a_regular_syllable_goes_through.ensures c.go_before.new.self (subst (λ (p : Preceding). GoesBefore c.args.self.now p c.place_past-start.result c.go_before.new.self) (c.preceding-context.ensures ∙ ap (λ (p : Preceding). before_by p c.args.reached) c.after.ensures) c.go_before.ensures); none = search rules }
 
 pub returns-clause-ends : goal.returns-clause-ends
 returns-clause-ends c =
@@ -19,7 +19,7 @@ returns-clause-ends c =
     let first = c.requires.to.0 in
     let to = c.requires.to.1 in
     let on = c.go_before.new.self in
-    let goes = subst (λ (p : Preceding). GoesBefore m p c.place_past-start.result on) c.preceding.ensures c.go_before.ensures in
+    let goes = subst (λ (p : Preceding). GoesBefore m p c.place_past-start.result on) (c.preceding-context.ensures ∙ ap (λ (p : Preceding). before_by p c.args.reached) c.after.ensures) c.go_before.ensures in
     let law = c.a_regular_syllable_goes_through.ensures in
     let from_is = start_is m c.args.at c.args.text.now first c.args.reached to _ c.place_past-start.result c.place_past-start.ensures.place c.split_at.ensures.front in
     let good = c.read_all.ensures.reads.alone ∙ alone_on m c.args.at c.args.text.now first c.args.reached to c.place_past-start.result from_is law on goes in

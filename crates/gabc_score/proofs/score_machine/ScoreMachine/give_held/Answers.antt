@@ -4,7 +4,7 @@ use Rattle.std.proofs.lemmas.List.Elements.{All-head}
 use Rattle.gabc_places.specs.declared.limits.Limits.{Limits}
 use Rattle.gabc_body.specs.Canonical.{canonical_in_place, position_by}
 use Rattle.gabc_body.specs.Syllable.{UnplacedSyllable, PlacedSyllable}
-use Rattle.gabc_score.specs.machine.ScoreMachine.{IsShort}
+use Rattle.gabc_score.specs.machine.ScoreMachine.{has_given, IsShort}
 use Rattle.gabc_score.proofs.score_events.FewAndShortAreLent.{short_within}
 use Rattle.gabc_score.proofs.score_machine.ScoreMachine.give_held.Goals as goal
 
@@ -23,6 +23,6 @@ give-requires g c =
     record {
       short = subst (λ (s : PlacedSyllable). length (canonical_in_place s) ≤ m.limits.syllable + 1) (sym c.first.ensures.placed)
           (within_limits m.limits m.pair.gathered.made c.place_held.new.self.first
-          (λ (x : UnplacedSyllable). record { made = x; position = position_by (not c.follows.result || x.text.word_start) c.args.next_starts }) c.requires.one c.requires.short (λ x. refl) c.place_held.ensures.first);
+          (λ (x : UnplacedSyllable). record { made = x; position = position_by (not (has_given m) || x.text.word_start) c.args.next_starts }) c.requires.one c.requires.short (λ x. refl) c.place_held.ensures.first);
       stands = c.first.ensures.stands;
     }

@@ -85,7 +85,7 @@ returns-clause-holds c =
         may = found.may;
         held = held_there c.read_all.new.self.part c.read_all.new.self.pair.gathered.made found.syllable on.part made;
         limits = on.limits;
-        before_is = before_there was.part c.read_all.new.self.part was.body c.begin_text.new.self was.bounds.before c.read_all.new.self.bounds.before c.requires.alone.begins.body on.part
+        before_is = before_there was.part c.read_all.new.self.part was.body c.begin_text.new.self was.pair.contexts.before c.read_all.new.self.pair.contexts.before c.requires.alone.begins.body on.part
             (ap (λ (b : BodyStageState). b.nabc_lines) c.begin_text.ensures.text ∙ on.lines) (ap (λ (b : BodyStageState). b.macros) c.begin_text.ensures.text ∙ on.macros) on.before;
         begins = record { body = on.part; nothing_read = reads_there c.read_all.new.self.part c.read_all.new.self.pair.gathered.builder.kept on.part kept; begins = body; next = refl };
       };
@@ -122,7 +122,7 @@ returns-clause-rests c =
       preceded = was.preceded;
       after = was.after;
       code = was.code;
-      reading = begins_again _ _ c.read_all.new.self.body.part c.begin_text.new.self.part c.read_all.new.self.bounds.after.spans c.read_all.new.self.pair.gathered
+      reading = begins_again _ _ c.read_all.new.self.body.part c.begin_text.new.self.part c.read_all.new.self.pair.contexts.after.spans c.read_all.new.self.pair.gathered
           (rw (ap (λ (b : BodyStageState). b.nabc_lines) c.begin_text.ensures.text, ap (λ (b : BodyStageState). b.macros) c.begin_text.ensures.text) was.reading) nothing (c.begin_text.ensures.keeps _ _);
       units = rw (ap (λ (b : BodyStageState). b.nabc_lines) c.begin_text.ensures.text) was.units;
       within = was.within;

@@ -1,7 +1,9 @@
-use Rattle.std.proofs.Common.{rules, ap, ◌∙◌}
-use Rattle.gabc_score.specs.declared.bounds.Bounds.{Bounds}
+use Rattle.std.proofs.Common.{rules, ◌≡◌, ap, ◌∙◌}
+use Rattle.gabc_score.specs.machine.Preceded.{Contexts, after_headers, gathered_after}
+use Rattle.gabc_score.specs.declared.preceding.Preceding.{Preceding}
+use Rattle.gabc_score.specs.Before.{no_syllable}
 use Rattle.gabc_body.specs.witness.Gatherer.{Gathered}
-use Rattle.gabc_score.specs.machine.SlotPair.{SlotPairState}
+use Rattle.gabc_score.specs.machine.SlotPair.{SlotPairState, slots_after}
 use Rattle.gabc_score.proofs.score_events.PendingSyllableHoldsUnit.{none_held}
 use Rattle.gabc_score.proofs.score_events.GatheredStaysWithinLimits.{within_begun}
 use Rattle.gabc_score.proofs.score_events.WhatIsRead.{comment_reads}
@@ -9,7 +11,9 @@ use Rattle.gabc_score.proofs.score_machine.ScoreMachine.in_body.Goals as goal
 
 pub returns-clause-rests : goal.returns-clause-rests
 returns-clause-rests c =
-    let gathered = ap (λ (s : SlotPairState). s.gathered) c.start.ensures ∙ ap (λ (g : Gathered). record g { total = c.args.head }) c.in_ok-pair.ensures.gathered in
+    let slots = c.follow.ensures ∙ ap (λ (p : Preceding). slots_after p c.in_ok-pair.pair) c.after_headers.ensures in
+    let gathered = ap (λ (s : SlotPairState). s.gathered) slots ∙ ap (gathered_after (no_syllable c.args.head)) c.in_ok-pair.ensures.gathered in
+    let contexts : c.follow.new.self.contexts ≡ after_headers c.args.head = ap (λ (s : SlotPairState). s.contexts) slots in
     let made = ap (λ (g : Gathered). g.made) gathered in
     record {
       rests = search rules;
@@ -18,8 +22,8 @@ returns-clause-rests c =
       preceded = search rules;
       after = search rules;
       code = search rules;
-      reading = comment_reads c.args.body.nabc_lines c.args.body.macros c.args.head c.args.limits.syllable c.args.head c.args.body.part c.after_headers-bounds.result c.start.new.self.gathered c.requires c.after_headers-bounds.ensures gathered;
-      units = none_held c.args.body.nabc_lines c.after_headers-bounds.result.before c.start.new.self.gathered.made made;
-      within = within_begun c.args.limits c.args.head c.after_headers-bounds.result.before c.start.new.self.gathered (ap (λ (b : Bounds). b.before) c.after_headers-bounds.ensures) made;
-      front = λ e. record { none_before = ap (λ (b : Bounds). b.before.syllables) c.after_headers-bounds.ensures; none_made = made };
+      reading = comment_reads c.args.body.nabc_lines c.args.body.macros c.args.head c.args.limits.syllable c.args.head c.args.body.part c.follow.new.self.contexts c.follow.new.self.gathered c.requires contexts gathered;
+      units = none_held c.args.body.nabc_lines c.follow.new.self.contexts.before c.follow.new.self.gathered.made made;
+      within = within_begun c.args.limits c.args.head c.follow.new.self.contexts.before c.follow.new.self.gathered (ap (λ (k : Contexts). k.before) contexts) made;
+      front = λ e. record { none_before = ap (λ (k : Contexts). k.before.syllables) contexts; none_made = made };
     }

@@ -52,7 +52,7 @@ returns-else-is_some-clause-step c =
         gathered = a.gathered;
         same = record {
           body = c.requires.part;
-          bounds = refl;
+          contexts = a.contexts;
           made = none_made m.pair.gathered g.pair.gathered g.body.events a.gathered
               (ap (λ (ms : List UnplacedSyllable). nat_lt (length ms) (length g.pair.gathered.made)) (sym a.held) ∙ sym c.is_whole.ensures.made ∙ c.if-is_whole.false);
         };

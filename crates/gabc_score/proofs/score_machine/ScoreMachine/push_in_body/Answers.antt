@@ -1,5 +1,6 @@
-use Rattle.std.proofs.Common.{rules, ◌++◌, [], ◌∷◌, refl, arith}
+use Rattle.std.proofs.Common.{rules, ◌++◌, [], ◌∷◌, nat_lt, refl, sym, ap, arith}
 use Rattle.gabc_body.specs.ScoreEvents.{Found, Stop, outputs_of}
+use Rattle.gabc_score.specs.machine.Preceded.{Contexts}
 use Rattle.gabc_score.specs.machine.ScoreMachine.{has_given}
 use Rattle.gabc_score.specs.machine.ScoreStage.{placed_after}
 use Rattle.gabc_score.proofs.score_events.CharactersAreRead.{character_gives, character_rests}
@@ -38,14 +39,15 @@ returns-in-Stop c = record {
   step =
       let held = c.free.new.self.held in
       let given = outputs_of [] (placed_after (has_given c.args.self.now) held) in
+      let preceded = ap (λ (k : Contexts). nat_lt 0 k.before.syllables) c.free.ensures.contexts in
       gives_outside (given ++ Stop c.in-Stop.fault ∷ []) (λ body. absurd (cc (body, c.stop.ensures.part))) (λ heads. absurd (cc (heads, c.requires.stands.part))) (record {
-        lends = rw c.in-Stop.is (held_lends c.args.self.now.limits 1 (has_given c.args.self.now) held c.args.self.now.pair.gathered.made (Stop c.in-Stop.fault ∷ []) refl c.free.ensures.held c.requires.stands.rests.rests.short c.stop.ensures.few (omega arith));
+        lends = rw c.in-Stop.is (held_lends c.args.self.now.limits 1 (has_given c.args.self.now) held c.args.self.now.pair.gathered.made (Stop c.in-Stop.fault ∷ []) refl c.free.ensures.held c.requires.stands.rests.rests.short (rw (sym preceded) c.stop.ensures.few) (omega arith));
         limits = c.stop.ensures.limits;
         part = leads_out c.args.self.now.part c.stop.new.self.part _ given (Stop c.in-Stop.fault) c.requires.stands.part c.stop.ensures.part refl;
         last = λ other final. last_after given (Stop c.in-Stop.fault) refl;
         passes = λ other. rw c.in-Stop.is tt;
         law = search rules;
-        emitted = c.stop.ensures.emitted;
+        emitted = rw (sym preceded) c.stop.ensures.emitted;
       });
   rests = search rules;
 }

@@ -1,10 +1,12 @@
-use Rattle.std.proofs.Common.{rules, [], ◌∷◌, refl, ap, sym, subst, ◌∙◌, arith}
+use Rattle.std.proofs.Common.{rules, ◌≡◌, [], ◌∷◌, refl, ap, sym, subst, ◌∙◌, arith}
 use Rattle.std.proofs.lemmas.Bool.{false≢true}
 use Rattle.gabc_body.specs.ScoreEvents.{Found, Stop, End}
-use Rattle.gabc_score.specs.declared.bounds.Bounds.{Bounds}
+use Rattle.gabc_score.specs.machine.Preceded.{Contexts, after_headers, gathered_after}
 use Rattle.gabc_score.specs.ScoreStage.{EndsLine, is_final}
+use Rattle.gabc_score.specs.declared.preceding.Preceding.{Preceding}
+use Rattle.gabc_score.specs.Before.{no_syllable}
 use Rattle.gabc_body.specs.witness.Gatherer.{Gathered}
-use Rattle.gabc_score.specs.machine.SlotPair.{SlotPairState}
+use Rattle.gabc_score.specs.machine.SlotPair.{SlotPairState, slots_after}
 use Rattle.gabc_score.specs.witness.BodyStage.{BodyStageState}
 use Rattle.gabc_score.proofs.score_events.PendingSyllableHoldsUnit.{none_held}
 use Rattle.gabc_score.proofs.score_events.CountsGoOn.{begins_of_text}
@@ -53,7 +55,9 @@ returns-in-Body c = record {
 
 pub returns-in-Heads : goal.returns-in-Heads
 returns-in-Heads c =
-    let gathered = ap (λ (s : SlotPairState). s.gathered) c.start.ensures ∙ ap (λ (g : Gathered). record g { total = c.in-Heads.canonical }) c.requires.rests.nothing in
+    let slots = c.follow.ensures ∙ ap (λ (p : Preceding). slots_after p c.args.self.now.pair) c.after_headers.ensures in
+    let gathered = ap (λ (s : SlotPairState). s.gathered) slots ∙ ap (gathered_after (no_syllable c.in-Heads.canonical)) c.requires.rests.nothing in
+    let contexts : c.follow.new.self.contexts ≡ after_headers c.in-Heads.canonical = ap (λ (s : SlotPairState). s.contexts) slots in
     let made = ap (λ (g : Gathered). g.made) gathered in
     record {
       step =
@@ -70,10 +74,10 @@ returns-in-Heads c =
             next = search rules;
             stands = search rules;
             whole = λ body. rw (c.requires.part, c.in-Heads.is)
-                (none_whole c.after_headers-self.result c.in-Heads.canonical c.start.new.self.gathered c.after_headers-self.ensures made);
-            told = λ may here was body. begins_of_text c.args.self.now.limits c.args.self.now.next c.args.input c.in-Heads.nabc_lines c.in-Heads.macros c.in-Heads.canonical c.restart.new.self c.after_headers-self.result c.in-Heads.is
-                c.restart.ensures c.after_headers-self.ensures may _ refl refl refl refl (ap (λ (g : Gathered). g.builder.kept) gathered) made;
-            holds = λ was body none. ap (λ (b : Bounds). b.before.syllables) c.after_headers-self.ensures;
+                (none_whole c.follow.new.self.contexts c.in-Heads.canonical c.follow.new.self.gathered contexts made);
+            told = λ may here was body. begins_of_text c.args.self.now.limits c.args.self.now.next c.args.input c.in-Heads.nabc_lines c.in-Heads.macros c.in-Heads.canonical c.restart.new.self c.follow.new.self.contexts c.in-Heads.is
+                c.restart.ensures contexts may _ refl refl refl refl (ap (λ (g : Gathered). g.builder.kept) gathered) made;
+            holds = λ was body none. ap (λ (k : Contexts). k.before.syllables) contexts;
             law = search rules;
             emitted = search rules;
             front = λ heads lines macros canonical is. search rules;
@@ -85,10 +89,10 @@ returns-in-Heads c =
         preceded = search rules;
         after = search rules;
         code = search rules;
-        reading = comment_reads c.restart.new.self.nabc_lines c.restart.new.self.macros c.in-Heads.canonical c.args.self.now.limits.syllable c.in-Heads.canonical c.restart.new.self.part c.after_headers-self.result c.start.new.self.gathered
-            (ap (λ (s : BodyStageState). s.part) c.restart.ensures) c.after_headers-self.ensures gathered;
-        units = none_held c.restart.new.self.nabc_lines c.after_headers-self.result.before c.start.new.self.gathered.made made;
-        within = within_begun c.args.self.now.limits c.in-Heads.canonical c.after_headers-self.result.before c.start.new.self.gathered (ap (λ (b : Bounds). b.before) c.after_headers-self.ensures) made;
-        front = λ e. record { none_before = ap (λ (b : Bounds). b.before.syllables) c.after_headers-self.ensures; none_made = made };
+        reading = comment_reads c.restart.new.self.nabc_lines c.restart.new.self.macros c.in-Heads.canonical c.args.self.now.limits.syllable c.in-Heads.canonical c.restart.new.self.part c.follow.new.self.contexts c.follow.new.self.gathered
+            (ap (λ (s : BodyStageState). s.part) c.restart.ensures) contexts gathered;
+        units = none_held c.restart.new.self.nabc_lines c.follow.new.self.contexts.before c.follow.new.self.gathered.made made;
+        within = within_begun c.args.self.now.limits c.in-Heads.canonical c.follow.new.self.contexts.before c.follow.new.self.gathered (ap (λ (k : Contexts). k.before) contexts) made;
+        front = λ e. record { none_before = ap (λ (k : Contexts). k.before.syllables) contexts; none_made = made };
       };
     }

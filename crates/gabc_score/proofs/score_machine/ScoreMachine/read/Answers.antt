@@ -9,11 +9,8 @@ use Rattle.gabc_notes.specs.declared.item.ItemKind.{ItemKind}
 use Rattle.gabc_body.specs.Body.{fault_at}
 use Rattle.gabc_body.specs.NoteBeforeClef.{found_first}
 use Rattle.gabc_score.specs.declared.score_machine.ScoreMachine.{ScoreMachine}
-use Rattle.gabc_score.specs.declared.bounds.Bounds.{Bounds}
 use Rattle.gabc_body.specs.witness.BodyBuilder.{code_in}
 use Rattle.gabc_score.specs.machine.ReadsChar.{ReadsChar, StopsWith, GivesPoint, stops, goes, found_past, past_char}
-use Rattle.gabc_score.specs.machine.ScoreMachine.{has_given}
-use Rattle.gabc_score.specs.machine.SlotPair.{SlotPairState}
 use Rattle.gabc_score.proofs.building.EventsAreGatheredInTurn.{never_lent}
 use Rattle.gabc_score.proofs.score_events.CharactersAreRead.{few_gathered, room_gathered}
 use Rattle.gabc_score.proofs.score_events.EventsStayWithinBounds.{few_with_first}
@@ -22,10 +19,6 @@ use Rattle.gabc_score.proofs.score_machine.ScoreMachine.read.Goals as goal
 
 found_is : (found new : BoundedList Finding) {was was_is now now_is : Option ItemKind} (place : Place) → was ≡ was_is → now ≡ now_is → new ≡ extended_by found (found_first was now place) → new ≡ extended_by found (found_first was_is now_is place)
 found_is found new {was_is = was_is} {now} place w n e = e ∙ ap (λ k. extended_by found (found_first k now place)) w ∙ ap (λ k. extended_by found (found_first was_is k place)) n
-
-stands_past : (g : ScoreMachine) (q : SlotPairState) (r : BoundedList Finding) {next next_is : Place} {bounds bounds_is : Bounds} → next ≡ next_is → bounds ≡ bounds_is
-    → record g { pair = q; found = r; next = next_is; bounds = bounds_is } ≡ record g { pair = q; found = r; next = next; bounds = bounds }
-stands_past g q r n b = grind arith
 
 pub find_first-requires : goal.find_first-requires
 find_first-requires c =
@@ -36,8 +29,8 @@ find_first-requires c =
 pub stop-requires-clause-used : goal.stop-requires-clause-used
 stop-requires-clause-used c = never_lent _ _ c.gather.ensures.gathers.used
 
-pub give_point-gave-requires-clause-few : goal.give_point-gave-requires-clause-few
-give_point-gave-requires-clause-few c =
+pub give_point-requires-clause-few : goal.give_point-requires-clause-few
+give_point-requires-clause-few c =
     few_with_first c.gather.new.self.found c.find_first.new.found _ _ c.args.x.place c.find_first.ensures (few_gathered c.requires.stands.rests c.gather.ensures.gathers)
 
 pub returns-in-Some : goal.returns-in-Some
@@ -55,14 +48,13 @@ returns-in-None c =
     let g = c.gather.new.self in
     let same = c.gather.ensures.same in
     let m = c.args.self.now in
-    let give = c.give_point-gave in
+    let give = c.give_point in
     subst (ReadsChar m c.args.x c.args.out.now give.new.out)
-    (ap (λ (k : ScoreMachine). past_char k c.args.x g.body c.is_whole-is_whole.result give.result give.new.pair give.new.found) (sym same) ∙ stands_past g give.new.pair give.new.found c.saturating_after-self-in-None.ensures c.pass.ensures)
+    (ap (λ (k : ScoreMachine). past_char k c.args.x g.body give.new.pair give.new.found) (sym same)
+    ∙ ap (λ (p : Place). record g { pair = give.new.pair; found = give.new.found; next = p }) (sym c.saturating_after-self-in-None.ensures))
     (goes c.gather.ensures.gathers (record {
       none = ap (λ (k : ScoreMachine). code_in k.limits g.pair.gathered) (sym same) ∙ (sym c.code.ensures.code ∙ c.in-None.is);
-      whole_is = c.is_whole-is_whole.ensures.made;
-      given = subst (λ (k : ScoreMachine). GivesPoint (has_given k) g.pair (found_past m c.args.x g.pair g.found) give.result give.new.pair give.new.found c.args.out.now give.new.out) same
-          (subst (λ (f : BoundedList Finding). GivesPoint (has_given g) g.pair f give.result give.new.pair give.new.found c.args.out.now give.new.out) (found_is g.found c.find_first.new.found c.args.x.place c.sounded-was.ensures c.sounded.ensures c.find_first.ensures) (rw (sym c.follows-follows.ensures) give.ensures));
+      given = subst (λ (f : BoundedList Finding). GivesPoint g.pair f give.new.pair give.new.found c.args.out.now give.new.out) (found_is g.found c.find_first.new.found c.args.x.place c.sounded-was.ensures c.sounded.ensures c.find_first.ensures) give.ensures;
     }))
 
 pub returns-then-is_empty : goal.returns-then-is_empty

@@ -23,7 +23,7 @@ invariant-loop-c l = record {
   rests : IsInBody l.self;
   lines : l.self.body.nabc_lines ≡ l.initial.self.body.nabc_lines;
   macros : l.self.body.macros ≡ l.initial.self.body.macros;
-  before : l.self.bounds.before ≡ l.initial.self.bounds.before;
+  before : l.self.pair.contexts.before ≡ l.initial.self.pair.contexts.before;
   limits : l.self.limits ≡ l.initial.self.limits;
   alone : is_alone l.initial.self.limits l.initial.self.pair.gathered (lists_from l.initial.self l.fn.at (chars l.fn.text))
       ≡ is_alone l.self.limits l.self.pair.gathered (lists_from l.self l.place (chars (chars_rest l.c-iterator)));

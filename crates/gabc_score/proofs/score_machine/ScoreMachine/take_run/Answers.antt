@@ -1,4 +1,4 @@
-use Rattle.std.proofs.Common.{rules, ◌≡◌, nat_lt, ℕ, List, [], ◌∷◌, ◌++◌, refl, sym, ap, subst, ◌∙◌}
+use Rattle.std.proofs.Common.{rules, ◌≡◌, ◌||◌, not, nat_lt, ℕ, List, [], ◌∷◌, ◌++◌, refl, sym, ap, subst, ◌∙◌}
 use Rattle.std.proofs.lemmas.List.Elements.{All-nil}
 use Rattle.std.proofs.lemmas.Str.{chars-nil}
 use Rattle.std.specs.List.{All}
@@ -6,14 +6,18 @@ use Rattle.std.specs.Str.{IsUtf8, chars}
 use Rattle.gabc_places.specs.Place.{place_past}
 use Rattle.gabc_places.specs.TextOfAnInput.{IsPlain}
 use Rattle.gabc_places.specs.declared.place.Place.{Place}
+use Rattle.gabc_body.specs.Canonical.{position_by}
 use Rattle.gabc_score.specs.GivesSyllables.{GivesSyllables}
 use Rattle.gabc_score.specs.witness.ScoreStage.{ScoreStageState}
 use Rattle.gabc_body.specs.witness.Gatherer.{Gathered}
 use Rattle.gabc_body.specs.Syllable.{PlacedSyllable}
+use Rattle.gabc_score.specs.declared.preceding.Preceding.{Preceding}
 use Rattle.gabc_score.specs.declared.run.Found.{Found}
+use Rattle.gabc_score.specs.declared.run.Reached.{Reached}
 use Rattle.gabc_score.specs.declared.score_machine.ScoreMachine.{ScoreMachine}
+use Rattle.gabc_score.specs.machine.Preceded.{Contexts}
 use Rattle.gabc_score.specs.machine.RegularLen.{BeginsRegularly}
-use Rattle.gabc_score.specs.machine.Run.{IsFound, IsFrontOf, IsSamePair, KeepsFirstSound, TakesRun, len_of}
+use Rattle.gabc_score.specs.machine.Run.{IsFound, IsFrontOf, IsSamePair, KeepsFirstSound, RunsTo, TakesRun, len_of}
 use Rattle.gabc_score.specs.machine.ScoreMachine.{shown, IsScore}
 use Rattle.gabc_score.proofs.runs.RunBegins.{held_of}
 use Rattle.gabc_score.proofs.runs.RunIsTaken.{gives_none, gives_same, shown_same, placed_first, run_to_first}
@@ -42,7 +46,7 @@ returns-in_default-clause-takes g c = none_taken g.G.Give.given c.args.self.now 
 
 pub returns-then-not-give_held-clause-takes : goal.returns-then-not-give_held-clause-takes
 returns-then-not-give_held-clause-takes g c =
-    let same : IsSamePair c.args.self.now c.give_held.new.self = record { gathered = c.give_held.ensures.same.gathered ∙ c.free.ensures.gathered; used = c.give_held.ensures.same.used; is = c.give_held.ensures.same.is } in
+    let same : IsSamePair c.args.self.now c.give_held.new.self = record { gathered = c.give_held.ensures.same.gathered ∙ c.free.ensures.gathered; contexts = c.give_held.ensures.same.contexts ∙ c.free.ensures.contexts; used = c.give_held.ensures.same.used; is = c.give_held.ensures.same.is } in
     record {
       front = none_front c.args.text.now c.args.at c.utf8.text;
       runs = record {
@@ -55,35 +59,45 @@ returns-then-not-give_held-clause-takes g c =
 
 -- ---- a run is taken
 
-module _ (lines : ℕ) (m : ScoreMachine) (f : Found) (e : lines ≡ m.body.nabc_lines) (found : IsFound lines m.limits m.bounds.after.canonical f) where
-  first_found : IsFound m.body.nabc_lines m.limits m.bounds.after.canonical f
-  first_found = subst (λ (n : ℕ). IsFound n m.limits m.bounds.after.canonical f) e found
+module _ (lines : ℕ) (m : ScoreMachine) (f : Found) (e : lines ≡ m.body.nabc_lines) (found : IsFound lines m.limits m.pair.contexts.after.canonical f) where
+  first_found : IsFound m.body.nabc_lines m.limits m.pair.contexts.after.canonical f
+  first_found = subst (λ (n : ℕ). IsFound n m.limits m.pair.contexts.after.canonical f) e found
 
   first_steady : ((is : BeginsRegularly lines (f.spelled.now ++ f.rest.now) (len_of f)) → KeepsFirstSound lines m.pair.gathered.first_kind is.syllable)
       → KeepsFirstSound m.body.nabc_lines m.pair.gathered.first_kind first_found.is.syllable
   first_steady h = subst (λ (n : ℕ). (is : BeginsRegularly n (f.spelled.now ++ f.rest.now) (len_of f)) → KeepsFirstSound n m.pair.gathered.first_kind is.syllable) e h first_found.is
 
+-- a run that has reached its first syllable, with this context
+abbrev begins_at : Found → Preceding → Reached
+begins_at f p = record { last = f; count = 0; canonical = p.canonical; spans = p.spans }
+
+runs_after : (m : ScoreMachine) (at : Place) (text : List ℕ) (given : List PlacedSyllable) (f : Found) (p q : Preceding) → p ≡ q → RunsTo m at text given (begins_at f q) → RunsTo m at text given (begins_at f p)
+runs_after m at text given f p q e = subst (λ (r : Preceding). RunsTo m at text given (begins_at f r)) (sym e)
+
 pub end_run-requires-clause-to : goal.end_run-requires-clause-to
 end_run-requires-clause-to g c =
     let m = c.args.self.now in
-    let same : IsSamePair m c.give_held.new.self = record { gathered = c.give_held.ensures.same.gathered ∙ c.free.ensures.gathered; used = c.give_held.ensures.same.used; is = c.give_held.ensures.same.is } in
-    let begun = run_to_first m c.args.at c.args.text.now c.in-Some.first (c.is_between.ensures c.if-not-is_between.false) (first_found c.nabc_lines-lines.result m c.in-Some.first c.nabc_lines-lines.ensures c.in-Some.ensures.found)
-    (first_steady c.nabc_lines-lines.result m c.in-Some.first c.nabc_lines-lines.ensures c.in-Some.ensures.found (c.is_first_with.ensures c.if-is_first_with.false))
+    let same : IsSamePair m c.give_held.new.self = record { gathered = c.give_held.ensures.same.gathered ∙ c.free.ensures.gathered; contexts = c.give_held.ensures.same.contexts ∙ c.free.ensures.contexts; used = c.give_held.ensures.same.used; is = c.give_held.ensures.same.is } in
+    let found = subst (λ (p : Preceding). IsFound c.nabc_lines-lines.result m.limits p.canonical c.in-Some.first) c.after-before.ensures c.in-Some.ensures.found in
+    let begun = run_to_first m c.args.at c.args.text.now c.in-Some.first (c.is_between.ensures c.if-not-is_between.false) (first_found c.nabc_lines-lines.result m c.in-Some.first c.nabc_lines-lines.ensures found)
+    (first_steady c.nabc_lines-lines.result m c.in-Some.first c.nabc_lines-lines.ensures found (c.is_first_with.ensures c.if-is_first_with.false))
     c.in-Some.ensures.text (c.is_low.ensures.line c.if-not-is_low.false) (c.is_low.ensures.column c.if-not-is_low.false) c.give_held.new.self same in
-    let on = c.give_on-reached.ensures c.args.at c.args.text.now _ begun in
+    let on = c.give_on-reached.ensures c.args.at c.args.text.now _ (runs_after c.give_held.new.self c.args.at c.args.text.now _ c.in-Some.first c.after-before.result m.pair.contexts.after c.after-before.ensures begun) in
     (_, on.runs)
 
 pub returns-clause-takes : goal.returns-clause-takes
 returns-clause-takes g c =
     let m = c.args.self.now in
-    let same : IsSamePair m c.give_held.new.self = record { gathered = c.give_held.ensures.same.gathered ∙ c.free.ensures.gathered; used = c.give_held.ensures.same.used; is = c.give_held.ensures.same.is } in
-    let begun = run_to_first m c.args.at c.args.text.now c.in-Some.first (c.is_between.ensures c.if-not-is_between.false) (first_found c.nabc_lines-lines.result m c.in-Some.first c.nabc_lines-lines.ensures c.in-Some.ensures.found)
-    (first_steady c.nabc_lines-lines.result m c.in-Some.first c.nabc_lines-lines.ensures c.in-Some.ensures.found (c.is_first_with.ensures c.if-is_first_with.false))
+    let same : IsSamePair m c.give_held.new.self = record { gathered = c.give_held.ensures.same.gathered ∙ c.free.ensures.gathered; contexts = c.give_held.ensures.same.contexts ∙ c.free.ensures.contexts; used = c.give_held.ensures.same.used; is = c.give_held.ensures.same.is } in
+    let found = subst (λ (p : Preceding). IsFound c.nabc_lines-lines.result m.limits p.canonical c.in-Some.first) c.after-before.ensures c.in-Some.ensures.found in
+    let begun = run_to_first m c.args.at c.args.text.now c.in-Some.first (c.is_between.ensures c.if-not-is_between.false) (first_found c.nabc_lines-lines.result m c.in-Some.first c.nabc_lines-lines.ensures found)
+    (first_steady c.nabc_lines-lines.result m c.in-Some.first c.nabc_lines-lines.ensures found (c.is_first_with.ensures c.if-is_first_with.false))
     c.in-Some.ensures.text (c.is_low.ensures.line c.if-not-is_low.false) (c.is_low.ensures.column c.if-not-is_low.false) c.give_held.new.self same in
-    let on = c.give_on-reached.ensures c.args.at c.args.text.now _ begun in
+    let on = c.give_on-reached.ensures c.args.at c.args.text.now _ (runs_after c.give_held.new.self c.args.at c.args.text.now _ c.in-Some.first c.after-before.result m.pair.contexts.after c.after-before.ensures begun) in
     let held = held_of m.pair.gathered.made (c.is_between.ensures c.if-not-is_between.false).one in
     let first =
     c.give_held.ensures.given c.if-not-give_held.false held.0 (ap (λ (h : Gathered). h.made) c.free.ensures.gathered ∙ held.1)
+    ∙ ap (λ (k : Contexts). g.G.Give.given c.args.out.now (record { made = held.0; position = position_by (not (nat_lt 0 k.before.syllables) || held.0.text.word_start) c.starts_word.result } ∷ [])) c.free.ensures.contexts
     ∙ ap (λ b. g.G.Give.given c.args.out.now (placed_first m held.0 b ∷ [])) c.starts_word.ensures
     in
     record {
