@@ -13,6 +13,10 @@ opener_of s = if in_raw (example s.state) then Some s.before.place else None
 abbrev pub comment_of : NoteStage → Bool
 comment_of s = s.before.comment
 
+-- The open bracket is at this place.
+abbrev pub opened_at : Place → NoteStage → NoteStage
+opened_at at s = record s { before = record s.before { place = if in_raw (example s.state) then at else s.before.place } }
+
 -- The part of a stage that matters: outside raw, no place does.
 abbrev pub told : NoteStage → NoteStage
 told s = record s { before = record s.before { place = if in_raw (example s.state) then s.before.place else record { line = 0; column = 0 } } }

@@ -1,6 +1,6 @@
 //! A machine that reads a snippet a character at a time.
 
-ghost use Rattle.std.specs.Prelude.{◌≡◌, ◌==◌, ℕ, List, [], true, false, None};
+ghost use Rattle.std.specs.Prelude.{◌≡◌, ◌==◌, ℕ, List, [], Bool, true, false, None, option_map};
 ghost use Rattle.gabc_places.specs.declared.place.Char.{Char};
 ghost use Rattle.gabc_places.specs.BoundedList.{Fits, extended_by};
 ghost use Rattle.gabc_places.specs.StageLaw.{Pushes, StopsAtEnd};
@@ -8,7 +8,7 @@ ghost use Rattle.gabc_notes.specs.declared.stage.CharFacts.{CharFacts};
 ghost use Rattle.gabc_notes.specs.machine.ItemMachine.{IsShortStep, facts_by_states, prefix_after, stage_after};
 ghost use Rattle.gabc_notes.specs.witness.ItemMachine.{events_left};
 ghost use Rattle.gabc_notes.specs.machine.StageAfter.{stage_after_one};
-ghost use Rattle.gabc_notes.specs.StageReports.{opener_of, comment_of};
+ghost use Rattle.gabc_notes.specs.StageReports.{opener_of, comment_of, opened_at};
 ghost use Rattle.gabc_notes.specs.witness.Keeps.{Keeps, Steps};
 ghost use Rattle.gabc_notes.specs.Ends.{is_ended};
 ghost use Rattle.gabc_notes.specs.witness.StageEvents.{role_in, warning_in, before_in, events_in, event_list};
@@ -371,6 +371,19 @@ impl NoteStage {
         ensures { result ≡ comment_of self.now }
     {
         self.before.comment
+    }
+
+    /// Sets the place of the open `[` to `place`, if one is open. The stage keeps the same text.
+    pub fn open_at(&mut self, place: Place)
+        ensures opened { self.new ≡ opened_at place self.old }
+        ensures opener { opener_of self.new ≡ option_map (λ _. place) (opener_of self.old) }
+        ensures comment { comment_of self.new ≡ comment_of self.old }
+        ensures keeps { (split : Bool) (macros : ℕ) (k : List ℕ) →
+            Keeps split macros self.old k → Keeps split macros self.new k }
+    {
+        if is_raw(self.state) {
+            self.before.place = place;
+        }
     }
 }
 

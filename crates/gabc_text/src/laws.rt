@@ -30,12 +30,12 @@ ghost use Rattle.gabc_text.specs.Canonical.{span_bytes, canonical_text};
 ghost use Rattle.gabc_places.specs.declared.place.Span.{Span};
 ghost use Rattle.gabc_text.specs.BuiltText.{with_events, empty_text, text_built_at, kept_chars_in, kept_in, found_in};
 ghost use Rattle.gabc_text.specs.Ends.{EndsOnce};
-ghost use Rattle.std.specs.Prelude.{◌*◌, ◌≤◌, ◌==◌, is_some};
+ghost use Rattle.std.specs.Prelude.{◌*◌, ◌≤◌, ◌==◌, is_some, option_map};
 ghost use Rattle.gabc_places.specs.BoundedList.{Fits, extended_by};
 ghost use Rattle.gabc_text.specs.witness.Keeps.{Keeps, OpensThere, Takes, is_open_after_text, begins_comment, ends_after_it, kept_with};
 ghost use Rattle.gabc_text.specs.StageReports.{IsNext, opener_of, is_in_comment, cut_place};
 ghost use Rattle.gabc_text.specs.witness.PiecesOwed.{pieces_owed};
-ghost use Rattle.gabc_text.specs.witness.StageReports.{has_ended, next_of, moved_to, told};
+ghost use Rattle.gabc_text.specs.witness.StageReports.{has_ended, next_of, moved_to, opened_at, told};
 ghost use Rattle.gabc_text.specs.witness.SaidInFull.{IsSaidInFull};
 
 use crate::stage::TextStage;
@@ -337,11 +337,16 @@ pub fn a_stage_takes_each_character()
     ensures takes { (s : TextStage) (c : ℕ) → has_ended s ≡ false → Takes s c }
 {}
 
-/// Law: to move a stage leaves its opener at the same place, and its comment open, if one is.
+/// Law: to move a stage leaves its opener at the same place, and its comment open, if one is. To set
+/// the place of an opener opens and ends nothing.
 pub fn what_is_open_stays_open_elsewhere()
     ensures opener { (s : TextStage) (at : Place) → opener_of (moved_to at s) ≡ opener_of s }
     ensures comment { (s : TextStage) (at : Place) →
         is_in_comment (moved_to at s) ≡ is_in_comment s }
+    ensures opened { (s : TextStage) (at : Place) →
+        opener_of (opened_at at s) ≡ option_map (λ _. at) (opener_of s) }
+    ensures comment_opened { (s : TextStage) (at : Place) →
+        is_in_comment (opened_at at s) ≡ is_in_comment s }
 {}
 
 /// Law: the place of the next character of a stage is the one that it reports: of a fresh one the

@@ -1,10 +1,10 @@
 //! The reports of a stage over a text, and how it is restored from them.
 
-ghost use Rattle.std.specs.Prelude.{◌≡◌, ℕ, List};
+ghost use Rattle.std.specs.Prelude.{◌≡◌, ℕ, List, option_map};
 ghost use Rattle.gabc_text.specs.witness.Keeps.{Keeps};
 ghost use Rattle.gabc_text.specs.StageReports.{opener_of, is_in_comment, IsNext};
 ghost use Rattle.gabc_text.specs.machine.StageReports.{is_open};
-ghost use Rattle.gabc_text.specs.witness.StageReports.{next_of, moved_to};
+ghost use Rattle.gabc_text.specs.witness.StageReports.{next_of, moved_to, opened_at};
 
 use crate::stage::TextStage;
 use crate::token_state::TokenState;
@@ -70,5 +70,19 @@ impl TextStage {
             self.progress.place = place;
         }
         self.progress.next = place;
+    }
+
+    /// Sets the place of the opener to `place`, if there is one. The place of the next character
+    /// stays, and the stage keeps the same text.
+    pub fn open_at(&mut self, place: Place)
+        ensures opened { self.new ≡ opened_at place self.old }
+        ensures opener { opener_of self.new ≡ option_map (λ _. place) (opener_of self.old) }
+        ensures comment { is_in_comment self.new ≡ is_in_comment self.old }
+        ensures next { (p : Place) → IsNext self.old p → IsNext self.new p }
+        ensures keeps { (k : List ℕ) → Keeps self.old k → Keeps self.new k }
+    {
+        if self.is_open() {
+            self.progress.place = place;
+        }
     }
 }

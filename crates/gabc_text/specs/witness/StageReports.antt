@@ -19,6 +19,10 @@ next_of s = s.progress.next
 abbrev pub moved_to : Place → TextStage → TextStage
 moved_to at s = record s { progress = record s.progress { place = if is_open s.state then s.progress.place else at; next = at } }
 
+-- What is open begins at this place.
+abbrev pub opened_at : Place → TextStage → TextStage
+opened_at at s = record s { progress = record s.progress { place = if is_open s.state then at else s.progress.place } }
+
 -- The place of a state that matters: that of a `$` or of a comment does not.
 abbrev pub place_told : TokenState → Place → Place → Place
 place_told Dollar place next = next
