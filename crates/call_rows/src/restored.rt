@@ -154,17 +154,17 @@ where
     Ok(printed.is(wanted.text().as_bytes()))
 }
 
-/// Pushes a kept text to `stage`, each character at `place`, and a `%` if a comment is open.
+/// Pushes a kept text to `stage`, all at one place, and a `%` if a comment is open.
 fn set_down<S: Stage<Input = Char>>(
     alloc: Global,
     stage: &mut S,
     kept: &str,
-    place: Place,
     in_comment: bool,
 ) -> Result<(), AllocError>
 where
     S::Output: StageEvent,
 {
+    let place = Place::START;
     let mut passed = String::new(alloc);
     for c in kept.chars() {
         keep(alloc, stage, Char { c, place }, &mut passed)?;
@@ -183,31 +183,13 @@ fn text_goes_on(alloc: Global, text: &str, cut: usize) -> Result<bool, AllocErro
     if !keep_front(alloc, &mut stage, text, cut, &mut kept)? {
         return Ok(true);
     }
-    let place = stage.opener().unwrap_or(Place::START);
-    let mut again = TextStage::new(place);
-    set_down_at(alloc, &mut again, kept.as_str(), place, stage.in_comment())?;
+    let mut again = TextStage::new(Place::START);
+    set_down(alloc, &mut again, kept.as_str(), stage.in_comment())?;
+    if let Some(place) = stage.opener() {
+        again.open_at(place);
+    }
     again.go_to(stage.next());
     agree(alloc, &mut stage, &mut again, text, cut)
-}
-
-/// Pushes a kept text to a stage of a text, which is moved to `place` before each character, and a
-/// `%` if a comment is open.
-fn set_down_at(
-    alloc: Global,
-    stage: &mut TextStage,
-    kept: &str,
-    place: Place,
-    in_comment: bool,
-) -> Result<(), AllocError> {
-    let mut passed = String::new(alloc);
-    for c in kept.chars() {
-        stage.go_to(place);
-        keep(alloc, stage, Char { c, place }, &mut passed)?;
-    }
-    if in_comment {
-        keep(alloc, stage, Char { c: '%', place }, &mut passed)?;
-    }
-    Ok(())
 }
 
 /// Returns the same for a stage of notes.
@@ -217,9 +199,11 @@ fn notes_go_on(alloc: Global, text: &str, cut: usize) -> Result<bool, AllocError
     if !keep_front(alloc, &mut stage, text, cut, &mut kept)? {
         return Ok(true);
     }
-    let place = stage.opener().unwrap_or(Place::START);
     let mut again = NoteStage::new(true, 2);
-    set_down(alloc, &mut again, kept.as_str(), place, stage.in_comment())?;
+    set_down(alloc, &mut again, kept.as_str(), stage.in_comment())?;
+    if let Some(place) = stage.opener() {
+        again.open_at(place);
+    }
     agree(alloc, &mut stage, &mut again, text, cut)
 }
 
@@ -231,13 +215,7 @@ fn nabc_goes_on(alloc: Global, text: &str, cut: usize) -> Result<bool, AllocErro
         return Ok(true);
     }
     let mut again = NabcStage::new();
-    set_down(
-        alloc,
-        &mut again,
-        kept.as_str(),
-        Place::START,
-        stage.in_comment(),
-    )?;
+    set_down(alloc, &mut again, kept.as_str(), stage.in_comment())?;
     agree(alloc, &mut stage, &mut again, text, cut)
 }
 

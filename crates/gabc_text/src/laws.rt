@@ -337,8 +337,8 @@ pub fn a_stage_takes_each_character()
     ensures takes { (s : TextStage) (c : ℕ) → has_ended s ≡ false → Takes s c }
 {}
 
-/// Law: to move a stage leaves its opener at the same place, and its comment open, if one is. To set
-/// the place of an opener opens and ends nothing.
+/// Law: to move a stage leaves its opener at the same place, and its comment open, if one is. To
+/// set the place of an opener opens and ends nothing.
 pub fn what_is_open_stays_open_elsewhere()
     ensures opener { (s : TextStage) (at : Place) → opener_of (moved_to at s) ≡ opener_of s }
     ensures comment { (s : TextStage) (at : Place) →
@@ -416,9 +416,9 @@ pub fn a_comment_before_a_text_counts_for_nothing()
 {}
 
 /// Returns a stage that is restored from the text `kept` that `stage` keeps and from its reports: a
-/// fresh stage reads this text again, each character at the place of the opener, then a `%` if a
-/// comment is open, and goes to the place of the next character. From then on it emits what `stage`
-/// emits. `room` is empty, and has room for 8 events.
+/// fresh stage reads this text again, then a `%` if a comment is open, and is told the places of
+/// the opener and of the next character. From then on it emits what `stage` emits. `room` is empty,
+/// and has room for 8 events.
 pub fn a_kept_text_gives_the_stage_back(
     stage: &TextStage,
     kept: &[char],
@@ -435,7 +435,6 @@ pub fn a_kept_text_gives_the_stage_back(
     let place = stage.opener().unwrap_or(Place::START);
     let mut again = TextStage::new(place);
     for c in kept {
-        again.go_to(place);
         again.push(Char { c: *c, place }, room);
         room.clear();
     }
@@ -443,6 +442,7 @@ pub fn a_kept_text_gives_the_stage_back(
         again.push(Char { c: '%', place }, room);
         room.clear();
     }
+    again.open_at(place);
     again.go_to(stage.next());
     again
 }

@@ -1,9 +1,9 @@
--- What is open in a stage that has ended, in a fresh one, and where the next character stands elsewhere.
-use Rattle.std.proofs.Common.{arith, ◌≡◌, true, false, cond, None, refl, sym, ◌∙◌}
+-- What is open in a stage that has ended, in a fresh one, and where the next character or the opener stands elsewhere.
+use Rattle.std.proofs.Common.{arith, ◌≡◌, true, false, cond, None, option_map, refl, sym, ◌∙◌}
 use Rattle.gabc_places.specs.declared.place.Place.{Place}
 use Rattle.gabc_text.specs.declared.stage.TextStage.{TextStage}
 use Rattle.gabc_text.specs.StageReports.{opener_of, is_in_comment}
-use Rattle.gabc_text.specs.witness.StageReports.{moved_to}
+use Rattle.gabc_text.specs.witness.StageReports.{moved_to, opened_at}
 use Rattle.gabc_text.specs.TextStage.{fresh_stage}
 use Rattle.gabc_text.specs.machine.StageReports.{opener_in, comment_in}
 use Rattle.gabc_text.proofs.NothingAfterTheEnd.{opener_told, comment_told}
@@ -39,3 +39,11 @@ opener_moved s at = grind (arith, opener_by)
 
 pub comment_moved : (s : TextStage) (at : Place) → is_in_comment (moved_to at s) ≡ is_in_comment s
 comment_moved s at = comment_by (moved_to at s) ∙ sym (comment_by s)
+
+-- ---- where what is open begins elsewhere
+
+pub opener_opened : (s : TextStage) (at : Place) → opener_of (opened_at at s) ≡ option_map (λ _. at) (opener_of s)
+opener_opened s at = grind (arith, opener_by)
+
+pub comment_opened : (s : TextStage) (at : Place) → is_in_comment (opened_at at s) ≡ is_in_comment s
+comment_opened s at = comment_by (opened_at at s) ∙ sym (comment_by s)

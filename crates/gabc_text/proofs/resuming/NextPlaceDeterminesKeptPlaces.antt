@@ -1,6 +1,6 @@
 -- What is kept of the characters to come stands as in a text that begins where the next character stands.
 use Rattle.std.proofs.lemmas.List.Elements.{All-nil, All-cons, All-head}
-use Rattle.std.proofs.Common.{arith, ◌≡◌, ◌==◌, ◌&&◌, ℕ, List, [], ◌∷◌, ◌++◌, Bool, true, false, cond, Option, Some, None, take, append-nil, refl, sym, ◌∙◌, subst}
+use Rattle.std.proofs.Common.{arith, ◌≡◌, ◌==◌, ◌&&◌, ℕ, List, [], ◌∷◌, ◌++◌, Bool, true, false, cond, Option, Some, None, take, append-nil, refl, sym, ap, ◌∙◌, subst}
 use Rattle.std.specs.List.{All}
 use Rattle.gabc_places.specs.Place.{saturating_next_place}
 use Rattle.gabc_places.specs.StageLaw.{concat_of}
@@ -20,12 +20,14 @@ use Rattle.gabc_text.specs.declared.text_facts.TextFacts.{TextFacts}
 use Rattle.gabc_text.specs.declared.token.TokenKind.{TokenKind}
 use Rattle.gabc_text.specs.declared.token_state.Step.{Step}
 use Rattle.gabc_text.specs.machine.TextStage.{char_event, events_of_end, events_of_finish, events_of_push, events_of_reading, events_of_settling_by, events_of_step, push_stage, settle_stage, settle_stage_by}
+use Rattle.gabc_text.specs.machine.Resuming.{placed}
 use Rattle.gabc_text.specs.machine.TokenState.{is_plain, settled_kind}
 use Rattle.gabc_text.specs.witness.EventsLeft.{end_events_by, events_left}
 use Rattle.gabc_text.proofs.events.EventsBuildText.{kept_more}
 use Rattle.gabc_text.proofs.machine.EventsLeftAreThoseAhead.{rest_is}
 use Rattle.gabc_text.proofs.machine.EventsStepByStep.{stepwise}
-use Rattle.gabc_text.proofs.resuming.EndsAndKept.{no_found_kept, settling_kept}
+use Rattle.gabc_text.proofs.resuming.EndsAndKept.{kept_said, no_found_kept, settling_kept}
+use Rattle.gabc_text.proofs.resuming.PlacesAside.{IsPlaced, push_placed, push_same}
 use Rattle.gabc_text.proofs.resuming.WhatStagesTell.{next_goes}
 
 -- ---- events that keep nothing
@@ -125,3 +127,40 @@ first_stands p c x xs lists e stand = grind (arith, head_stands, append-nil)
 pub one_place : (s : TextStage) (p q : Place) (c : ℕ) (x : Char) (xs : List Char) → kept_chars_in (concat_of (take 1 (events_left s (c ∷ [])))) ≡ x ∷ xs
     → IsNext s p → IsNext s q → p ≡ q
 one_place s p q c x xs e there here = grind (arith, first_stands)
+
+-- ---- where what is open begins elsewhere
+
+same_place : (p q : Place) (es : List TextEvent) (c : ℕ) (cs : List ℕ) → kept_in es ≡ c ∷ cs → StandAt p es → StandAt q es → p ≡ q
+same_place p q [] c cs e here there = cc
+same_place p q (out.Kept x ∷ es) c cs e here there = sym (All-head (λ (y : Char). y.place ≡ p) x (kept_chars_in es) here) ∙ All-head (λ (y : Char). y.place ≡ q) x (kept_chars_in es) there
+same_place p q (_ ∷ es) c cs e here there = same_place p q es c cs e here there
+
+stand_too : (p q : Place) (a b : List TextEvent) → kept_in a ≡ kept_in b → StandAt p a → StandAt q a → StandAt q b → StandAt p b
+stand_too p q a b e here there also = by (kept_in b) refl
+  where
+    by : (k : List ℕ) → kept_in b ≡ k → StandAt p b
+    by [] f = none_stand p b f
+    by (c ∷ cs) f = subst (λ (r : Place). StandAt r b) (sym (same_place p q a c cs (e ∙ f) here there)) also
+
+same_kept : (s r : TextStage) (c : ℕ) → IsPlaced s r → kept_in (events_of_push s c) ≡ kept_in (events_of_push r c)
+same_kept s r c is =
+    sym (kept_said (events_of_push s c))
+    ∙ ap kept_in (sym (push_same is.place is.next s c))
+    ∙ kept_said (events_of_push (placed is.place is.next s) c)
+    ∙ ap (λ (x : TextStage). kept_in (events_of_push x c)) (sym is.same)
+
+-- what stands at p in one stage, and in both where the next character of both is, stands at p in both
+placed_too : (s r : TextStage) (p q : Place) (t : List ℕ) → IsPlaced s r → KeptIsPlaced p t (stepwise s t) → KeptIsPlaced q t (stepwise s t) → KeptIsPlaced q t (stepwise r t) → KeptIsPlaced p t (stepwise r t)
+placed_too s r p q [] is here there also = finish_stands p r
+placed_too s r p q (c ∷ t) is here there also = (
+  stand_too p q (events_of_push s c) (events_of_push r c) (same_kept s r c is) here.0 there.0 also.0,
+  placed_too (push_stage s c) (push_stage r c) (saturating_next_place p c) (saturating_next_place q c) t
+      (subst (λ (x : TextStage). IsPlaced (push_stage s c) (push_stage x c)) (sym is.same) (push_placed is.place is.next s c)) here.1 there.1 also.1,
+)
+
+pub next_stays : (s : TextStage) (at p : Place) → IsNext s p → IsNext (placed at (next_of s) s) p
+next_stays s at p here t =
+    let there = placed at (next_of s) s in
+    subst (λ (lists : List (List TextEvent)). KeptIsPlaced p t lists) (sym (rest_is there t))
+    (placed_too s there p (next_of s) t (record { place = at; next = next_of s; same = refl })
+    (subst (λ (lists : List (List TextEvent)). KeptIsPlaced p t lists) (rest_is s t) (here t)) (stands s t s.ended refl) (stands there t s.ended refl))

@@ -9,7 +9,7 @@ use Rattle.gabc_text.specs.declared.token.TagEffect.TheVariants as tag
 use Rattle.gabc_text.specs.declared.token_state.Step.TheVariants.{Stays}
 use Rattle.gabc_text.specs.declared.token_state.TokenState.TheVariants.{Comment}
 use Rattle.gabc_text.specs.declared.stage.TextStage.{TextStage}
-use Rattle.gabc_text.specs.witness.StageReports.{moved_to}
+use Rattle.gabc_text.specs.witness.StageReports.{moved_to, opened_at}
 use Rattle.gabc_text.specs.machine.StageReports.{is_comment}
 use Rattle.gabc_text.specs.TextStage.{fresh_stage}
 use Rattle.gabc_text.specs.machine.RawPart.{stage_past}
@@ -58,6 +58,9 @@ fresh_reached at = record { between = λ _. refl; start = λ _. refl; blank = λ
 
 pub moved_reached : (at : Place) (s : TextStage) → IsReached s → IsReached (moved_to at s)
 moved_reached at s reached = grind arith
+
+pub opened_reached : (at : Place) (s : TextStage) → IsReached s → IsReached (opened_at at s)
+opened_reached at s reached = grind arith
 
 -- ---- many characters
 

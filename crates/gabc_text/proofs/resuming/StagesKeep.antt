@@ -12,7 +12,7 @@ use Rattle.gabc_text.specs.BuiltText.{kept_in}
 use Rattle.gabc_text.specs.witness.EventsLeft.{events_left}
 use Rattle.gabc_text.specs.witness.Keeps.{IsKeptOf, said, end_text, EndsInNotes, stage_after, Keeps, said_of, is_open_after_text, begins_comment, kept_with, ends_after_it, said_at_end, comment_with, GoesOn, EndsAfter, KeepsOn}
 use Rattle.gabc_text.specs.StageReports.{opener_of, is_in_comment}
-use Rattle.gabc_text.specs.witness.StageReports.{next_of, moved_to, place_told, told}
+use Rattle.gabc_text.specs.witness.StageReports.{next_of, moved_to, opened_at, place_told, told}
 use Rattle.gabc_text.specs.machine.StageReports.{is_open, is_comment, opener_in, comment_in}
 use Rattle.gabc_text.specs.TextStage.{fresh_stage}
 use Rattle.gabc_text.specs.machine.RawPart.{stage_past, events_of_pushes}
@@ -30,7 +30,7 @@ use Rattle.std.proofs.Math.Bool.{and-false}
 use Rattle.std.proofs.Common.{not, ◌≤◌, length, suc, is_some, arith}
 use Rattle.gabc_text.proofs.resuming.PlacesAside.{said_append, push_placed, push_same}
 use Rattle.gabc_text.proofs.resuming.KeptCharactersSuffice.{StepAlike, step_alike, stays_outside}
-use Rattle.gabc_text.proofs.resuming.ReachedStages.{push_reached, fresh_reached, moved_reached, goes_on}
+use Rattle.gabc_text.proofs.resuming.ReachedStages.{push_reached, fresh_reached, moved_reached, opened_reached, goes_on}
 use Rattle.gabc_text.proofs.NothingAfterTheEnd.{opener_told, comment_told}
 use Rattle.gabc_text.proofs.resuming.EndedAndFreshStagesHaveNothingOpen.{opener_moved, comment_moved}
 use Rattle.gabc_text.proofs.resuming.ReportDeterminesOutput.{told_suffices}
@@ -203,6 +203,9 @@ push_keeps s next c events e f = rw (e, f) (record {
 
 pub moved_keeps : (at : Place) (s : TextStage) (k : List ℕ) → Keeps s k → Keeps (moved_to at s) k
 moved_keeps at s k h = record { goes_on = h.goes_on; reached = moved_reached at s h.reached; alike = record { place = h.alike.place; next = h.alike.next; same = h.alike.same }; whole = h.whole }
+
+pub opened_keeps : (at : Place) (s : TextStage) (k : List ℕ) → Keeps s k → Keeps (opened_at at s) k
+opened_keeps at s k h = record { goes_on = h.goes_on; reached = opened_reached at s h.reached; alike = record { place = h.alike.place; next = h.alike.next; same = h.alike.same }; whole = h.whole }
 
 -- ---- what is open
 

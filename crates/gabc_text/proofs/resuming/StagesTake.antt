@@ -1,5 +1,5 @@
 -- A stage takes each character, and its opener may stand anywhere.
-use Rattle.std.proofs.Common.{◌≡◌, ◌==◌, ◌&&◌, ◌≤◌, ℕ, List, [], ◌∷◌, length, Bool, true, false, Option, Some, None, is_some, option_to_list, refl, sym, ap, ◌∙◌, subst, arith, if◌then◌else◌}
+use Rattle.std.proofs.Common.{◌≡◌, ◌==◌, ◌&&◌, ◌≤◌, ℕ, List, [], ◌∷◌, length, Bool, true, false, Option, Some, is_some, option_map, option_to_list, refl, sym, ap, ◌∙◌, subst, arith}
 use Rattle.std.proofs.lemmas.Bool.{eqb-true, not-true}
 use Rattle.gabc_places.specs.declared.place.Place.{Place}
 use Rattle.gabc_text.specs.declared.token_state.TokenState.{TokenState}
@@ -8,7 +8,7 @@ use Rattle.gabc_text.specs.declared.text_event.TextEvent.{TextEvent}
 use Rattle.gabc_text.specs.declared.stage.TextStage.{TextStage}
 use Rattle.gabc_text.specs.BuiltText.{kept_in}
 use Rattle.gabc_text.specs.StageReports.{opener_of, is_in_comment}
-use Rattle.gabc_text.specs.machine.StageReports.{is_open}
+use Rattle.gabc_text.specs.witness.StageReports.{opened_at}
 use Rattle.gabc_text.specs.witness.Keeps.{Keeps, OpensThere, Takes, begins_comment, comment_with, kept_with, GoesOn}
 use Rattle.gabc_text.specs.machine.Resuming.{kept_at, outside}
 use Rattle.gabc_text.specs.machine.TokenState.{is_plain}
@@ -16,8 +16,9 @@ use Rattle.gabc_text.specs.machine.TextStage.{push_stage, events_of_push}
 use Rattle.gabc_text.proofs.machine.EventsLeftAreThoseAhead.{rest_is}
 use Rattle.gabc_text.proofs.resuming.EndsAndKept.{done_is, ended_at, kept_is, none_kept_at_end}
 use Rattle.gabc_text.proofs.resuming.KeptCharactersSuffice.{comment_kept}
-use Rattle.gabc_text.proofs.NothingAfterTheEnd.{opener_told, comment_told}
-use Rattle.gabc_text.proofs.resuming.StagesKeep.{begins_is, comment_is, comment_not_kept, kept_with_is, push_keeps}
+use Rattle.gabc_text.proofs.NothingAfterTheEnd.{comment_told}
+use Rattle.gabc_text.proofs.resuming.EndedAndFreshStagesHaveNothingOpen.{opener_opened, comment_opened}
+use Rattle.gabc_text.proofs.resuming.StagesKeep.{begins_is, comment_is, comment_not_kept, kept_with_is, push_keeps, opened_keeps}
 
 -- ---- what is kept of a character
 
@@ -95,22 +96,11 @@ takes s c = record {
 
 pub opens_there : (s : TextStage) (k : List ℕ) (at : Place) → Keeps s k → is_some (opener_of s) ≡ true → OpensThere s k at
 opens_there s k at h opened = record {
-  stage = there;
-  keeps = record {
-    goes_on = h.goes_on;
-    reached = record { between = λ e. absurd (apart s.state is_opened e); start = h.reached.start; blank = h.reached.blank; starts = h.reached.starts };
-    alike = record { place = h.alike.place; next = h.alike.next; same = h.alike.same };
-    whole = h.whole;
-  };
-  opener = opener_told there h.goes_on ∙ ap (λ (b : Bool). if b then Some at else None) is_opened;
-  comment = comment_told there h.goes_on ∙ sym (comment_told s h.goes_on);
+  stage = opened_at at s;
+  keeps = opened_keeps at s k h;
+  opener = opener_opened s at ∙ by (opener_of s) opened;
+  comment = comment_opened s at;
 }
   where
-    there : TextStage
-    there = record s { progress = record s.progress { place = at } }
-
-    is_opened : is_open s.state ≡ true
-    is_opened = grind (arith, is_some, opener_told)
-
-    apart : (m : TokenState) → is_open m ≡ true → is_plain m ≡ true → ⊥
-    apart m e f = grind arith
+    by : (o : Option Place) → is_some o ≡ true → option_map (λ _. at) o ≡ Some at
+    by o e = grind arith
