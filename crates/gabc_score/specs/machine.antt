@@ -16,6 +16,7 @@ pub mod PlaceByBytes
 pub mod Preceded
 pub mod ReadAlone
 pub mod ReadsChar
+pub mod ReadsSilently
 pub mod RegularLen
 pub mod Resumed
 pub mod Run

@@ -28,12 +28,9 @@ fn pass_run<'a, C: Collect>(
     machine: &mut ScoreMachine,
     place: &mut Place,
     text: &'a str,
-    out: &mut Room<ScoreEvent>,
     taker: &mut C,
 ) -> &'a str
-    requires rests { IsScore machine.old }
-    requires empty { out.old ≡ record { items = []; limit = 16 } }
-    ensures room { out.new ≡ out.old }
+    requires { IsScore machine.old }
     ensures rests { IsScore machine.new }
     ensures passes { PassesRun C.given (shown machine.old) place.old text.now (shown machine.new)
         place.new result.now taker.old taker.new }
@@ -41,7 +38,7 @@ fn pass_run<'a, C: Collect>(
     if !taker.takes_runs() {
         return text;
     }
-    let run = machine.take_run(*place, text, out, taker);
+    let run = machine.take_run(*place, text, taker);
     *place = run.next;
     let (_, rest) = text.split_at(run.bytes);
     rest
@@ -74,12 +71,12 @@ pub(crate) fn build_body<C: Collect>(
         fault: None,
     };
     let mut place = at;
-    let mut chars = pass_run(&mut machine, &mut place, body, &mut out, taker).chars();
+    let mut chars = pass_run(&mut machine, &mut place, body, taker).chars();
     while let Some(c) = chars.next() {
         machine.push(HeadEvent::Body(Char { c, place }), &mut out);
         add_all(&mut said, taker, &machine.pair, &mut out)?;
         place = place.after(c);
-        chars = pass_run(&mut machine, &mut place, chars.as_str(), &mut out, taker).chars();
+        chars = pass_run(&mut machine, &mut place, chars.as_str(), taker).chars();
     }
     end_machine(&mut machine, ending, &mut out);
     add_all(&mut said, taker, &machine.pair, &mut out)?;

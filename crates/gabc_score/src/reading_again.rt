@@ -1,6 +1,8 @@
-//! The second reading of a kept text.
+//! The reading of a text that emits nothing: of the texts of a state, and of the last syllable of a
+//! run.
 
-ghost use Rattle.std.specs.Prelude.{◌≡◌, [], ◌∷◌, ◌++◌, true, false, cond, None, is_some};
+ghost use Rattle.std.specs.Prelude.{◌≡◌, ◌&&◌, ℕ, [], ◌∷◌, ◌++◌, true, false, cond, None, is_some};
+ghost use Rattle.std.specs.List.{list_any};
 ghost use Rattle.std.specs.Str.{chars};
 ghost use Rattle.gabc_score.specs.ReadAgain.{ComesBefore, ReportsReading, ReportsTheSameBut};
 ghost use Rattle.gabc_score.specs.ScoreReports.{before_of, openers_of, reading_of};
@@ -8,76 +10,132 @@ ghost use Rattle.gabc_places.specs.TextOfAnInput.{IsText};
 ghost use Rattle.gabc_score.specs.ReportedWithin.{AreOpenersBefore, IsPlace, ReportsText};
 ghost use Rattle.gabc_score.specs.witness.ReadAgain.{CanBeReadAgain};
 ghost use Rattle.gabc_score.specs.witness.ScoreStage.{ScoreStageState};
-ghost use Rattle.gabc_score.specs.machine.ReadAgain.{outer_of, inner_of, place_in, PassesAgain, ReadsKept, ReadsThrough, TakesAgain};
+ghost use Rattle.gabc_score.specs.machine.PartKeeps.{KeptParts, PartKeeps};
+ghost use Rattle.gabc_score.specs.machine.ReadsSilently.{ReadsTextSilently, ReadsSilently, ReadsKept};
+ghost use Rattle.gabc_score.specs.machine.ReadAgain.{opened_part};
+ghost use Rattle.gabc_score.specs.machine.ReadAlone.{is_error};
 ghost use Rattle.gabc_score.specs.machine.ReadsChar.{StandsInBody};
-ghost use Rattle.gabc_score.specs.machine.ScoreMachine.{shown, IsScore};
+ghost use Rattle.gabc_score.specs.machine.ScoreMachine.{IsScore};
 
 use crate::body_stage::{BodyPart, BodyStage};
 use crate::body_tells::Openers;
 use crate::kept_laws;
 use crate::score_machine::{ScoreMachine, ScorePart};
 use crate::score_stage::ScoreStage;
-use gabc_places::{Char, Place};
+use gabc_places::{Char, Finding, Place, Severity};
+
+/// What became of the current syllable, of which characters were read without emitting events.
+#[derive(Clone, Copy)]
+pub(crate) enum SyllableRead {
+    /// It is not whole.
+    Open,
+    /// It is whole, and pending from then on.
+    Whole,
+    /// It was given up.
+    GivenUp,
+}
 
 impl BodyStage {
-    /// Returns the place at which the next character of a kept text is read again, so that the
-    /// brackets that are open after this text begin at `openers`.
-    pub(crate) fn place_again(&self, openers: Openers) -> Place
-        ensures { result ≡ place_in (outer_of openers) (inner_of openers) self.now.part }
+    /// Sets the places of the open brackets to those of `openers`, or to 1:1 if it has none.
+    fn open_at(&mut self, openers: Openers)
+        ensures opened { self.new ≡ record self.old { part = opened_part openers self.old.part } }
+        ensures keeps { (lines macros : ℕ) (p : KeptParts) →
+            PartKeeps lines macros self.old.part p → PartKeeps lines macros self.new.part p }
     {
-        let place = match &self.part {
-            BodyPart::Comment | BodyPart::Text(_) => openers.notes.or(openers.inner),
-            BodyPart::Notes { .. } | BodyPart::Nabc { .. } => openers.inner,
-        };
-        place.unwrap_or(Place::START)
+        let inner = openers.inner.unwrap_or(Place::START);
+        let outer = openers.notes.unwrap_or(Place::START);
+        match &mut self.part {
+            BodyPart::Comment => {}
+            BodyPart::Text(stage) => stage.open_at(inner),
+            BodyPart::Notes { opened, stage } => {
+                *opened = outer;
+                stage.open_at(inner);
+            }
+            BodyPart::Nabc { opened, .. } => *opened = outer,
+        }
     }
 }
 
+/// Returns whether `finding` is an error.
+fn is_error(finding: Finding) -> bool
+    ensures { result ≡ is_error finding }
+{
+    match finding.code.severity() {
+        Severity::Warning => false,
+        Severity::Error | Severity::Fatal => true,
+    }
+}
+
+/// Returns whether an error is among `found`.
+fn has_error(found: &[Finding]) -> bool
+    ensures { result ≡ list_any is_error found.now }
+{
+    found.iter().any(|finding| is_error(*finding))
+}
+
+/// Returns whether `is_strict` and an error is among `found`.
+fn is_refused(is_strict: bool, found: &[Finding]) -> bool
+    ensures { result ≡ (is_strict && list_any is_error found.now) }
+{
+    is_strict && has_error(found)
+}
+
 impl ScoreMachine {
-    /// Reads the character `x` of the body, and emits nothing. If a syllable becomes whole or a
-    /// limit is passed, the reading is over.
-    fn pass_again(&mut self, x: Char)
+    /// Reads the character `c` at the next place, and emits nothing. The syllable is given up if a
+    /// limit is passed, or if `is_strict` and an error is found; other findings are dropped.
+    fn read_silently(&mut self, c: char, is_strict: bool) -> SyllableRead
         requires { StandsInBody self.old }
-        ensures rests { IsScore self.new }
-        ensures step { PassesAgain self.old x self.new }
+        ensures { ReadsSilently is_strict self.old c result self.new }
     {
-        self.gather(x);
+        let place = self.next;
+        self.gather(Char { c, place });
+        self.next = place.saturating_after(c);
+        if self.pair.reads_on() && self.found.slice().is_empty() {
+            return SyllableRead::Open;
+        }
+        let is_refused = is_refused(is_strict, self.found.slice());
         self.found.clear();
-        if self.pair.is_whole() || self.pair.code(self.limits).is_some() {
-            self.part = ScorePart::Over;
+        if is_refused || self.pair.code(self.limits).is_some() {
+            return SyllableRead::GivenUp;
         }
+        if !self.pair.is_whole() {
+            return SyllableRead::Open;
+        }
+        self.pair.rotate();
+        SyllableRead::Whole
     }
 
-    /// Reads `c`, a character of a kept text, or a `%` after it. After this text the brackets at
-    /// `openers` are open. If a syllable becomes whole or a limit is passed, the reading is over.
-    fn take_again(&mut self, c: char, openers: Openers)
-        requires rests { IsScore self.old }
-        ensures rests { IsScore self.new }
-        ensures step { TakesAgain self.old c openers self.new }
+    /// Reads the characters of `text` so. The syllable is given up too if a character follows once
+    /// it is whole.
+    pub(crate) fn read_text_silently(&mut self, text: &str, is_strict: bool) -> SyllableRead
+        requires { StandsInBody self.old }
+        ensures { ReadsTextSilently is_strict SyllableRead.Open self.old (chars text.now)
+            result self.new }
     {
-        let ScorePart::Body = self.part else {
-            return;
+        let mut syllable = SyllableRead::Open;
+        for c in text.chars() {
+            let SyllableRead::Open = syllable else {
+                return SyllableRead::GivenUp;
+            };
+            syllable = self.read_silently(c, is_strict);
+        }
+        syllable
+    }
+
+    /// Reads the kept text `kept` again, and the `%` of a comment after it if `in_comment`.
+    fn read_reported(&mut self, kept: &str, in_comment: bool) -> SyllableRead
+        requires { StandsInBody self.old }
+        ensures { ReadsTextSilently false SyllableRead.Open self.old
+            (chars kept.now ++ cond in_comment (37 ∷ []) []) result self.new }
+    {
+        let syllable = self.read_text_silently(kept, false);
+        if !in_comment {
+            return syllable;
+        }
+        let SyllableRead::Open = syllable else {
+            return SyllableRead::GivenUp;
         };
-        let place = self.body.place_again(openers);
-        self.next = place;
-        self.body.go_to(place);
-        self.pass_again(Char { c, place });
-    }
-
-    /// Reads each character of the kept text `kept`, and the `%` of a comment after it if
-    /// `in_comment`. After this text the brackets at `openers` are open.
-    fn read_reported(&mut self, kept: &str, openers: Openers, in_comment: bool)
-        requires rests { IsScore self.old }
-        ensures rests { IsScore self.new }
-        ensures steps { ReadsThrough self.old openers
-            (chars kept.now ++ cond in_comment (37 ∷ []) []) self.new }
-    {
-        for c in kept.chars() {
-            self.take_again(c, openers);
-        }
-        if in_comment {
-            self.take_again('%', openers);
-        }
+        self.read_silently('%', false)
     }
 
     /// Reads `kept` again, the kept text of a syllable of which nothing is read yet. After it the
@@ -98,15 +156,13 @@ impl ScoreMachine {
         let ScorePart::Body = self.part else {
             return false;
         };
-        self.read_reported(kept, openers, in_comment);
+        let SyllableRead::Open = self.read_reported(kept, in_comment) else {
+            self.part = ScorePart::Over;
+            return false;
+        };
+        self.body.open_at(openers);
         self.go_to(next);
-        match self.part {
-            ScorePart::Body => true,
-            ScorePart::Heads | ScorePart::Over => {
-                self.part = ScorePart::Over;
-                false
-            }
-        }
+        true
     }
 }
 

@@ -1,7 +1,6 @@
 //! A stage over a score that resumes after syllables which another one has read.
 
-ghost use Rattle.std.specs.Prelude.{◌≡◌, ◌<◌, ◌≤◌, ◌^◌, not, ℕ, None, IfOk, [], length, true, false};
-ghost use Rattle.std.specs.List.{list_any};
+ghost use Rattle.std.specs.Prelude.{◌≡◌, ◌<◌, ◌^◌, ℕ, None, IfOk, [], length, true, false};
 ghost use Rattle.std.specs.Str.{chars};
 ghost use Rattle.gabc_text.specs.TextStage.{fresh_stage};
 ghost use Rattle.gabc_score.specs.Before.{preceding_of};
@@ -14,7 +13,7 @@ ghost use Rattle.gabc_score.specs.ReportedWithin.{IsAtOutset, ReportsText};
 ghost use Rattle.gabc_score.specs.machine.PartCounts.{CountsHold};
 ghost use Rattle.gabc_score.specs.machine.PartKeeps.{in_text, PartKeeps};
 ghost use Rattle.gabc_body.specs.witness.SyllableBuilder.{nothing_open};
-ghost use Rattle.gabc_score.specs.machine.ReadAlone.{is_error_event, BeginsAlone, HasRoomFor, HoldsAlone, IsFree, ReadsAll, ReadsAlone, StandsAlone};
+ghost use Rattle.gabc_score.specs.machine.ReadAlone.{BeginsAlone, HoldsAlone};
 ghost use Rattle.gabc_score.specs.machine.Resumed.{gathered_resumed};
 ghost use Rattle.gabc_score.specs.machine.ScoreMachine.{shown, IsScore};
 ghost use Rattle.gabc_score.specs.machine.SlotPair.{is_made, slots_after};
@@ -22,13 +21,13 @@ ghost use Rattle.gabc_score.specs.machine.SlotPair.{is_made, slots_after};
 use crate::body_stage::{BodyPart, BodyStage};
 use crate::first_sound::FirstSound;
 use crate::preceding::Preceding;
-use crate::score_event::ScoreEvent;
+use crate::reading_again::SyllableRead;
 use crate::score_machine::{ScoreMachine, ScorePart};
 use crate::score_stage::ScoreStage;
 use crate::slot_pair::SlotPair;
 use crate::{kept_laws, machine_laws, stage_laws};
 use gabc_body::Before;
-use gabc_places::{Char, Limits, Memory, Place, Room, Severity};
+use gabc_places::{Limits, Memory, Place, Room};
 use gabc_text::TextStage;
 use std::alloc::AllocError;
 
@@ -86,95 +85,22 @@ impl ScoreMachine {
     }
 }
 
-/// Returns whether `event` is an error.
-fn is_error(event: ScoreEvent) -> bool
-    ensures { result ≡ is_error_event event }
-{
-    match event {
-        ScoreEvent::Found(finding) => match finding.code.severity() {
-            Severity::Warning => false,
-            Severity::Error | Severity::Fatal => true,
-        },
-        _ => false,
-    }
-}
-
-/// Returns whether an error is among `events`.
-fn has_error(events: &[ScoreEvent]) -> bool
-    ensures { result ≡ list_any is_error_event events.now }
-{
-    events.iter().any(|event| is_error(*event))
-}
-
 impl ScoreMachine {
-    /// Returns whether the machine is still in the body, and `events` have no error.
-    fn is_fine(&self, events: &[ScoreEvent]) -> bool
-        ensures body { self.now.part ≡ ScorePart.Body →
-            result ≡ not (list_any is_error_event events.now) }
-        ensures other { (self.now.part ≡ ScorePart.Body → ⊥) → result ≡ false }
-    {
-        match self.part {
-            ScorePart::Body => !has_error(events),
-            ScorePart::Heads | ScorePart::Over => false,
-        }
-    }
-
-    /// Reads the character `x`, while no syllable is pending. Returns whether no limit is passed
-    /// with it, and no error is found. `room` is empty, and is left empty.
-    fn read_alone(&mut self, x: Char, room: &mut Room<ScoreEvent>) -> bool
-        requires alone { StandsAlone self.old }
-        requires room { IsFree room.old }
-        ensures room { room.new ≡ room.old }
-        ensures rests { IsScore self.new }
-        ensures reads { ReadsAlone self.old self.new x result }
-    {
-        self.read(x, room);
-        let is_fine = self.is_fine(room.slice());
-        room.clear();
-        is_fine
-    }
-
-    /// Reads the characters of `text`, the first of which is at `at`, while no syllable is pending.
-    /// Returns whether a syllable is whole with the last of them and none before, no limit is
-    /// passed and no error is found. `room` is empty, and is left empty.
-    pub(crate) fn read_all(&mut self, at: Place, text: &str, room: &mut Room<ScoreEvent>) -> bool
-        requires alone { StandsAlone self.old }
-        requires place { HasRoomFor at (length text.now) }
-        requires room { IsFree room.old }
-        ensures room { room.new ≡ room.old }
-        ensures rests { IsScore self.new }
-        ensures reads { ReadsAll self.old at text.now result self.new }
-    {
-        let mut place = at;
-        for c in text.chars() {
-            if self.pair.has_held() {
-                return false;
-            }
-            if !self.read_alone(Char { c, place }, room) {
-                return false;
-            }
-            place = place.after(c);
-        }
-        self.pair.has_held()
-    }
-
     /// Reads `text` as one syllable, which is pending from then on, and begins to read the next
     /// text. Returns whether `text` is one syllable, with which no limit is passed and in which no
-    /// error is found. If not, the reading is over. `room` is empty, and is left empty.
-    fn hold_again(&mut self, text: &str, room: &mut Room<ScoreEvent>) -> bool
+    /// error is found. If not, the reading is over.
+    fn hold_again(&mut self, text: &str) -> bool
         requires alone { BeginsAlone self.old }
         requires short { length text.now < 2 ^ 63 }
-        requires room { IsFree room.old }
-        ensures room { room.new ≡ room.old }
         ensures rests { IsScore self.new }
         ensures holds { HoldsAlone self.old text.now result self.new }
     {
         stage_laws::a_text_is_read_from_its_beginning();
         kept_laws::a_syllable_is_read_by_kept();
-        if !self.read_all(Place::START, text, room) {
+        let SyllableRead::Whole = self.read_text_silently(text, true) else {
             self.part = ScorePart::Over;
             return false;
-        }
+        };
         machine_laws::at_most_one_is_held(&self.pair);
         self.body.begin_text(Place::START);
         self.next = Place::START;
@@ -204,14 +130,10 @@ impl ScoreStage {
     /// before, with which no limit is passed and in which no error is found. The spans that are
     /// open before it count, and the context of the stage is unchanged. If `text` is no syllable,
     /// the stage is over. If it is one of an input, what the stage reports stays that of a text.
-    /// `room` is empty, has room for 16 events, and is left empty.
-    pub fn hold_again(&mut self, text: &str, room: &mut Room<ScoreEvent>) -> bool
+    pub fn hold_again(&mut self, text: &str) -> bool
         requires begins { BeginsText self.old }
         requires none { held_of self.old ≡ None }
         requires short { length text.now < 2 ^ 63 }
-        requires empty { room.old.items ≡ [] }
-        requires room { 16 ≤ room.old.limit }
-        ensures room { room.new ≡ room.old }
         ensures held { result ≡ true → HoldsAgain (chars text.now) self.old self.new }
         ensures told { result ≡ true → IsText text.now → ReportsText self.old →
             ReportsText self.new }
@@ -221,6 +143,6 @@ impl ScoreStage {
         ensures over { result ≡ false → before_of self.new ≡ None }
         ensures ends { result ≡ false → self.new.part ≡ ScorePart.Over }
     {
-        self.machine.hold_again(text, room)
+        self.machine.hold_again(text)
     }
 }

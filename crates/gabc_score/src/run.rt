@@ -17,14 +17,13 @@ use crate::give::{Give, Run};
 use crate::preceding::{NO_SPANS, Preceding};
 use crate::regular::{plain_len, regular_syllable, spans_past};
 use crate::regular_laws;
-use crate::score_event::ScoreEvent;
 use crate::score_machine::{ScoreMachine, ScorePart};
 use crate::slot_pair::{SlotPair, SlotUse};
 use crate::spelled::SpelledSyllable;
 use crate::text_places::place_past;
 use crate::waiting::Waiting;
 use gabc_body::{Spans, position_by};
-use gabc_places::{Limits, Place, Room};
+use gabc_places::{Limits, Place};
 use gabc_text::{SpanMark, mark_at};
 
 /// The number of bytes that are tested for plain bytes at once.
@@ -335,19 +334,10 @@ impl ScoreMachine {
 
     /// Ends a run in `text`, whose first character is at `at`: reads by its characters the syllable
     /// of `reached`, which is pending then. Returns the length of the run and the place after it.
-    fn end_run(
-        &mut self,
-        at: Place,
-        text: &str,
-        reached: Reached<'_>,
-        room: &mut Room<ScoreEvent>,
-    ) -> Run
+    fn end_run(&mut self, at: Place, text: &str, reached: Reached<'_>) -> Run
         requires used { self.old.pair.used ≡ SlotUse.Filling }
         requires to { (given : List PlacedSyllable) × RunsTo self.old at text.now given reached }
-        requires empty { room.old.items ≡ [] }
-        requires room { 16 ≤ room.old.limit }
-        ensures room { room.new ≡ room.old }
-        ensures ends { EndsRun self.old at text.now reached.entry result self.new }
+        ensures { EndsRun self.old at text.now reached.entry result self.new }
     {
         regular_laws::a_regular_syllable_goes_through();
         let last = reached.last;
@@ -357,26 +347,16 @@ impl ScoreMachine {
         let next = place_past(start, last.spelled);
         let context = reached.preceding(self.pair.after());
         self.go_before(context, start);
-        self.read_all(start, last.spelled, room);
+        self.read_text_silently(last.spelled, true);
         self.body.begin_text(next);
         self.next = next;
         Run { bytes, next }
     }
 
     /// Takes whole syllables from the front of `text`, as `ScoreStage::take_run` does.
-    pub(crate) fn take_run<G: Give>(
-        &mut self,
-        at: Place,
-        text: &str,
-        room: &mut Room<ScoreEvent>,
-        out: &mut G,
-    ) -> Run
-        requires rests { IsScore self.old }
-        requires empty { room.old.items ≡ [] }
-        requires room { 16 ≤ room.old.limit }
-        ensures room { room.new ≡ room.old }
-        ensures takes { TakesRun G.given self.old at text.now result self.new
-            out.old out.new }
+    pub(crate) fn take_run<G: Give>(&mut self, at: Place, text: &str, out: &mut G) -> Run
+        requires { IsScore self.old }
+        ensures { TakesRun G.given self.old at text.now result self.new out.old out.new }
     {
         let none = Run { bytes: 0, next: at };
         if !is_low(at, text) || !self.is_between(at) {
@@ -401,6 +381,6 @@ impl ScoreMachine {
             spans: before.spans,
         };
         let reached = self.give_on(begun, text, out);
-        self.end_run(at, text, reached, room)
+        self.end_run(at, text, reached)
     }
 }

@@ -1,6 +1,6 @@
 //! A stage that makes a score of the events of a stage of headers.
 
-ghost use Rattle.std.specs.Prelude.{◌≡◌, ◌≤◌, List, [], take, None, Some, IfOk, MatchOption};
+ghost use Rattle.std.specs.Prelude.{◌≡◌, List, [], take, None, Some, IfOk, MatchOption};
 ghost use Rattle.gabc_headers.specs.declared.head_event.HeadEvent.{HeadEvent};
 ghost use Rattle.gabc_score.specs.witness.BodyStage.{texts_by_stage};
 ghost use Rattle.gabc_body.specs.ScoreEvents.{score_outputs};
@@ -101,25 +101,15 @@ impl ScoreStage {
     /// Takes whole syllables from the front of `text`, of which the first character is at `at`, and
     /// returns how far it went. At their characters it passes syllables and nothing else to `out`.
     /// From then on it emits what it would emit had each of the characters been pushed. It may stop
-    /// early, and `push` takes the rest. `room` is empty, has room for 16 events, and is left
-    /// empty.
-    pub fn take_run<G: Give>(
-        &mut self,
-        at: Place,
-        text: &str,
-        room: &mut Room<ScoreEvent>,
-        out: &mut G,
-    ) -> Run
-        requires empty { room.old.items ≡ [] }
-        requires room { 16 ≤ room.old.limit }
-        ensures room { room.new ≡ room.old }
+    /// early, and `push` takes the rest.
+    pub fn take_run<G: Give>(&mut self, at: Place, text: &str, out: &mut G) -> Run
         ensures within { IsSplitPoint text.now result.bytes }
         ensures plain { All IsPlain (chars (take result.bytes text.now)) }
         ensures next { result.next ≡ place_past at (chars (take result.bytes text.now)) }
         ensures runs { Runs G.given self.old at (chars (take result.bytes text.now)) self.new
             out.old out.new }
     {
-        self.machine.take_run(at, text, room, out)
+        self.machine.take_run(at, text, out)
     }
 
     /// Returns its limits.

@@ -206,9 +206,7 @@ impl ScoreWriter {
         ensures steady { KeepsJobAndRooms self.old self.new }
     {
         gabc_write::laws::where_nothing_sounds_the_clef_stays();
-        self.events.clear();
-        self.score
-            .take_run(at, text, &mut self.events, &mut self.writer)
+        self.score.take_run(at, text, &mut self.writer)
     }
 
     /// Ends the inputs, and returns the ending of the run. If neither a stop nor the end has come,

@@ -14,8 +14,8 @@ ghost use Rattle.gregorio.specs.machine.SettingDown.{HasRead, HoldsHeld, IsResum
 use crate::comparison::Comparison;
 use crate::saving::HeldSyllable;
 use crate::state_fault::StateFault;
-use gabc_places::{Memory, Room};
-use gabc_score::{Before, Openers, ScoreEvent, ScoreStage, Spans};
+use gabc_places::Memory;
+use gabc_score::{Before, Openers, ScoreStage, Spans};
 use gregorio_state::{PutText, ScoreFields, StateFields};
 
 /// Returns the context of the pending syllable of `fields`.
@@ -43,17 +43,6 @@ fn openers(fields: &ScoreFields<'_>) -> Openers
     Openers {
         notes: fields.notes_opener,
         inner: fields.inner_opener,
-    }
-}
-
-/// Returns an empty room in `memory` for the events of a text that is read again.
-fn event_room(memory: &Memory) -> Result<Room<ScoreEvent>, StateFault>
-    ensures room { IfOk result (λ room. room ≡ record { items = []; limit = 16 }) }
-    ensures fault { IfErr result (λ fault. fault ≡ StateFault.K0) }
-{
-    match Room::in_memory(memory, 16) {
-        Ok(room) => Ok(room),
-        Err(_) => Err(StateFault::K0),
     }
 }
 
@@ -86,10 +75,9 @@ fn is_held_text(stage: &ScoreStage, text: &str) -> bool
 
 /// Reads the pending text of `fields` as one syllable, the pending one of `stage` then; without
 /// such a text, does nothing. Returns whether the text is read as `fields` say.
-fn hold(stage: &mut ScoreStage, fields: &ScoreFields<'_>, room: &mut Room<ScoreEvent>) -> bool
+fn hold(stage: &mut ScoreStage, fields: &ScoreFields<'_>) -> bool
     requires held { IsHeldWithin stage.old.limits.syllable (score_of fields.now) }
     requires stands { IsResumed stage.old.limits (score_of fields.now) stage.old }
-    requires room { room.old ≡ record { items = []; limit = 16 } }
     ensures read { IsTrue result ↔
         (fields.now.held.now ≢ [] → IsHeldRead stage.old.limits (score_of fields.now)) }
     ensures limits { result ≡ true → stage.new.limits ≡ stage.old.limits }
@@ -99,7 +87,7 @@ fn hold(stage: &mut ScoreStage, fields: &ScoreFields<'_>, room: &mut Room<ScoreE
         return true;
     }
     gabc_score::stage_laws::a_text_is_one_syllable();
-    if !stage.hold_again(fields.held, room) {
+    if !stage.hold_again(fields.held) {
         return false;
     }
     is_held_text(stage, fields.held)
@@ -139,21 +127,15 @@ fn read_kept(stage: &mut ScoreStage, state: &StateFields<'_>, fields: &ScoreFiel
 }
 
 /// Reads the texts of `fields`. Returns whether they are read as the fields say.
-fn read_texts(
-    stage: &mut ScoreStage,
-    state: &StateFields<'_>,
-    fields: &ScoreFields<'_>,
-    room: &mut Room<ScoreEvent>,
-) -> bool
+fn read_texts(stage: &mut ScoreStage, state: &StateFields<'_>, fields: &ScoreFields<'_>) -> bool
     requires fields { AreScoreFields (fields_of state.now) (score_of fields.now) }
     requires place { IsPlace state.now.place }
     requires stands { IsResumed state.now.limits (score_of fields.now) stage.old }
-    requires room { room.old ≡ record { items = []; limit = 16 } }
     ensures read { IsTrue result ↔ IsScoreRead state.now.limits (score_of fields.now) }
     ensures told { result ≡ true →
         IsSetDown (fields_of state.now) (score_of fields.now) stage.new }
 {
-    if !hold(stage, fields, room) {
+    if !hold(stage, fields) {
         return false;
     }
     if !read_kept(stage, state, fields) {
@@ -179,9 +161,8 @@ pub(crate) fn set_down(
         IsScoreRead state.now.limits (score_of fields.now) → ⊥ }
     ensures never { result ≡ Err StateFault.K2 → ⊥ }
 {
-    let mut room = event_room(memory)?;
     let mut stage = stage_after(memory, state, fields)?;
-    if read_texts(&mut stage, state, fields, &mut room) {
+    if read_texts(&mut stage, state, fields) {
         Ok(stage)
     } else {
         drop(stage);

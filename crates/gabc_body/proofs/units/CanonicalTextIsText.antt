@@ -55,7 +55,7 @@ plain_codes : (cs : List ℕ) → All IsTextCharacter cs → IsText (encode_utf8
 plain_codes [] h = nothing_plain
 plain_codes (c ∷ cs) h = plain_append (encode_utf8 c) (encode_utf8_all cs) (plain_more [] c (All-head IsTextCharacter c cs h) nothing_plain) (plain_codes cs (All-tail IsTextCharacter c cs h))
 
-characters : (cs : List ℕ) → scalars cs ≡ true → All IsPlain cs → All IsTextCharacter cs
+pub characters : (cs : List ℕ) → scalars cs ≡ true → All IsPlain cs → All IsTextCharacter cs
 characters [] s h = All-nil IsTextCharacter
 characters (c ∷ cs) s h =
     let both = and_parts _ (scalars cs) s in

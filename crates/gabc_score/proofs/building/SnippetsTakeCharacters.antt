@@ -33,7 +33,6 @@ use Rattle.gabc_score.specs.ScoreReports.{IsAt, is_in_comment, is_in_front, open
 use Rattle.gabc_score.specs.machine.PartKeeps.{KeptParts, in_text, in_notes, IsEndedOn, AreAfter, PartKeeps}
 use Rattle.gabc_score.specs.machine.PartSteps.{SnippetSteps}
 use Rattle.gabc_score.specs.machine.PartSteps as step
-use Rattle.gabc_score.specs.machine.ReadAgain.{place_in}
 use Rattle.gabc_body.proofs.texts_of_body.SeamsOfCharacters.{size, size_is_sum}
 use Rattle.gabc_body.proofs.emitted.EndsOfSnippets.{is_close_end, any_close, none_close}
 
@@ -256,7 +255,6 @@ pub record StaysInNotes (opened : Place) (before after : BodyPart) : Type 0 wher
   pub was : (openers_of before).notes ≡ Some opened
   pub is : (openers_of after).notes ≡ Some opened
   pub front : is_in_front after ≡ false
-  pub place : (outer inner : Place) → place_in outer inner after ≡ place_in outer inner before
   pub stands : (at : Place) → IsAt at after
 
 pub stays_in_notes : {x : Char} {line : ℕ} {opened : Place} {before after : BodyPart} {es : List NoteEvent} → SnippetSteps x line opened before es after → StaysInNotes opened before after

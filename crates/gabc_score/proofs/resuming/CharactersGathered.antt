@@ -1,56 +1,43 @@
--- What a machine gives at a character, if no syllable is given.
-use Rattle.std.proofs.Math.Bool.{or-false}
-use Rattle.std.proofs.Common.{◌≡◌, inl, inr, ℕ, ◌-◌, ◌≤◌, ◌||◌, ◌&&◌, ◌++◌, not, nat_lt, Bool, false, List, [], ◌∷◌, length, take, drop, Option, is_some, refl, sym, ap, ◌∙◌, arith}
+-- What a machine in the body gathers of a character that it reads again.
+use Rattle.std.proofs.Common.{◌≡◌, inl, inr, ℕ, ◌-◌, ◌≤◌, ◌&&◌, ◌++◌, nat_lt, Bool, false, List, [], ◌∷◌, length, take, drop, None, is_some, refl, sym, ap, ◌∙◌, arith, length-append}
 use Rattle.std.specs.List.{list_any}
-use Rattle.std.proofs.lemmas.List.Folds.{list_any-append}
-use Rattle.std.proofs.lemmas.Bool.{true≢false}
 use Rattle.std.proofs.lemmas.Bool.Decides.{nat_tests}
 use Rattle.gabc_places.specs.BoundedList.{BoundedList}
-use Rattle.gabc_places.specs.declared.code.Code.{Code}
+use Rattle.gabc_places.specs.Place.{saturating_next_place}
 use Rattle.gabc_places.specs.declared.code.Finding.{Finding}
 use Rattle.gabc_places.specs.declared.place.Char.{Char}
-use Rattle.gabc_places.specs.declared.place.Place.{Place}
-use Rattle.gabc_notes.specs.declared.item.ItemKind.{ItemKind}
+use Rattle.gabc_text.specs.declared.text_event.TextEnd.TheVariants as text_end
+use Rattle.gabc_text.specs.declared.text_event.TextEvent.TheVariants as text_out
+use Rattle.gabc_text.specs.declared.text_event.TextPart.TheVariants as text_part
+use Rattle.gabc_notes.specs.declared.stage.NoteEnd.TheVariants as note_end
+use Rattle.gabc_notes.specs.declared.stage.NoteEvent.TheVariants as note
 use Rattle.gabc_body.specs.declared.events.BodyEvent.{BodyEvent}
-use Rattle.gabc_score.specs.declared.score_event.ScoreEvent.{ScoreEvent}
+use Rattle.gabc_body.specs.declared.events.BodyEvent.TheVariants as event
+use Rattle.gabc_score.specs.declared.reading_again.SyllableRead.{SyllableRead}
+use Rattle.gabc_score.specs.declared.reading_again.SyllableRead.TheVariants.{Open, Whole, GivenUp}
 use Rattle.gabc_score.specs.declared.score_machine.ScoreMachine.{ScoreMachine}
-use Rattle.gabc_score.specs.declared.score_machine.ScorePart.TheVariants as score_part
 use Rattle.gabc_score.specs.Before.{with_placed}
-use Rattle.gabc_body.specs.Body.{is_none}
-use Rattle.gabc_body.specs.NoteBeforeClef.{found_first}
-use Rattle.gabc_body.specs.ScoreEvents.{findings_now, outputs_of}
-use Rattle.gabc_score.specs.ScoreStage.{events_of}
-use Rattle.gabc_body.specs.Syllable.{PlacedSyllable, UnplacedSyllable}
+use Rattle.gabc_body.specs.Syllable.{UnplacedSyllable}
 use Rattle.gabc_body.specs.witness.BodyBuilder.{with_all, code_in}
-use Rattle.gabc_body.specs.witness.Gatherer.{Gathered}
+use Rattle.gabc_body.specs.witness.Gatherer.{Gathered, with_event}
 use Rattle.gabc_score.specs.machine.PartPushes.{ClosesLast}
-use Rattle.gabc_score.specs.machine.ReadAlone.{is_error, is_error_event, ReadsAlone}
-use Rattle.gabc_score.specs.machine.ReadsChar.{Gathers, Passes, ReadsChar, found_past, past_char, stops, goes}
-use Rattle.gabc_score.specs.machine.ScoreMachine.{has_given, IsInBody}
+use Rattle.gabc_score.specs.machine.Preceded.{Contexts}
+use Rattle.gabc_score.specs.machine.ReadsSilently.{GoesOn, ReadsSilently, left_by, left_with}
+use Rattle.gabc_score.specs.machine.ReadAlone.{is_error}
+use Rattle.gabc_score.specs.machine.ReadsChar.{Gathers, StandsInBody, past_char}
+use Rattle.gabc_score.specs.machine.ScoreMachine.{has_given, IsInBody, KeepsMemory}
 use Rattle.gabc_score.specs.machine.ScoreStage.{placed_after, with_held}
-use Rattle.gabc_score.specs.machine.SlotPair.{SlotPairState, is_preceded}
+use Rattle.gabc_score.specs.machine.SlotPair.{SlotPairState, is_made}
 use Rattle.gabc_score.specs.witness.BodyStage.{BodyStageState}
 use Rattle.gabc_score.proofs.building.EventsOfSnippets.{stage_emits}
 use Rattle.gabc_score.proofs.building.PartsKeepOnly.{keeps_only}
 use Rattle.gabc_score.proofs.building.SyllableEndsLast.{closes_last}
-use Rattle.gabc_score.proofs.score_events.CharactersAreRead.{before_is, found_is, has_turned}
+use Rattle.gabc_score.proofs.resuming.PartsReadAgain.{reads_again}
+use Rattle.gabc_score.proofs.score_events.CharactersAreRead.{HasTurned, before_is, rests_past}
 use Rattle.gabc_score.proofs.score_events.WhatPrecedes.{same_or_closed}
 
 pub few_is : (n : ℕ) → n ≤ 1 → nat_lt 1 n ≡ false
 few_is n h = grind (arith, nat_tests, h)
-
--- ---- a character that is read while none is held
-
-any_event : (fs : List Finding) → list_any is_error_event (events_of (outputs_of fs [])) ≡ list_any is_error fs
-any_event [] = refl
-any_event (f ∷ fs) = ap (λ b. is_error f || b) (any_event fs)
-
--- a note before any clef is no error
-first_warns : (was now : Option ItemKind) (p : Place) → list_any is_error (found_first was now p) ≡ false
-first_warns was now p = grind arith
-
-any_given : (fs : List Finding) (was now : Option ItemKind) (p : Place) → list_any is_error_event (events_of (outputs_of (fs ++ found_first was now p) [])) ≡ list_any is_error fs
-any_given fs was now p = any_event (fs ++ found_first was now p) ∙ list_any-append is_error fs (found_first was now p) ∙ ap (λ (b : Bool). list_any is_error fs || b) (first_warns was now p) ∙ or-false (list_any is_error fs)
 
 few_made : (g : Gathered) (now : List BodyEvent) → ClosesLast now → g.made ≡ [] → length (with_all g now).made ≤ 1
 few_made g now last none = elim (same_or_closed g now last) [
@@ -67,73 +54,104 @@ few_dropped (m ∷ n ∷ ms) few = absurd (omega (arith, few))
 pub held_all : (g : Gathered) → length g.made ≤ 1 → with_held g ≡ g
 held_all g few = ap (λ (ms : List UnplacedSyllable). record g { made = ms }) (few_dropped g.made few)
 
-module _ {old : ScoreMachine} {x : Char} {given left : BoundedList ScoreEvent} (part : old.part ≡ score_part.Body) (h : IsInBody old) (none : old.pair.gathered.made ≡ []) (empty : given.items ≡ []) where
-  -- if no limit is passed
-  module _ {b : BodyStageState} {p : SlotPairState} {f : BoundedList Finding} {q : SlotPairState} {r : BoundedList Finding} (a : Gathers old x b p f) (s : Passes old x p f q r given left) where
-    abbrev now : List BodyEvent
-    now = b.events
+-- ---- what is counted, if no syllable becomes whole
 
-    abbrev was : Gathered
-    was = old.pair.gathered
+made_grows : (now : List BodyEvent) (g : Gathered) → length g.made ≤ length (with_all g now).made
+made_grows [] g = omega arith
+made_grows (event.Text (text_out.Part text_part.WordStart) ∷ now) g = made_grows now (with_event g (event.Text (text_out.Part text_part.WordStart)))
+made_grows (event.Text (text_out.Ended text_end.Notes) ∷ now) g = made_grows now (with_event g (event.Text (text_out.Ended text_end.Notes)))
+made_grows (event.Notes line (note.Ended note_end.Close n) ∷ now) g =
+    let more = made_grows now (with_event g (event.Notes line (note.Ended note_end.Close n))) in omega (arith, more, length-append {A = UnplacedSyllable})
+made_grows (t ∷ now) g = made_grows now (with_event g t)
 
-    abbrev then : Gathered
-    then = with_all was now
+-- no syllable was made more, and the same is counted
+pub counted : (g : Gathered) (now : List BodyEvent) → length (with_all g now).made ≤ length g.made → ((with_all g now).made ≡ g.made) × ((with_all g now).total ≡ g.total) × ((with_all g now).over ≡ g.over)
+counted g [] few = (refl, refl, refl)
+counted g (event.Text (text_out.Part text_part.WordStart) ∷ now) few = counted (with_event g (event.Text (text_out.Part text_part.WordStart))) now few
+counted g (event.Text (text_out.Ended text_end.Notes) ∷ now) few = counted (with_event g (event.Text (text_out.Ended text_end.Notes))) now few
+counted g (event.Notes line (note.Ended note_end.Close n) ∷ now) few =
+    absurd (let more = made_grows now (with_event g (event.Notes line (note.Ended note_end.Close n))) in omega (arith, few, more, length-append {A = UnplacedSyllable}))
+counted g (t ∷ now) few = counted (with_event g t) now few
 
-    last : ClosesLast now
-    last = closes_last a.steps.0 a.steps.1
+pub none_made : (g h : Gathered) (now : List BodyEvent) → h ≡ with_all g now → nat_lt (length g.made) (length h.made) ≡ false → h.made ≡ g.made
+none_made g h now is e =
+    let few : length (with_all g now).made ≤ length g.made = rw (← is) (grind (arith, nat_tests, e)) in
+    ap (λ (k : Gathered). k.made) is ∙ (counted g now few).0
 
-    few : length then.made ≤ 1
-    few = few_made was now last none
+-- ---- a machine past a character at which nothing became whole
 
-    -- n are given
-    abbrev given_of : Bool → ℕ → List PlacedSyllable
-    given_of is_preceded n = take n (placed_after is_preceded p.gathered.made)
+pub none_turned : {m : ScoreMachine} {x : Char} {b : BodyStageState} {p : SlotPairState} {f : BoundedList Finding} → Gathers m x b p f → nat_lt (length p.held) (length p.gathered.made) ≡ false → is_made p.used ≡ false → HasTurned p p
+none_turned a fewer used = grind (arith, few_is, held_all)
 
-    left_none : length p.gathered.made - 1 ≡ 0
-    left_none = let is = ap (λ (k : Gathered). length k.made) a.gathered in omega (arith, few, is)
+-- ---- a character that is read again
 
-    items : left.items ≡ events_of (outputs_of (findings_now now ++ found_first was.first_kind then.first_kind x.place) [])
-    items =
-        ap (λ (k : BoundedList ScoreEvent). k.items) s.given.emitted.events
-        ∙ ap (λ (es : List ScoreEvent). es ++ events_of (outputs_of (found_past old x p f).items (given_of (is_preceded p) (length p.gathered.made - 1)))) empty
-        ∙ ap (λ (n : ℕ). events_of (outputs_of (found_past old x p f).items (given_of (is_preceded p) n))) left_none
-        ∙ ap (λ (fs : List Finding). events_of (outputs_of fs [])) (sym (found_is h a))
+module _ {m : ScoreMachine} {c : ℕ} {b : BodyStageState} {p : SlotPairState} {f : BoundedList Finding} (h : StandsInBody m) (a : Gathers m (record { c = c; place = m.next }) b p f) where
+  abbrev x : Char
+  x = record { c = c; place = m.next }
 
-    alone : {fine : Bool} → fine ≡ not (list_any is_error_event left.items) → ReadsAlone old (past_char old x b q r) x fine
-    alone is =
-        record {
-          now = now;
-          after = b;
-          law = (stage_emits old.body a.body a.steps).law;
-          only = keeps_only a.steps.0 h.reading.parts h.reading.keeps;
-          body = λ good. refl;
-          fine_is =
-              is
-              ∙ ap (λ (es : List ScoreEvent). not (list_any is_error_event es)) items
-              ∙ ap not (any_given (findings_now now) was.first_kind then.first_kind x.place)
-              ∙ ap (λ (code : Option Code). not (is_some code) && not (list_any is_error (findings_now now))) (sym (sym (ap (code_in old.limits) a.gathered) ∙ s.none));
-          goes = λ good. record {
-            part = part;
-            gathered = s.given.gathered ∙ ap with_held a.gathered ∙ held_all then few;
-            lines = ap (λ (k : BodyStageState). k.nabc_lines) a.body;
-            macros = ap (λ (k : BodyStageState). k.macros) a.body;
-            before = before_is part h a s.none (has_turned s) ∙ ap (λ (n : ℕ). with_placed old.pair.contexts.before (given_of (has_given old) n)) left_none;
-            limits = refl;
-            whole = λ some. elim (same_or_closed was now last) [ inl same ↦ absurd (true≢false (sym (ap is_none (same ∙ none)) ∙ some)) | inr c ↦ c.builder ];
-          };
-        }
+  -- the machine tests what the definition does
+  pub left_is : (strict : Bool) → left_with strict m.limits m.pair.gathered b.events ≡ left_by (strict && list_any is_error f.items) (is_some (code_in m.limits p.gathered)) (nat_lt (length p.held) (length p.gathered.made))
+  left_is strict = rw (a.found, h.rests.rests.none, a.gathered, a.held) refl
 
-  pub reads_alone : {new : ScoreMachine} {fine : Bool} → ReadsChar old x given left new → (new.part ≡ score_part.Body → fine ≡ not (list_any is_error_event left.items)) → ((new.part ≡ score_part.Body → ⊥) → fine ≡ false)
-      → ReadsAlone old new x fine
-  reads_alone {fine = fine} (stops {b} a some s) body other =
-      let bad : fine ≡ false = other (λ is. absurd (cc (sym is ∙ s.part))) in
-      record {
-        now = b.events;
-        after = b;
-        law = (stage_emits old.body a.body a.steps).law;
-        only = keeps_only a.steps.0 h.reading.parts h.reading.keeps;
-        body = λ good. absurd (true≢false (sym good ∙ bad));
-        fine_is = bad ∙ ap (λ (code : Option Code). not (is_some code) && not (list_any is_error (findings_now b.events))) (sym (sym (ap (code_in old.limits) a.gathered) ∙ some));
-        goes = λ good. absurd (true≢false (sym good ∙ bad));
-      }
-  reads_alone (goes a s) body other = alone a s (body part)
+  passes : (strict : Bool) (left : SyllableRead) (n : ScoreMachine) → left_with strict m.limits m.pair.gathered b.events ≡ left → n.limits ≡ m.limits → KeepsMemory n
+      → ((left ≡ GivenUp → ⊥) → GoesOn m (saturating_next_place m.next c) b.events b left n) → ReadsSilently strict m c left n
+  passes strict left n is limits memory goes = record {
+    rests = h.rests;
+    now = b.events;
+    body = b;
+    again = reads_again a.steps.0;
+    law = (stage_emits m.body a.body a.steps).law;
+    only = keeps_only a.steps.0 h.rests.reading.parts h.rests.reading.keeps;
+    last = closes_last a.steps.0 a.steps.1;
+    lines = ap (λ (k : BodyStageState). k.nabc_lines) a.body;
+    macros = ap (λ (k : BodyStageState). k.macros) a.body;
+    left_is = sym is;
+    limits = limits;
+    keeps = memory;
+    goes = goes;
+  }
+
+  -- The syllable is given up.
+  pub given_up : (strict : Bool) (n : ScoreMachine) → left_with strict m.limits m.pair.gathered b.events ≡ GivenUp → n.limits ≡ m.limits → KeepsMemory n → ReadsSilently strict m c GivenUp n
+  given_up strict n is limits memory = passes strict GivenUp n is limits memory (λ other. absurd (other refl))
+
+  module _ (none : code_in m.limits p.gathered ≡ None) (r : BoundedList Finding) (empty : r.items ≡ []) (room : 9 ≤ r.limit) where
+    turned_rests : (q : SlotPairState) → HasTurned p q → IsInBody (past_char m x b q r)
+    turned_rests q u = rests_past h.part h.rests a none u r (saturating_next_place m.next c) empty room
+
+    turned_keeps : (q : SlotPairState) → HasTurned p q → KeepsMemory (past_char m x b q r)
+    turned_keeps q u = let i = turned_rests q u in record { room = i.rests.room; limit = i.rests.limit }
+
+    -- It goes on.
+    pub goes_on : (strict : Bool) → left_with strict m.limits m.pair.gathered b.events ≡ Open → nat_lt (length p.held) (length p.gathered.made) ≡ false → is_made p.used ≡ false → ReadsSilently strict m c Open (past_char m x b p r)
+    goes_on strict is fewer used =
+        let u = none_turned a fewer used in
+        passes strict Open (past_char m x b p r) is refl (turned_keeps p u)
+        (λ other. record {
+          stands = record { part = h.part; rests = turned_rests p u };
+          body_is = refl;
+          next_is = refl;
+          gathered = λ whole. a.gathered;
+          made = λ e. none_made m.pair.gathered p.gathered b.events a.gathered (ap (λ ms. nat_lt (length ms) (length p.gathered.made)) (sym a.held) ∙ fewer);
+          contexts = λ e. a.contexts;
+          alone = λ none. ap (λ (k : Contexts). k.before) a.contexts;
+        })
+
+    -- It is whole.
+    pub is_whole : (strict : Bool) (q : SlotPairState) → left_with strict m.limits m.pair.gathered b.events ≡ Whole → HasTurned p q → ReadsSilently strict m c Whole (past_char m x b q r)
+    is_whole strict q is u = passes strict Whole (past_char m x b q r) is refl (turned_keeps q u)
+        (λ other. record {
+          stands = record { part = h.part; rests = turned_rests q u };
+          body_is = refl;
+          next_is = refl;
+          gathered = λ alone. u.gathered ∙ ap with_held a.gathered ∙ held_all (with_all m.pair.gathered b.events) (few (alone refl));
+          made = λ e. absurd (cc e);
+          contexts = λ e. absurd (cc e);
+          alone = λ alone. before_is h.part h.rests a none u ∙ ap (λ n. with_placed m.pair.contexts.before (take n (placed_after (has_given m) p.gathered.made))) (left_none alone);
+        })
+      where
+        few : m.pair.gathered.made ≡ [] → length (with_all m.pair.gathered b.events).made ≤ 1
+        few alone = few_made m.pair.gathered b.events (closes_last a.steps.0 a.steps.1) alone
+
+        left_none : m.pair.gathered.made ≡ [] → length p.gathered.made - 1 ≡ 0
+        left_none alone = let is = ap (λ (k : Gathered). length k.made) a.gathered in let few = few alone in omega (arith, few, is)

@@ -1,6 +1,6 @@
 -- A part reads the next character of a kept text again, by what its stage does.
 use Rattle.std.proofs.lemmas.Bool.{false_from_ne_true, true≢false}
-use Rattle.std.proofs.Common.{◌≡◌, ◌≢◌, ◌⊎◌, inl, inr, ◌==◌, ◌&&◌, ◌||◌, not, ℕ, zero, suc, ◌+◌, ◌-◌, ◌^◌, ◌<◌, min, nat_lt, Bool, true, false, List, [], ◌∷◌, ◌++◌, length, Option, Some, None, encode_utf8, encode_utf8_all, refl, sym, ap, subst, ◌∙◌, append-nil, arith, if◌then◌else◌}
+use Rattle.std.proofs.Common.{◌≡◌, ◌≢◌, ◌⊎◌, inl, inr, ◌==◌, ◌&&◌, ◌||◌, not, ℕ, zero, suc, ◌+◌, ◌-◌, ◌^◌, ◌<◌, min, nat_lt, Bool, true, false, List, [], ◌∷◌, ◌++◌, length, Some, None, encode_utf8, encode_utf8_all, refl, sym, ap, subst, ◌∙◌, append-nil, arith, if◌then◌else◌}
 use Rattle.std.proofs.Math.Bool.{and-false}
 use Rattle.std.proofs.lemmas.List.{append_cancel_left}
 use Rattle.std.specs.List.{list_any}
@@ -36,8 +36,8 @@ use Rattle.gabc_body.specs.witness.BodyBuilder.{with_all}
 use Rattle.gabc_body.specs.witness.Gatherer.{Gathered}
 use Rattle.gabc_score.specs.machine.PartKeeps.{KeptParts, in_text, in_notes, text_before, snippet_events, PartKeeps}
 use Rattle.gabc_body.specs.witness.TextEvents.{text_events}
-use Rattle.gabc_score.specs.machine.ReadAgain.{Adds, BeginsComment, BeginsIn, IsNext, IsNextIn, OpenAt, OpensNotes, Reads, ReadsAgain}
-use Rattle.gabc_score.proofs.building.SnippetsTakeCharacters.{StaysInNotes, in_snippet, next_ends, none_next, not_next, one_ends, stays_in_notes}
+use Rattle.gabc_score.specs.machine.ReadAgain.{Adds, BeginsComment, BeginsIn, IsNext, IsNextIn, OpensNotes, Reads, ReadsAgain}
+use Rattle.gabc_score.proofs.building.SnippetsTakeCharacters.{in_snippet, next_ends, none_next, not_next, one_ends, stays_in_notes}
 use Rattle.gabc_body.proofs.emitted.EndsOfSnippets.{none_close}
 use Rattle.gabc_score.proofs.building.PartsOfKeptText.{Grows, end_marks, ends_text, notes_ended, notes_said, of_notes, said_gathered, snippet_grows, text_goes_on, text_grows}
 use Rattle.gabc_score.proofs.resuming.PartsAreOne.{outside}
@@ -47,14 +47,7 @@ use Rattle.gabc_text.specs.TextStage.{fresh_stage}
 use Rattle.gabc_score.specs.machine.PartSteps.{PartSteps, SnippetSteps}
 use Rattle.gabc_score.specs.machine.PartSteps as step
 
--- ---- where what is open began
-
--- after a `(` or a `|` no bracket is open yet
-begins_at : (outer inner opened : Place) (after : BodyPart) → openers_of after ≡ record { notes = Some opened; inner = None } → opened ≡ outer → OpenAt outer inner after
-begins_at outer inner opened after is at = record {
-  notes_at = λ o e. cc (ap (λ (k : Openers). k.notes) (sym is) ∙ e, at);
-  inner_at = λ o e. absurd (cc (ap (λ (k : Openers). k.inner) (sym is) ∙ e));
-}
+-- ---- a part that is in notes
 
 not_in_front : (opened : Place) (after : BodyPart) → openers_of after ≡ record { notes = Some opened; inner = None } → is_in_front after ≡ false
 not_in_front opened part.Comment is = absurd (cc (ap (λ (k : Openers). k.notes) is))
@@ -81,7 +74,6 @@ module _ (lines macros : ℕ) (x : Char) (s t : TextStage) (es : List TextEvent)
     adds = λ g here from fits. let h = text_grows es g goes_on in record { kept = h.kept ∙ ap (λ (m : List ℕ). g.builder.kept ++ encode_utf8_all m) kept; made = h.made };
     comment_is = goes.comment ∙ is;
     front = refl;
-    openers = λ outer inner at stands began. record { notes_at = began.notes_at; inner_at = λ o e. elim (goes.opener o e) [ inl h ↦ began.inner_at o h | inr h ↦ sym h ∙ stands ∙ at ] };
   }
     where
       goes : text.GoesOn s k x.c es t
@@ -112,13 +104,11 @@ module _ (lines macros : ℕ) (x : Char) (s t : TextStage) (es : List TextEvent)
 
 -- ---- a snippet
 
--- A snippet goes on after a character with this kept more, and a comment is open after it or not. The bracket that is open was so before, or
--- stands at the character.
-record GoesWith (es : List NoteEvent) (before after : BodyPart) (at : Place) (more : List ℕ) (comment : Bool) : Type 0 where
+-- A snippet goes on after a character with this kept more, and a comment is open after it or not.
+record GoesWith (es : List NoteEvent) (after : BodyPart) (more : List ℕ) (comment : Bool) : Type 0 where
   no_end : ends_of es ≡ []
   kept : kept_of es ≡ more
   comment_is : is_in_comment after ≡ comment
-  opener : (o : Place) → (openers_of after).inner ≡ Some o → ((openers_of before).inner ≡ Some o) ⊎ (at ≡ o)
 
 -- It ends at its mark c, and all of it stays kept.
 record EndsWhole (es : List NoteEvent) (c : ℕ) (k : List ℕ) : Type 0 where
@@ -127,9 +117,9 @@ record EndsWhole (es : List NoteEvent) (c : ℕ) (k : List ℕ) : Type 0 where
 
 -- It goes on with the next character of a kept text, or ends whole at its `|`; and a `%` begins a
 -- comment.
-record ReadsNext (lines line : ℕ) (x : Char) (before after : BodyPart) (es : List NoteEvent) (k : List ℕ) : Type 0 where
-  next : IsNextIn lines line k x.c → GoesWith es before after x.place (x.c ∷ []) false ⊎ ((x.c ≡ 124) × EndsWhole es x.c k)
-  comment : x.c ≡ 37 → BeginsIn line k → GoesWith es before after x.place [] true
+record ReadsNext (lines line : ℕ) (x : Char) (after : BodyPart) (es : List NoteEvent) (k : List ℕ) : Type 0 where
+  next : IsNextIn lines line k x.c → GoesWith es after (x.c ∷ []) false ⊎ ((x.c ≡ 124) × EndsWhole es x.c k)
+  comment : x.c ≡ 37 → BeginsIn line k → GoesWith es after [] true
 
 module _ (line : ℕ) (opened : Place) (es : List NoteEvent) where
   goes_adds : (more : List ℕ) → ends_of es ≡ [] → kept_of es ≡ more → (g : Gathered) → Adds g (with_all g (of_notes line opened es)) more
@@ -167,7 +157,7 @@ module _ (lines macros : ℕ) (opened : Place) (s t : NoteStage) (x : Char) (es 
   Keep k = notes.Keeps split macros s k
 
   abbrev GoesOn : List ℕ → Bool → Type 0
-  GoesOn more comment = GoesWith es (part.Notes opened s) (part.Notes opened t) x.place more comment
+  GoesOn more comment = GoesWith es (part.Notes opened t) more comment
 
   gabc_goes : (k more : List ℕ) (comment : Bool) → Keep k → notes.is_end_after split k (tells.comment_of s) x.c ≡ false → notes.kept_after k (tells.comment_of s) x.c ≡ k ++ more
       → notes.is_comment_after k (tells.comment_of s) x.c ≡ comment → GoesOn more comment
@@ -177,13 +167,7 @@ module _ (lines macros : ℕ) (opened : Place) (s t : NoteStage) (x : Char) (es 
         no_end = g.no_end;
         kept = append_cancel_left k (kept_of es) more (g.kept ∙ kept);
         comment_is = g.comment ∙ is;
-        opener = λ o e. by (in_raw (k ++ kept_of es)) (tells.opener_of s) o (sym g.opener ∙ e);
       }
-    where
-      by : (b : Bool) (q : Option Place) (o : Place) → notes.opener_after b q x.place ≡ Some o → (q ≡ Some o) ⊎ (x.place ≡ o)
-      by false q o e = absurd (cc e)
-      by true (Some q) o e = inl e
-      by true None o e = inr (cc e)
 
   gabc_again : (k : List ℕ) → Keep k → tells.comment_of s ≡ false → notes.IsKeptAgain split k x.c → GoesOn (x.c ∷ []) false
   gabc_again k keeps plain is =
@@ -205,14 +189,14 @@ module _ (lines macros : ℕ) (opened : Place) (s t : NoteStage) (x : Char) (es 
   gabc_bar : (k : List ℕ) → Keep k → tells.comment_of s ≡ false → x.c ≡ 124 → split ≡ true → IsSnippet gabc k → notes.EndsAfter k x.c es
   gabc_bar k keeps plain is splits snippet = grind (arith, outside)
 
-  gabc_next : (k : List ℕ) → Keep k → tells.comment_of s ≡ false → ReadsNext lines 0 x (part.Notes opened s) (part.Notes opened t) es k
+  gabc_next : (k : List ℕ) → Keep k → tells.comment_of s ≡ false → ReadsNext lines 0 x (part.Notes opened t) es k
   gabc_next k keeps plain = grind (arith, gabc_percent, gabc_again, gabc_bar, size_is_sum, trim_snippet)
 
 -- ---- a snippet of NABC
 
 module _ (lines macros line : ℕ) (opened : Place) (s t : NabcStage) (x : Char) (es : List NoteEvent) (on : nabc.KeepsOn s x es t) where
   abbrev NabcGoesOn : List ℕ → Bool → Type 0
-  NabcGoesOn more comment = GoesWith es (part.Nabc line opened s) (part.Nabc line opened t) x.place more comment
+  NabcGoesOn more comment = GoesWith es (part.Nabc line opened t) more comment
 
   nabc_goes : (k more : List ℕ) (comment : Bool) → nabc.Keeps s k → nabc.is_end_after (nabc.comment_of s) x.c ≡ false → nabc.kept_after k (nabc.comment_of s) x.c ≡ k ++ more
       → comment_in (nabc.comment_of s) x.c ≡ comment → NabcGoesOn more comment
@@ -222,7 +206,6 @@ module _ (lines macros line : ℕ) (opened : Place) (s t : NabcStage) (x : Char)
         no_end = g.no_end;
         kept = append_cancel_left k (kept_of es) more (g.kept ∙ kept);
         comment_is = g.comment ∙ is;
-        opener = λ o e. absurd (cc e);
       }
 
   nabc_again : (k : List ℕ) → nabc.Keeps s k → nabc.comment_of s ≡ false → nabc.IsKeptAgain k x.c → NabcGoesOn (x.c ∷ []) false
@@ -237,7 +220,7 @@ module _ (lines macros line : ℕ) (opened : Place) (s t : NabcStage) (x : Char)
   nabc_bar : (k : List ℕ) → nabc.Keeps s k → nabc.comment_of s ≡ false → x.c ≡ 124 → nabc.EndsAfter k x.c es
   nabc_bar k keeps plain is = on.ends k keeps (ap (λ (b : Bool). nabc.is_end_after b x.c) plain ∙ ap (λ (c : ℕ). nabc.is_end_after false c) is)
 
-  nabc_next : (l : ℕ) (k : List ℕ) → l ≢ 0 → nabc.Keeps s k → nabc.comment_of s ≡ false → ReadsNext lines l x (part.Nabc line opened s) (part.Nabc line opened t) es k
+  nabc_next : (l : ℕ) (k : List ℕ) → l ≢ 0 → nabc.Keeps s k → nabc.comment_of s ≡ false → ReadsNext lines l x (part.Nabc line opened t) es k
   nabc_next zero k some keeps plain = absurd (some refl)
   nabc_next (suc l) k some keeps plain = record { next = next; comment = λ is begins. nabc_percent k keeps plain is }
     where
@@ -250,7 +233,7 @@ module _ (lines macros line : ℕ) (opened : Place) (s t : NabcStage) (x : Char)
 -- ---- either
 
 reads_next : (lines macros : ℕ) {x : Char} {line : ℕ} {opened : Place} {before after : BodyPart} {es : List NoteEvent} → SnippetSteps x line opened before es after → (u : List ℕ) (earlier : List (List ℕ)) (k : List ℕ)
-    → PartKeeps lines macros before (in_notes u earlier k) → is_in_comment before ≡ false → ReadsNext lines line x before after es k
+    → PartKeeps lines macros before (in_notes u earlier k) → is_in_comment before ≡ false → ReadsNext lines line x after es k
 reads_next lines macros {x} (step.in_gabc {opened} {s} {t} {es} h) u earlier k keeps plain = gabc_next lines macros opened s t x es h.keeps k keeps.1 plain
 reads_next lines macros {x} (step.in_nabc {line} {opened} {s} {t} {es} h) u earlier k keeps plain = nabc_next lines macros line opened s t x es h.keeps line k keeps.1.0 keeps.1.1 plain
 
@@ -259,7 +242,7 @@ module _ (lines macros : ℕ) {x : Char} {line : ℕ} {opened : Place} {before s
   ReadsIn after p more comment = Reads before p x more comment after (of_notes line opened es)
 
   -- by which of the two comes next
-  snippet_reads : (after : BodyPart) → ((u : List ℕ) (earlier : List (List ℕ)) (k more : List ℕ) (comment : Bool) → GoesWith es before same x.place more comment → ReadsIn after (in_notes u earlier k) more comment)
+  snippet_reads : (after : BodyPart) → ((u : List ℕ) (earlier : List (List ℕ)) (k more : List ℕ) (comment : Bool) → GoesWith es same more comment → ReadsIn after (in_notes u earlier k) more comment)
       → ((u : List ℕ) (earlier : List (List ℕ)) (k : List ℕ) → x.c ≡ 124 → EndsWhole es x.c k → ReadsIn after (in_notes u earlier k) (x.c ∷ []) false) → ReadsAgain lines macros x before after (of_notes line opened es)
   snippet_reads after goes ends = record {
     next = λ p keeps plain is. in_snippet lines macros s (λ (p : KeptParts). IsNext lines p x.c → ReadsIn after p (x.c ∷ []) false)
@@ -276,16 +259,9 @@ module _ (lines macros : ℕ) {x : Char} {line : ℕ} {opened : Place} {before s
       (λ u earlier k more comment h. record {
         adds = λ g here from fits. goes_adds line opened es more h.no_end h.kept g;
         comment_is = h.comment_is;
-        front = still.front;
-        openers = λ outer inner at stands began. record {
-          notes_at = λ o e. began.notes_at o (still.was ∙ sym still.is ∙ e);
-          inner_at = λ o e. elim (h.opener o e) [ inl was ↦ began.inner_at o was | inr here ↦ sym here ∙ at ] ∙ sym (still.place outer inner);
-        };
+        front = (stays_in_notes s).front;
       })
       (λ u earlier k is e. absurd (one_ends es x.c _ e.end next close))
-    where
-      still : StaysInNotes opened before same
-      still = stays_in_notes s
 
   next_reads : (after : BodyPart) → list_any is_next es ≡ true → OpensNotes opened after → ReadsAgain lines macros x before after (of_notes line opened es)
   next_reads after next opens = snippet_reads after
@@ -294,7 +270,6 @@ module _ (lines macros : ℕ) {x : Char} {line : ℕ} {opened : Place} {before s
         adds = λ g here from fits. subst (λ (c : ℕ). Adds g (with_all g (of_notes line opened es)) (c ∷ [])) (sym is) (ends_adds line opened es x.c (text_before (in_notes u earlier k)) k h next g here from fits);
         comment_is = opens.1;
         front = not_in_front opened after opens.0;
-        openers = λ outer inner at stands began. begins_at outer inner opened after opens.0 (began.notes_at opened (stays_in_notes s).was);
       })
 
   close_reads : (after : BodyPart) → list_any is_close es ≡ true → ReadsAgain lines macros x before after (of_notes line opened es)

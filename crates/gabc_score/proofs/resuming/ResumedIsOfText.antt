@@ -9,10 +9,11 @@ use Rattle.gabc_score.specs.declared.score_machine.ScoreMachine.{ScoreMachine}
 use Rattle.gabc_score.specs.declared.score_machine.ScorePart.TheVariants as score_part
 use Rattle.gabc_score.specs.Resumed.{IsAfterSyllables}
 use Rattle.gabc_body.specs.ScoreEvents.{first_place}
-use Rattle.gabc_score.specs.ScoreReports.{moved_to, openers_of, reading_of}
+use Rattle.gabc_score.specs.declared.body_tells.Openers.{Openers}
+use Rattle.gabc_score.specs.ScoreReports.{openers_of, reading_of}
 use Rattle.gabc_places.specs.TextOfAnInput.{IsText}
 use Rattle.gabc_score.specs.ReportedWithin.{AreCountsWithin, AreOpenersBefore, IsPlace, ReportsText}
-use Rattle.gabc_score.specs.machine.ReadAgain.{IsRunAlike, IsSameBut}
+use Rattle.gabc_score.specs.machine.ReadsSilently.{IsRunAlike, IsSameBut, placed_so}
 use Rattle.gabc_score.specs.machine.ScoreMachine.{shown}
 use Rattle.gabc_score.specs.witness.ScoreStage.{ScoreStageState}
 use Rattle.gabc_score.proofs.resuming.BeginsAnywhere.{none_in_body, nothing_in_body}
@@ -24,9 +25,9 @@ pub first_is_place : IsPlace first_place
 first_is_place = record { line = omega arith; column = omega arith; in_64_bits = omega arith }
 
 -- a kept text that was read again is a text
-pub reported_again : (old m : ScoreMachine) (next : Place) → IsSameBut old m → IsRunAlike old m → m.part ≡ score_part.Body → (let new = moved_to next (shown m) in IsPlace next → AreOpenersBefore next (openers_of new.body.part)
+pub reported_again : (old m : ScoreMachine) (o : Openers) (next : Place) → IsSameBut old m → IsRunAlike old m → m.part ≡ score_part.Body → (let new = shown (placed_so o next m) in IsPlace next → AreOpenersBefore next (openers_of new.body.part)
     → IsText (reading_of new) → ReportsText (shown old) → ReportsText new)
-reported_again old m next same run now is openers text told body =
+reported_again old m o next same run now is openers text told body =
     let t = told same.body in
     record { counts = rw (run.limits, run.lines, run.macros, same.contexts) t.counts; next = is; openers = openers; reading = rw now at text; held = rw same.made t.held }
 

@@ -12,7 +12,6 @@ use Rattle.gabc_score.specs.declared.preceding.Preceding.{Preceding}
 use Rattle.gabc_score.specs.declared.body_stage.BodyPart.TheVariants.{Text}
 use Rattle.gabc_score.specs.declared.run.Found.{Found}
 use Rattle.gabc_score.specs.declared.score_machine.ScoreMachine.{ScoreMachine}
-use Rattle.gabc_score.specs.declared.score_machine.ScorePart.{ScorePart}
 use Rattle.gabc_score.specs.ScoreReports.{is_in_front}
 use Rattle.gabc_body.specs.Syllable.{PlacedSyllable}
 use Rattle.gabc_score.specs.witness.BodyStage.{BodyStageState, running_events_left}
@@ -22,12 +21,13 @@ use Rattle.gabc_score.specs.machine.PartCounts.{CountsHold}
 use Rattle.gabc_score.specs.machine.PartKeeps.{in_text, PartKeeps}
 use Rattle.gabc_score.specs.machine.PartOnly.{HasText, HoldsTexts}
 use Rattle.gabc_score.specs.machine.Preceded.{Contexts}
-use Rattle.gabc_score.specs.machine.ReadAlone.{is_alone, lists_from, HasRead}
+use Rattle.gabc_score.specs.machine.ReadAlone.{is_alone, lists_from}
 use Rattle.gabc_score.specs.machine.Run.{GoesBefore, IsFound, RunsBefore, IsBetweenSyllables}
-use Rattle.gabc_score.specs.machine.ScoreMachine.{IsInBody, IsScoreAt}
+use Rattle.gabc_score.specs.machine.ScoreMachine.{IsInBody}
 use Rattle.gabc_score.specs.machine.SlotPair.{is_made}
 use Rattle.gabc_body.specs.witness.SyllableBuilder.{OpenSyllable, nothing_open}
 use Rattle.gabc_score.proofs.resuming.NothingIsRead.{begins_again}
+use Rattle.gabc_score.proofs.resuming.ReadOneByOne.{HasRead}
 use Rattle.gabc_score.proofs.runs.BeforeLast.{rests_next}
 use Rattle.gabc_score.proofs.runs.FoundSyllable.{front_is}
 use Rattle.gabc_score.proofs.runs.RunEnds.{EndsWith, before_last}
@@ -62,7 +62,7 @@ module _ (m : ScoreMachine) (at : Place) (t : List ℕ) (given : List PlacedSyll
     is_alone_there = grind (arith, limits_there, lists_are, gathered_there)
 
     module _ (found : IsFound m.body.nabc_lines m.limits p.canonical f) (read : ScoreMachine) (has : HasRead on read (lists_from on next (chars f.spelled.now)))
-        (was : IsScoreAt read.part read) (texts : IsText f.spelled.now → HoldsTexts on.pair.gathered → HoldsTexts read.pair.gathered)
+        (texts : IsText f.spelled.now → HoldsTexts on.pair.gathered → HoldsTexts read.pair.gathered)
         (body : BodyStageState) (begins : body ≡ record read.body { part = Text (fresh_stage (place_past next (chars f.spelled.now))) }) (counts : CountsHold body.part nothing_open)
         (keeps : (lines macros : ℕ) → PartKeeps lines macros body.part (in_text [])) where
       abbrev pub then : ScoreMachine
@@ -78,7 +78,7 @@ module _ (m : ScoreMachine) (at : Place) (t : List ℕ) (given : List PlacedSyll
       before_is = has.before ∙ ap (λ (k : Contexts). k.before) goes.contexts
 
       rested : IsInBody read
-      rested = subst (λ (q : ScorePart). IsScoreAt q read) has.part was
+      rested = has.stands.rests
 
       lines_are : body.nabc_lines ≡ read.body.nabc_lines
       lines_are = ap (λ (b : BodyStageState). b.nabc_lines) begins
@@ -108,7 +108,7 @@ module _ (m : ScoreMachine) (at : Place) (t : List ℕ) (given : List PlacedSyll
       pub holds_then : HoldsLast m p (place_past next (chars f.spelled.now)) ends.made then
       holds_then = record {
         limits = has.limits ∙ limits_there;
-        part = has.part;
+        part = has.stands.part;
         begins = ap (λ (b : BodyStageState). b.part) begins;
         lines = lines_are ∙ has.lines ∙ ap (λ (b : BodyStageState). b.nabc_lines) goes.body;
         macros = macros_are ∙ has.macros ∙ ap (λ (b : BodyStageState). b.macros) goes.body;

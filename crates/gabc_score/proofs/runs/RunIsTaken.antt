@@ -5,7 +5,7 @@ use Rattle.std.specs.Str.{IsCharBoundary, IsUtf8, chars}
 use Rattle.std.specs.String.Boundary.{IsSplitPoint}
 use Rattle.std.proofs.Math.Seq.{take-append_seam}
 use Rattle.std.proofs.lemmas.List.Elements.{All-append, All-nil}
-use Rattle.std.proofs.lemmas.Str.{IsCharBoundary-from_take, IsUtf8-append, IsUtf8-nil, chars-append, chars-nil}
+use Rattle.std.proofs.lemmas.Str.{IsCharBoundary-from_take, IsUtf8-append, IsUtf8-nil, chars-append, chars-nil, scalars-chars}
 use Rattle.gabc_text.specs.TextStage.{fresh_stage}
 use Rattle.gabc_places.specs.Place.{place_past}
 use Rattle.gabc_places.specs.TextOfAnInput.{IsPlain, IsText}
@@ -13,6 +13,8 @@ use Rattle.gabc_places.specs.declared.place.Place.{Place}
 use Rattle.gabc_places.proofs.PlacesOfAText.{place_append}
 use Rattle.gabc_score.specs.declared.body_stage.BodyPart.TheVariants.{Text}
 use Rattle.gabc_score.specs.declared.preceding.Preceding.{Preceding}
+use Rattle.gabc_score.specs.declared.reading_again.SyllableRead.{SyllableRead}
+use Rattle.gabc_score.specs.declared.reading_again.SyllableRead.TheVariants.{Open, Whole}
 use Rattle.gabc_score.specs.declared.run.Found.{Found}
 use Rattle.gabc_score.specs.declared.run.Reached.{Reached}
 use Rattle.gabc_score.specs.declared.score_machine.ScoreMachine.{ScoreMachine}
@@ -27,17 +29,22 @@ use Rattle.gabc_score.specs.machine.PartCounts.{CountsHold}
 use Rattle.gabc_score.specs.machine.PartKeeps.{in_text, PartKeeps}
 use Rattle.gabc_score.specs.machine.PartOnly.{HoldsTexts}
 use Rattle.gabc_score.specs.machine.Preceded.{Contexts}
-use Rattle.gabc_score.specs.machine.ReadAlone.{is_alone, lists_from, HasRead}
+use Rattle.gabc_score.specs.machine.ReadsSilently.{ReadsTextSilently}
+use Rattle.gabc_score.specs.machine.ReadAlone.{is_alone, lists_from}
+use Rattle.gabc_score.specs.machine.ReadsChar.{StandsInBody}
 use Rattle.gabc_score.specs.machine.Run.{GoesBefore, IsFound, IsSamePair, KeepsFirstSound, IsBetweenSyllables, RunsBefore, RunsTo, before_in}
 use Rattle.gabc_score.specs.machine.ScoreMachine.{has_given, shown, IsInBody, IsScoreAt}
 use Rattle.gabc_score.specs.machine.SlotPair.{SlotPairState, is_made}
 use Rattle.gabc_body.specs.witness.SyllableBuilder.{nothing_open}
+use Rattle.gabc_body.proofs.units.CanonicalTextIsText.{characters}
+use Rattle.gabc_score.proofs.keeping.ReadByItself.{HasRoom}
+use Rattle.gabc_score.proofs.resuming.ReadOneByOne.{HasRead, HasReadAlone, reads_alone, whole_left_is}
 use Rattle.gabc_score.proofs.runs.FoundSyllable.{plain_is, utf8_is}
 use Rattle.gabc_score.proofs.runs.LastSyllableBecomesPending.{rests_there, is_alone_there, rests_then, holds_then}
 use Rattle.gabc_score.proofs.runs.RunBegins.{held_of, run_begins}
 use Rattle.gabc_score.proofs.runs.RunEnds.{EndsWith, run_ends}
 use Rattle.gabc_score.proofs.runs.RunGives.{run_gives}
-use Rattle.gabc_score.proofs.runs.RunTakesOneMoreSyllable.{MakeSyllables, low_there}
+use Rattle.gabc_score.proofs.runs.RunTakesOneMoreSyllable.{MakeSyllables, few_characters, low_there}
 use Rattle.gabc_score.proofs.runs.MachineStaysBetween.{moved_stands}
 
 -- ---- what is borrowed does not count
@@ -185,18 +192,42 @@ module _ (m : ScoreMachine) (at : Place) (text : List ℕ) (given : List PlacedS
       pub alone_on : is_alone on.limits on.pair.gathered (lists_from on from (chars f.spelled.now)) ≡ true
       alone_on = is_alone_there m at (chars to.bytes) given (nat_lt 0 f.gap) (before_in m reached) from runs_from to.stands f on goes ends
 
-      module _ (read : ScoreMachine) (has : HasRead on read (lists_from on from (chars f.spelled.now))) (was : IsScoreAt read.part read)
-          (texts : IsText f.spelled.now → HoldsTexts on.pair.gathered → HoldsTexts read.pair.gathered)
-          (body : BodyStageState) (counts : CountsHold body.part nothing_open) (keeps : (lines macros : ℕ) → PartKeeps lines macros body.part (in_text [])) where
+      at_from : on.next ≡ from
+      at_from = ap (λ (n : ScoreMachine). n.next) goes.is
+
+      pub stands_on : StandsInBody on
+      stands_on = record { part = ap (λ (n : ScoreMachine). n.part) goes.is ∙ to.stands.part; rests = rests_on }
+
+      none_on : on.pair.gathered.made ≡ []
+      none_on = ap (λ (g : Gathered). g.made) goes.gathered
+
+      room_on : HasRoom on.next (length (chars f.spelled.now))
+      room_on = let few = few_characters f.spelled.now spelled_utf8 in subst (λ (p : Place). HasRoom p (length (chars f.spelled.now))) (sym at_from) (record { line = omega (arith, low, few); column = omega (arith, low, few) })
+
+      module _ (left : SyllableRead) (read : ScoreMachine) (steps : ReadsTextSilently true Open on (chars f.spelled.now) left read) (body : BodyStageState) (counts : CountsHold body.part nothing_open)
+          (keeps : (lines macros : ℕ) → PartKeeps lines macros body.part (in_text [])) where
+        -- its characters are one syllable
+        read_so : HasReadAlone on from (chars f.spelled.now) left read
+        read_so = subst (λ (p : Place). HasReadAlone on p (chars f.spelled.now) left read) at_from (reads_alone (chars f.spelled.now) on read left stands_on room_on none_on steps)
+
+        whole : left ≡ Whole
+        whole = whole_left_is left (sym read_so.alone ∙ alone_on)
+
+        has : HasRead on read (lists_from on from (chars f.spelled.now))
+        has = read_so.goes whole
+
+        texts : IsText f.spelled.now → HoldsTexts on.pair.gathered → HoldsTexts read.pair.gathered
+        texts text = read_so.texts whole (characters (chars f.spelled.now) (scalars-chars f.spelled.now text.utf8) text.plain)
+
         -- it rests after it
         pub rests_after : (q : Place) → q ≡ past → body ≡ record read.body { part = Text (fresh_stage q) } → IsScoreAt read.part (record read { body = body; next = q })
         rests_after q e = subst (λ (q : Place). body ≡ record read.body { part = Text (fresh_stage q) } → IsScoreAt read.part (record read { body = body; next = q })) (sym e) (λ begins.
-            subst (λ p. IsScoreAt p (record read { body = body; next = past })) (sym has.part)
-            (rests_then m at (chars to.bytes) given (nat_lt 0 f.gap) (before_in m reached) from runs_from to.stands f on goes ends to.found read has was texts body begins counts keeps))
+            subst (λ p. IsScoreAt p (record read { body = body; next = past })) (sym has.stands.part)
+            (rests_then m at (chars to.bytes) given (nat_lt 0 f.gap) (before_in m reached) from runs_from to.stands f on goes ends to.found read has texts body begins counts keeps))
 
         gives_by : body ≡ record read.body { part = Text (fresh_stage past) } → GivesSyllables (shown m) at (chars to.bytes ++ chars f.spelled.now) given (shown (record read { body = body; next = past }))
         gives_by begins = run_gives m at (chars to.bytes) given (nat_lt 0 f.gap) (before_in m reached) from runs_from to.stands f to.found low.1 ends (record read { body = body; next = past })
-            (holds_then m at (chars to.bytes) given (nat_lt 0 f.gap) (before_in m reached) from runs_from to.stands f on goes ends to.found read has was texts body begins counts keeps) m.pair.first m.pair.second
+            (holds_then m at (chars to.bytes) given (nat_lt 0 f.gap) (before_in m reached) from runs_from to.stands f on goes ends to.found read has texts body begins counts keeps) m.pair.first m.pair.second
 
         -- what the run gives
         pub gives_after : (q : Place) → q ≡ past → body ≡ record read.body { part = Text (fresh_stage q) } → GivesSyllables (shown m) at (chars (take taken_bytes text)) given (shown (record read { body = body; next = q }))

@@ -34,7 +34,7 @@ module _ {m : ScoreMachine} {x : Char} {b : BodyStageState} {p : SlotPairState} 
   whole : whole_in p.gathered ≡ whole_in m.pair.gathered
   whole = ap whole_in a.gathered ∙ whole_stays b.events m.pair.gathered (none_closes p.used (list_any closes b.events) a.used used)
 
-  none : code_in m.limits p.gathered ≡ None
+  pub none : code_in m.limits p.gathered ≡ None
   none =
       let now : is_longer p.gathered.limit p.gathered.builder.kept ≡ false = grind (arith, nat_tests, short) in
       let before : is_longer m.pair.gathered.limit m.pair.gathered.builder.kept ≡ false = let k = h.kept in let l = h.rests.limit in grind (arith, nat_tests, k, l) in
@@ -43,12 +43,12 @@ module _ {m : ScoreMachine} {x : Char} {b : BodyStageState} {p : SlotPairState} 
   few : length p.gathered.made ≤ 1
   few = let n = ap (λ w. length w.0) whole in let one = a.one in omega (arith, n, one)
 
+  pub fewer : nat_lt (length p.held) (length p.gathered.made) ≡ false
+  fewer = let e = ap length a.held in let n = ap (λ w. length w.0) whole in grind (arith, nat_tests, e, n)
+
   module _ (out : BoundedList ScoreEvent) (nothing : (found_past m x p f).items ≡ []) where
     none_given : take (length p.gathered.made - 1) (placed_after (is_preceded p) p.gathered.made) ≡ []
     none_given = let n : length p.gathered.made - 1 ≡ 0 = omega (arith, few) in ap (λ n. take n (placed_after (is_preceded p) p.gathered.made)) n
-
-    fewer : nat_lt (length p.held) (length p.gathered.made) ≡ false
-    fewer = let e = ap length a.held in let n = ap (λ w. length w.0) whole in grind (arith, nat_tests, e, n)
 
     passes : Passes m x p f p (found_past m x p f) out out
     passes = record {

@@ -1,20 +1,15 @@
 -- A text that is read alone: whether it is one syllable, with which no limit is passed.
-use Rattle.std.specs.Prelude.{◌≡◌, ℕ, ◌+◌, ◌<◌, ◌^◌, ◌&&◌, ◌≤◌, not, List, [], ◌∷◌, Bool, true, false, None, is_some, length, take}
-use Rattle.std.specs.List.{All, list_any}
+use Rattle.std.specs.Prelude.{◌≡◌, ℕ, ◌&&◌, not, List, [], ◌∷◌, Bool, true, false, None, is_some, length, take}
+use Rattle.std.specs.List.{list_any}
 use Rattle.std.specs.Str.{chars}
-use Rattle.gabc_places.specs.BoundedList.{BoundedList}
 use Rattle.gabc_places.specs.Place.{placed_characters_from}
-use Rattle.gabc_places.specs.StageLaw.{concat_of}
 use Rattle.gabc_places.specs.declared.place.Place.{Place}
 use Rattle.gabc_places.specs.Code.{severity_of}
 use Rattle.gabc_places.specs.declared.code.Finding.{Finding}
 use Rattle.gabc_places.specs.declared.limits.Limits.{Limits}
-use Rattle.gabc_places.specs.declared.place.Char.{Char}
 use Rattle.gabc_places.specs.declared.severity.Severity.{Severity}
 use Rattle.gabc_places.specs.declared.severity.Severity.TheVariants.{Warning, Error, Fatal}
 use Rattle.gabc_body.specs.declared.events.BodyEvent.{BodyEvent}
-use Rattle.gabc_score.specs.declared.score_event.ScoreEvent.{ScoreEvent}
-use Rattle.gabc_score.specs.declared.score_event.ScoreEvent.TheVariants as event
 use Rattle.gabc_score.specs.declared.score_machine.ScoreMachine.{ScoreMachine}
 use Rattle.gabc_score.specs.declared.score_machine.ScorePart.TheVariants as score_part
 use Rattle.gabc_places.specs.TextOfAnInput.{IsText}
@@ -27,10 +22,8 @@ use Rattle.gabc_body.specs.Syllable.{UnplacedSyllable}
 use Rattle.gabc_score.specs.ReportedWithin.{ReportsText}
 use Rattle.gabc_body.specs.witness.BodyBuilder.{with_all, code_in}
 use Rattle.gabc_body.specs.witness.Gatherer.{Gathered}
-use Rattle.gabc_score.specs.machine.PartOnly.{HoldsTexts, IsKeptOf, kept_codes}
-use Rattle.gabc_score.specs.machine.ScoreMachine.{IsInBody, IsScore, shown}
-use Rattle.gabc_body.specs.witness.SyllableBuilder.{nothing_open}
-use Rattle.gabc_score.specs.witness.BodyStage.{BodyStageState, running_events_left}
+use Rattle.gabc_score.specs.machine.ScoreMachine.{IsScore, shown}
+use Rattle.gabc_score.specs.witness.BodyStage.{running_events_left}
 
 -- ---- characters that are fine
 
@@ -43,10 +36,6 @@ is_grave Fatal = true
 abbrev pub is_error : Finding → Bool
 is_error f = is_grave (severity_of f.code)
 
-abbrev pub is_error_event : ScoreEvent → Bool
-is_error_event (event.Found f) = is_error f
-is_error_event e = false
-
 -- with these events no limit is passed and no error is found
 abbrev pub is_fine : Limits → Gathered → List BodyEvent → Bool
 is_fine limits g now = not (is_some (code_in limits (with_all g now))) && not (list_any is_error (findings_now now))
@@ -57,27 +46,6 @@ abbrev pub is_alone : Limits → Gathered → List (List BodyEvent) → Bool
 is_alone limits g [] = not (is_none g.made)
 is_alone limits g (now ∷ lists) = is_none g.made && (is_fine limits g now && is_alone limits (with_all g now) lists)
 
--- The machine continues in the body, with `g` gathered. If a syllable is whole, nothing of the next
--- one is read.
-pub record GoesOn (old new : ScoreMachine) (g : Gathered) : Type 0 where
-  pub part : new.part ≡ score_part.Body
-  pub gathered : new.pair.gathered ≡ g
-  pub lines : new.body.nabc_lines ≡ old.body.nabc_lines
-  pub macros : new.body.macros ≡ old.body.macros
-  pub before : new.pair.contexts.before ≡ old.pair.contexts.before
-  pub limits : new.limits ≡ old.limits
-  pub whole : is_none g.made ≡ false → g.builder ≡ nothing_open
-
--- a character is read while no syllable is pending, and the machine continues if all is fine
-pub record ReadsAlone (old new : ScoreMachine) (x : Char) (fine : Bool) : Type 0 where
-  pub now : List BodyEvent
-  pub after : BodyStageState
-  pub law : (xs : List Char) → running_events_left old.body (x ∷ xs) ≡ now ∷ running_events_left after xs
-  pub only : All (IsKeptOf x.c) (kept_codes now)
-  pub body : fine ≡ true → new.body ≡ after
-  pub fine_is : fine ≡ is_fine old.limits old.pair.gathered now
-  pub goes : fine ≡ true → GoesOn old new (with_all old.pair.gathered now)
-
 -- the lists that the body of a machine emits for the characters of a text, the first of which is at
 -- this place
 abbrev pub lists_from : ScoreMachine → Place → List ℕ → List (List BodyEvent)
@@ -86,32 +54,7 @@ lists_from m at text = take (length text) (running_events_left m.body (placed_ch
 abbrev pub lists_of : ScoreMachine → List ℕ → List (List BodyEvent)
 lists_of m text = lists_from m first_place text
 
-abbrev pub HasRead : ScoreMachine → ScoreMachine → List (List BodyEvent) → Type 0
-HasRead old new lists = GoesOn old new (with_all old.pair.gathered (concat_of lists))
-
 -- ---- a text that is read alone
-
--- a machine in the body, without a pending syllable
-pub record StandsAlone (m : ScoreMachine) : Type 0 where
-  pub part : m.part ≡ score_part.Body
-  pub rests : IsInBody m
-  pub none : m.pair.gathered.made ≡ []
-
--- the room is empty, and large enough for the events of one character
-pub record IsFree (room : BoundedList ScoreEvent) : Type 0 where
-  pub empty : room.items ≡ []
-  pub holds : 16 ≤ room.limit
-
--- no count of a place reaches its last value with n characters
-pub record HasRoomFor (at : Place) (n : ℕ) : Type 0 where
-  pub line : at.line + n < 2 ^ 64
-  pub column : at.column + n < 2 ^ 64
-
--- A text was read whose first character is at `at`. `result` says whether it is one syllable.
-pub record ReadsAll (old : ScoreMachine) (at : Place) (text : List ℕ) (result : Bool) (new : ScoreMachine) : Type 0 where
-  pub texts : result ≡ true → IsText text → HoldsTexts old.pair.gathered → HoldsTexts new.pair.gathered
-  pub alone : result ≡ is_alone old.limits old.pair.gathered (lists_from old at (chars text))
-  pub goes : result ≡ true → HasRead old new (lists_from old at (chars text))
 
 -- a machine at the beginning of a text, without a pending syllable
 pub record BeginsAlone (m : ScoreMachine) : Type 0 where

@@ -1,11 +1,9 @@
 -- A stage on its way to be restored.
-use Rattle.std.specs.Prelude.{◌≡◌, ◌==◌, ◌≤◌, ℕ, List, [], IfSome, is_some, false, true}
-use Rattle.gabc_places.specs.BoundedList.{BoundedList}
+use Rattle.std.specs.Prelude.{◌≡◌, ◌==◌, ℕ, List, IfSome, is_some, false, true}
 use Rattle.gabc_score.specs.HeldAside.{HoldTheSame}
 use Rattle.gabc_score.specs.Resumed.{BeginsText}
 use Rattle.gabc_score.specs.ScoreReports.{IsAt, before_of, held_of, is_in_comment, is_in_front, openers_of, reading_of}
 use Rattle.gabc_score.specs.ReportedWithin.{ReportsWithin, written_after}
-use Rattle.gabc_score.specs.declared.score_event.ScoreEvent.{ScoreEvent}
 use Rattle.gabc_score.specs.witness.ScoreStage.{ScoreStageState}
 use Rattle.gabc_write.specs.SetDown.{SayTheSame}
 
@@ -15,11 +13,6 @@ pub record HasHeldText (told : ScoreStageState) (text : List ℕ) : Type 0 where
   pub runs : is_some (before_of told) ≡ true
   pub within : ReportsWithin told
   pub is : IfSome (held_of told) (λ m. text ≡ written_after told.before m)
-
--- The room is empty, and large enough for the events of one character.
-pub record IsFreeRoom (room : BoundedList ScoreEvent) : Type 0 where
-  pub empty : room.items ≡ []
-  pub wide : 16 ≤ room.limit
 
 -- The stage `s` has the same limits as `told`, and the same totals before its pending syllable.
 -- This one is equivalent to the pending syllable of `told`, if there is one.

@@ -38,7 +38,7 @@ loop-c-init g c =
     let says = says_run g.C.Give.given g.met.C.Give.given_both a.taker.now a.taker.now c.pass_run.new.taker a.start.findings _ (shown c.in_ok-machine.machine) (shown c.pass_run.new.machine) a.start.at c.pass_run.new.place a.body.now rest a.ending all begins passes in
     record {
       utf8 = subst IsUtf8 (sym rest_is) c.pass_run.utf8;
-      room = c.pass_run.ensures.room ∙ c.in_ok-out.ensures;
+      room = c.in_ok-out.ensures;
       rests = c.pass_run.ensures.rests;
       says = subst (λ bs. WillSay g.C.Give.given a.taker.now c.pass_run.new.taker a.start.findings _ (concat_of (left_of (shown c.pass_run.new.machine) (to_come a.ending (placed_characters_from c.pass_run.new.place (chars bs))))) all) (sym rest_is) says;
       line = let l = ap (λ bs. length bs) rest_is in omega (arith, l, passes.line, c.requires.line);
@@ -79,7 +79,7 @@ loop-c-preserved g c =
     let text_is = ap (λ bs. length bs) c.as_str.ensures in
     record {
       utf8 = subst IsUtf8 (sym left_is) run.utf8;
-      room = run.ensures.room ∙ (c.in_ok-add_all.ensures.room ∙ ap (λ n. record { items = []; limit = n }) room);
+      room = c.in_ok-add_all.ensures.room ∙ ap (λ n. record { items = []; limit = n }) room;
       rests = run.ensures.rests;
       says = subst (λ bs. WillSay g.C.Give.given first run.new.taker fs fault (concat_of (left_of (shown run.new.machine) (to_come ending (placed_characters_from run.new.place (chars bs))))) all) (sym left_is)
           (says_run g.C.Give.given g.met.C.Give.given_both first mid run.new.taker fs fault (shown c.push.new.self) (shown run.new.machine) then run.new.place c.as_str.result.now run.result.now ending all there run.ensures.passes);

@@ -15,12 +15,12 @@ returns-then-not-takes_runs-clause-passes g c = record {
 }
 
 pub split_at-requires : goal.split_at-requires
-split_at-requires g c = split_boundary c.args.text.now c.take_run-run.result.bytes c.utf8.text c.take_run-run.ensures.takes.front.within
+split_at-requires g c = split_boundary c.args.text.now c.take_run-run.result.bytes c.utf8.text c.take_run-run.ensures.front.within
 
 pub returns-clause-passes : goal.returns-clause-passes
 returns-clause-passes g c =
     let text = c.args.text.now in
     let n = c.take_run-run.result.bytes in
-    let front = c.take_run-run.ensures.takes.front in
+    let front = c.take_run-run.ensures.front in
     run_passes g.C.Give.given (shown c.args.machine.now) c.args.place.now text (shown c.take_run-run.new.self) c.take_run-run.result.next (take n text) c.split_at.result.1.now c.args.taker.now c.take_run-run.new.out
-    (split_utf8 text n c.utf8.text front.within) (sym (take-append-drop n text) ∙ ap (λ r. take n text ++ r) (sym c.split_at.ensures.back)) front.next c.take_run-run.ensures.takes.runs
+    (split_utf8 text n c.utf8.text front.within) (sym (take-append-drop n text) ∙ ap (λ r. take n text ++ r) (sym c.split_at.ensures.back)) front.next c.take_run-run.ensures.runs

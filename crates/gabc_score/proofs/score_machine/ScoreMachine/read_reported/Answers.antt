@@ -1,29 +1,26 @@
-use Rattle.std.proofs.Common.{◌++◌, ◌∷◌, [], List, ℕ, refl, sym, subst, arith}
-use Rattle.std.specs.Str.Iter.{chars_rest}
-use Rattle.std.proofs.lemmas.Str.{chars_past_char, IsUtf8-past_char}
-use Rattle.gabc_places.proofs.texts.CharactersOfStrings.{chars-none}
-use Rattle.gabc_score.specs.machine.ReadAgain.{ReadsThrough}
+use Rattle.std.proofs.Common.{◌∷◌, [], ◌++◌, cond, Bool, false, sym, subst}
+use Rattle.std.specs.Str.{chars}
+use Rattle.gabc_score.specs.declared.reading_again.SyllableRead.TheVariants.{Open, GivenUp}
+use Rattle.gabc_score.specs.machine.ReadsSilently.{ReadsTextSilently}
+use Rattle.gabc_score.proofs.resuming.MachinesReadAgain.{ends_so, follows_none, stands_through, then_goes}
 use Rattle.gabc_score.proofs.score_machine.ScoreMachine.read_reported.Goals as goal
 
-pub loop-c-preserved : goal.loop-c-preserved
-loop-c-preserved c =
-    let i = c.loop-c.invariant in
-    let step = c.in-Some.ensures.steps.0 in
-    let rest = chars_rest c.loop-c.c-iterator in
-    let next = chars_rest c.next.new.self in
-    record {
-      can = tt;
-      ends = tt;
-      utf8 = IsUtf8-past_char rest next c.in-Some.c i.utf8 step;
-      rests = c.take_again.ensures.rests;
-      steps = λ more n t. i.steps more n (subst (λ (cs : List ℕ). ReadsThrough c.loop-c.self c.args.openers (cs ++ more) n) (sym (chars_past_char rest next c.in-Some.c i.utf8 step)) (c.take_again.new.self, (c.take_again.ensures.step, t)));
-    }
+pub read_silently-requires : goal.read_silently-requires
+read_silently-requires c = stands_through false c.args.self.now c.read_text_silently-syllable.new.self (chars c.args.kept.now) c.requires c.in-Open.ensures
 
-pub returns-then-in_comment-clause-steps : goal.returns-then-in_comment-clause-steps
-returns-then-in_comment-clause-steps c =
-    let m = c.loop-c.self in
-    let none = chars-none (chars_rest c.loop-c.c-iterator) c.in-None.ensures.steps.0.0 in
-    rw c.if-in_comment.true (c.loop-c.invariant.steps (37 ∷ []) c.take_again-then-in_comment.new.self (subst (λ (cs : List ℕ). ReadsThrough m c.args.openers (cs ++ 37 ∷ []) c.take_again-then-in_comment.new.self) (sym none) (c.take_again-then-in_comment.new.self, (c.take_again-then-in_comment.ensures.step, refl))))
+pub returns-in_default : goal.returns-in_default
+returns-in_default c =
+    let old = c.args.self.now in
+    let k = c.read_text_silently-syllable.new.self in
+    let left = c.read_text_silently-syllable.result in
+    subst (λ (b : Bool). ReadsTextSilently false Open old (chars c.args.kept.now ++ cond b (37 ∷ []) []) GivenUp k) (sym c.if-not-in_comment.false)
+    (then_goes false Open left GivenUp old k k (chars c.args.kept.now) (37 ∷ []) c.read_text_silently-syllable.ensures (follows_none false left k 37 [] c.in_default.not-Open))
 
-pub returns-else-in_comment-clause-steps : goal.returns-else-in_comment-clause-steps
-returns-else-in_comment-clause-steps c = grind (arith, chars-none, chars_rest)
+pub returns : goal.returns
+returns c =
+    let old = c.args.self.now in
+    let k = c.read_text_silently-syllable.new.self in
+    let n = c.read_silently.new.self in
+    let left = c.read_silently.result in
+    subst (λ (b : Bool). ReadsTextSilently false Open old (chars c.args.kept.now ++ cond b (37 ∷ []) []) left n) (sym c.if-not-in_comment.false)
+    (then_goes false Open Open left old k n (chars c.args.kept.now) (37 ∷ []) c.in-Open.ensures (left, n, (c.read_silently.ensures, ends_so false left n)))

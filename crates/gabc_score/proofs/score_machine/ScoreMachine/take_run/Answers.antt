@@ -35,17 +35,17 @@ none_taken : {Taker : Type 0} (given_by : Taker → List PlacedSyllable → Take
     → TakesRun given_by m at text (record { bytes = 0; next = at }) m out out
 none_taken given_by m text at out utf8 rests none = record { front = none_front text at utf8; runs = record { syllables = []; gives = none_given (shown m) (shown m) at refl; taken = none }; rests = rests }
 
-pub returns-then-not-is_low-clause-takes : goal.returns-then-not-is_low-clause-takes
-returns-then-not-is_low-clause-takes g c = none_taken g.G.Give.given c.args.self.now c.args.text.now c.args.at c.args.out.now c.utf8.text c.requires.rests (sym (g.met.G.Give.given_none c.args.out.now))
+pub returns-then-not-is_low : goal.returns-then-not-is_low
+returns-then-not-is_low g c = none_taken g.G.Give.given c.args.self.now c.args.text.now c.args.at c.args.out.now c.utf8.text c.requires (sym (g.met.G.Give.given_none c.args.out.now))
 
-pub returns-then-is_first_with-clause-takes : goal.returns-then-is_first_with-clause-takes
-returns-then-is_first_with-clause-takes g c = none_taken g.G.Give.given c.args.self.now c.args.text.now c.args.at c.args.out.now c.utf8.text c.requires.rests (sym (g.met.G.Give.given_none c.args.out.now))
+pub returns-then-is_first_with : goal.returns-then-is_first_with
+returns-then-is_first_with g c = none_taken g.G.Give.given c.args.self.now c.args.text.now c.args.at c.args.out.now c.utf8.text c.requires (sym (g.met.G.Give.given_none c.args.out.now))
 
-pub returns-in_default-clause-takes : goal.returns-in_default-clause-takes
-returns-in_default-clause-takes g c = none_taken g.G.Give.given c.args.self.now c.args.text.now c.args.at c.args.out.now c.utf8.text c.requires.rests (sym (g.met.G.Give.given_none c.args.out.now))
+pub returns-in_default : goal.returns-in_default
+returns-in_default g c = none_taken g.G.Give.given c.args.self.now c.args.text.now c.args.at c.args.out.now c.utf8.text c.requires (sym (g.met.G.Give.given_none c.args.out.now))
 
-pub returns-then-not-give_held-clause-takes : goal.returns-then-not-give_held-clause-takes
-returns-then-not-give_held-clause-takes g c =
+pub returns-then-not-give_held : goal.returns-then-not-give_held
+returns-then-not-give_held g c =
     let same : IsSamePair c.args.self.now c.give_held.new.self = record { gathered = c.give_held.ensures.same.gathered ∙ c.free.ensures.gathered; contexts = c.give_held.ensures.same.contexts ∙ c.free.ensures.contexts; used = c.give_held.ensures.same.used; is = c.give_held.ensures.same.is } in
     record {
       front = none_front c.args.text.now c.args.at c.utf8.text;
@@ -85,8 +85,8 @@ end_run-requires-clause-to g c =
     let on = c.give_on-reached.ensures c.args.at c.args.text.now _ (runs_after c.give_held.new.self c.args.at c.args.text.now _ c.in-Some.first c.after-before.result m.pair.contexts.after c.after-before.ensures begun) in
     (_, on.runs)
 
-pub returns-clause-takes : goal.returns-clause-takes
-returns-clause-takes g c =
+pub returns : goal.returns
+returns g c =
     let m = c.args.self.now in
     let same : IsSamePair m c.give_held.new.self = record { gathered = c.give_held.ensures.same.gathered ∙ c.free.ensures.gathered; contexts = c.give_held.ensures.same.contexts ∙ c.free.ensures.contexts; used = c.give_held.ensures.same.used; is = c.give_held.ensures.same.is } in
     let found = subst (λ (p : Preceding). IsFound c.nabc_lines-lines.result m.limits p.canonical c.in-Some.first) c.after-before.ensures c.in-Some.ensures.found in
@@ -101,11 +101,11 @@ returns-clause-takes g c =
     ∙ ap (λ b. g.G.Give.given c.args.out.now (placed_first m held.0 b ∷ [])) c.starts_word.ensures
     in
     record {
-      front = c.end_run.ensures.ends.front;
+      front = c.end_run.ensures.front;
       runs = record {
         syllables = _;
-        gives = gives_same m c.give_held.new.self c.args.at _ _ (shown c.end_run.new.self) same (c.end_run.ensures.ends.gives _ on.runs);
+        gives = gives_same m c.give_held.new.self c.args.at _ _ (shown c.end_run.new.self) same (c.end_run.ensures.gives _ on.runs);
         taken = on.taken ∙ ap (λ s. g.G.Give.given s on.more) first ∙ g.met.G.Give.given_both c.args.out.now (placed_first m held.0 (nat_lt 0 c.in-Some.first.gap) ∷ []) on.more;
       };
-      rests = c.end_run.ensures.ends.rests;
+      rests = c.end_run.ensures.rests;
     }

@@ -13,4 +13,4 @@ pub returns-clause-again : goal.returns-clause-again
 returns-clause-again c =
     let laws = c.laws_of_stages.ensures in
     let stays = c.what_is_open_stays_open_elsewhere.ensures in
-    rw (sym c.self.view_is) (reports_again c.read_again.ensures.reads laws.ends laws.again (record { opener = stays.opener; comment = stays.comment }) c.utf8.kept)
+    rw (sym c.self.view_is) (reports_again c.read_again.ensures.reads laws.ends laws.again (record { opener = stays.opener; comment = stays.comment; opened = stays.opened; comment_opened = stays.comment_opened }) c.utf8.kept)

@@ -1,7 +1,5 @@
-use Rattle.std.proofs.Common.{ap, subst, sym, take, arith}
+use Rattle.std.proofs.Common.{subst, sym, take}
 use Rattle.std.specs.Str.{chars}
-use Rattle.gabc_places.specs.BoundedList.{BoundedList}
-use Rattle.gabc_score.specs.declared.score_event.ScoreEvent.{ScoreEvent}
 use Rattle.gregorio.specs.machine.RunWriter.{TakesRuns}
 use Rattle.gregorio.specs.machine.ScoreWriter.{KeepsJobAndRooms, ScoreWriterState}
 use Rattle.gregorio.proofs.pieces.RunIsWritten.{run_clef, run_silent, run_steady}
@@ -14,10 +12,8 @@ invariant_of-self c =
     let new : ScoreWriterState = record { score = c.take_run.new.self; writer = c.take_run.new.out } in
     let t = chars (take c.take_run.result.bytes c.args.text.now) in
     let takes = subst (λ (s : ScoreWriterState). TakesRuns s.writer.written) (sym c.self.view_is) c.requires in
-    let given = ap (λ (r : BoundedList ScoreEvent). r.limit) c.take_run.ensures.room in
-    let cleared = ap (λ (r : BoundedList ScoreEvent). r.limit) c.clear.ensures in
     record {
-      room = omega (arith, c.self.invariant.room, given, cleared);
+      room = c.self.invariant.room;
       silent = run_silent old c.args.at t new c.take_run.ensures.runs takes;
       clef = run_clef old c.args.at t new c.take_run.ensures.runs c.where_nothing_sounds_the_clef_stays.ensures takes c.self.invariant.clef;
     }
