@@ -105,8 +105,8 @@ impl ScoreMachine {
         SyllableRead::Whole
     }
 
-    /// Reads the characters of `text` so. The syllable is given up too if a character follows once
-    /// it is whole.
+    /// Reads the characters of `text`, each as `read_silently` does. The syllable is given up too
+    /// if a character follows once it is whole.
     pub(crate) fn read_text_silently(&mut self, text: &str, is_strict: bool) -> SyllableRead
         requires { StandsInBody self.old }
         ensures { ReadsTextSilently is_strict SyllableRead.Open self.old (chars text.now)

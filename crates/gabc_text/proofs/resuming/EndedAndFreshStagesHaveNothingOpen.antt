@@ -1,4 +1,5 @@
--- What is open in a stage that has ended, in a fresh one, and where the next character or the opener stands elsewhere.
+-- The opener and the comment of a stage that has ended, of a fresh one, and of one whose next
+-- character or opener stands elsewhere.
 use Rattle.std.proofs.Common.{arith, ◌≡◌, true, false, cond, None, option_map, refl, sym, ◌∙◌}
 use Rattle.gabc_places.specs.declared.place.Place.{Place}
 use Rattle.gabc_text.specs.declared.stage.TextStage.{TextStage}

@@ -149,7 +149,8 @@ same_kept s r c is =
     ∙ kept_said (events_of_push (placed is.place is.next s) c)
     ∙ ap (λ (x : TextStage). kept_in (events_of_push x c)) (sym is.same)
 
--- what stands at p in one stage, and in both where the next character of both is, stands at p in both
+-- if the characters that two stages keep stand from q on, and those of one of them from p on, so do
+-- those of the other
 placed_too : (s r : TextStage) (p q : Place) (t : List ℕ) → IsPlaced s r → KeptIsPlaced p t (stepwise s t) → KeptIsPlaced q t (stepwise s t) → KeptIsPlaced q t (stepwise r t) → KeptIsPlaced p t (stepwise r t)
 placed_too s r p q [] is here there also = finish_stands p r
 placed_too s r p q (c ∷ t) is here there also = (
