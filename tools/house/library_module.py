@@ -2,8 +2,8 @@
 it. The prover is called as for the library alone, with a folder of the kit's compilers whose
 `clang` keeps the module before it compiles it.
 
-As a program: `library_module.py FILE`, by its whole path. The status is 0 if the library stands,
-and FILE is its module; else 1."""
+As a program: `library_module.py FILE JOBS`, by its whole path. Up to JOBS modules of the proof are
+checked side by side. The status is 0 if the library stands, and FILE is its module; else 1."""
 
 from __future__ import annotations
 
@@ -38,8 +38,9 @@ def stand_in(kit: str, folder: str, module: str) -> str:
     return made
 
 
-def build(crate: Crate, kit: str, module: str) -> bool:
-    """Proves and builds the library's archive by the stand-in, and returns whether both stand."""
+def build(crate: Crate, kit: str, module: str, jobs: str) -> bool:
+    """Proves and builds the library's archive by the stand-in, `jobs` modules of the proof side by
+    side, and returns whether both stand."""
     call = crate.call
     with tempfile.TemporaryDirectory() as folder:
         compilers = stand_in(kit, folder, module)
@@ -48,18 +49,18 @@ def build(crate: Crate, kit: str, module: str) -> bool:
             return call(*(compilers if it == f"{kit}/toolchain" else it for it in given))
 
         setattr(crate, "call", call_of_stand_in)
-        return not crate.build_static([]) and os.path.exists(module)
+        return not crate.build_static(["--jobs", jobs]) and os.path.exists(module)
 
 
 def main(words: list[str]) -> int:
     """Proves and builds the library, writes its module into the file, and returns the exit
     status."""
-    (file,) = words
+    file, jobs = words
     rt = load("rt")
     crate = crate_named(rt, ROOT, CRATE)
     with tempfile.TemporaryDirectory() as folder:
         made = f"{folder}/module.bc"
-        if not (are_built(crate, True) and build(crate, rt.rtlib.KIT, made)):
+        if not (are_built(crate, True) and build(crate, rt.rtlib.KIT, made, jobs)):
             return 1
         shutil.move(made, file)
     return 0
