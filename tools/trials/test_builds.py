@@ -23,11 +23,22 @@ CHECKS = [
     "try_wrong_bodies --check",
     "check_code ",
 ]
+# A library, and two programs side by side.
 PROVED = ["lib low", "run call_rows", "run vectors"]
 STEPS = "".join(
     f"quick_test: proving {at} of 3: {crate}\n"
     for at, crate in enumerate(("low", "call_rows", "vectors"), 1)
 )
+
+
+# What calls the prover for a program: here it calls the false `rt`, the later program a moment later.
+ROW_PROGRAM = """\
+import os, subprocess, sys, time
+name, jobs = sys.argv[1:]
+time.sleep(0.5 * (name == "vectors"))
+subprocess.run(["rt", "run", "--jobs", jobs], cwd=f"../crates/{name}")
+sys.exit(not os.path.exists(f"../crates/{name}/out/{name}.stamp"))
+"""
 
 
 class ShortTrial(FalseRepository):
@@ -37,6 +48,7 @@ class ShortTrial(FalseRepository):
         super().__init__(room)
         for it in ("same_examples", "believe", "try_wrong_bodies", "check_code", "try_unproved"):
             self.put_script(f"tools/{it}", TOOL.format(it))
+        self.put("tools/house/row_program.py", ROW_PROGRAM)
         for it in ("call_rows", "vectors"):
             self.put(f"crates/{it}/src/main.rt", "")
             for name in ("stdout", "data/rows"):
@@ -77,11 +89,11 @@ def test_a_proof_is_kept(short: ShortTrial) -> None:
 
 
 def test_other_libraries(short: ShortTrial) -> None:
-    """After the rows what else was proved here is proved, with what it stands on."""
+    """Beside the programs what else was proved here is proved, with what it stands on."""
     short.keep()
     (short.top / "crates/gregorio_c/out/incremental").mkdir(parents=True)
     ran = short.run_trial()
-    assert ran.calls == [*CHECKS, *PROVED, "lib middle", "check gregorio_c"]
+    assert sorted(ran.calls) == sorted([*CHECKS, *PROVED, "lib middle", "check gregorio_c"])
     assert (ran.out, ran.status) == ("12 passed, 0 failed\n", 0)
 
 
@@ -118,6 +130,15 @@ def test_what_does_not_prove(short: ShortTrial) -> None:
     ran = short.run_trial()
     assert "error: vectors does not prove" in ran.messages
     assert (ran.out, ran.status) == ("7 passed, 1 failed\n", 1)
+
+
+def test_a_library_that_does_not_prove(short: ShortTrial) -> None:
+    """No program is proved over it."""
+    short.keep()
+    short.set("broken", "low\n")
+    ran = short.run_trial()
+    assert ran.calls == [*CHECKS, "lib low"]
+    assert (ran.out, ran.status) == ("5 passed, 1 failed\n", 1)
 
 
 # ---- the library for C
