@@ -29,17 +29,11 @@ class Crate(Protocol):
     def call(self, *words: str) -> int:
         """Calls the prover."""
 
-    def is_built(self) -> bool:
-        """Returns whether it is built as a library, of these sources."""
-
     def build_rlib(self, flags: list[str], anew: bool) -> int:
         """Builds it as a library of statements."""
 
     def build_static(self, flags: list[str]) -> int:
         """Proves it, and builds it as a static library."""
-
-    def run(self, flags: list[str], arguments: list[str]) -> int:
-        """Proves it, builds it as a program, and runs this with the arguments."""
 
 
 def run_rt(*words: str, folder: str | None = None) -> subprocess.CompletedProcess[str]:

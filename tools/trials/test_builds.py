@@ -31,7 +31,7 @@ STEPS = "".join(
 )
 
 
-# What calls the prover for a program: here it calls the false `rt`, the later program a moment later.
+# What calls the prover for a program: here it calls the false `rt`, for `vectors` a moment later.
 ROW_PROGRAM = """\
 import os, subprocess, sys, time
 name, jobs = sys.argv[1:]
@@ -98,10 +98,11 @@ def test_other_libraries(short: ShortTrial) -> None:
 
 
 def test_jobs(short: ShortTrial) -> None:
-    """As many jobs run side by side as are asked for, in each check."""
+    """As many jobs run side by side as are asked for in the check of a library, and half as many in
+    that of a program."""
     short.keep()
     short.run(str(short.top / "tools" / "quick_test"), RT_JOBS="3")
-    assert (short.room / "jobs").read_text().split() == ["3", "3", "3"]
+    assert (short.room / "jobs").read_text().split() == ["3", "2", "2"]
 
 
 def test_python(short: ShortTrial) -> None:
