@@ -20,6 +20,9 @@ from house.kit import Crate, crate_named, load
 class Program(Crate, Protocol):
     """A crate that is a program."""
 
+    # The folders that it keeps to itself until it is built.
+    held: list[int]
+
     def run(self, flags: list[str], arguments: list[str]) -> int:
         """Proves and builds it, runs it with the arguments, and returns an exit status."""
 
@@ -32,6 +35,7 @@ def main(words: list[str]) -> int:
     if not are_built(crate, False):
         return 1
     os.makedirs(f"{crate.folder}/out", exist_ok=True)
+    crate.held = []
     crate.run(["--jobs", jobs], [])
     return not os.path.exists(f"{crate.folder}/out/{name}.stamp")
 
